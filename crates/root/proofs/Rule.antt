@@ -1,0 +1,43 @@
+-- `rootOf` obeys 01's rule at every argument (`root-rule`), and nothing else does (`root-only`). Assumes nothing.
+use mathlib.Core.Path.{_≡_, refl, sym, ap, _∙_}
+use Prim.Native.Nat.{ℕ, zero, suc}
+use native.Mathlib.Nat.{lt-irrefl, zero-lt-suc}
+use mathlib.Core.Bool.{true, false}
+use lib.Dec.{T, ltb, ltb→lt, lt→ltb}
+use lib.Ieee.{Float, nan, inf, fin, binary64, fits}
+use lib.Ieee.Positive.{positive}
+use Rattle.root.specs.declared.Root.{Root}
+use Rattle.root.specs.declared.Root.the-variants.{Value, Refused}
+use Rattle.root.specs.Root.{rootOf, sqrtOf}
+use Rattle.root.specs.Rule.{Rooted, RootRule}
+use Rattle.root.proofs.Law.{sqrt-lawful, sqrt-fits}
+use Rattle.root.proofs.Unique.{rooted-unique}
+use Rattle.root.proofs.Cases.{positive-is}
+
+rule : (x : Float) → T (fits binary64 x) → T (positive x) → (y : Float) × (rootOf x ≡ Value y) × T (fits binary64 y) × Rooted x y
+rule x F P = (sqrtOf x, sym (positive-is x P), sqrt-fits x, sqrt-lawful x F P)
+
+only : (x y : Float) → T (fits binary64 x) → T (positive x) → T (fits binary64 y) → Rooted x y → rootOf x ≡ Value y
+only x y F P G r = sym (positive-is x P) ∙ ap Value (rooted-unique x (sqrtOf x) y (sqrt-fits x) G (sqrt-lawful x F P) r)
+
+above-zero : (m : ℕ) → T (ltb 0 (suc m))
+above-zero m = lt→ltb 0 (suc m) (zero-lt-suc m)
+
+-- `rootOf` has it, and only `rootOf`
+pub root-rule : (x : Float) → T (fits binary64 x) → RootRule x (rootOf x)
+unfolding RootRule rootOf
+root-rule nan F = refl
+root-rule (inf true) F = refl
+root-rule (inf false) F = refl
+root-rule (fin s zero e) F = refl
+root-rule (fin true (suc m) e) F = refl
+root-rule (fin false (suc m) e) F = rule (fin false (suc m) e) F (above-zero m)
+
+pub root-only : (x : Float) (r : Root) → T (fits binary64 x) → RootRule x r → r ≡ rootOf x
+unfolding RootRule rootOf
+root-only nan r F h = h
+root-only (inf true) r F h = h
+root-only (inf false) r F h = h
+root-only (fin s zero e) r F h = h
+root-only (fin true (suc m) e) r F h = h
+root-only (fin false (suc m) e) r F h = h .1 ∙ sym (only (fin false (suc m) e) (h .0) F (above-zero m) (h .2) (h .3))

@@ -1,0 +1,83 @@
+-- 01, "Heap (scheduler.rs)": the heap of cell numbers with its lookups, and what one shift and one update make of it.
+-- `h` gives each cell's head time, `last` (f64::MAX) where its list is empty. Assumes nothing: these are definitions.
+use mathlib.Core.Path.{_≡_}
+use mathlib.Core.Bool.{Bool, true, false, cond, _&&_}
+use mathlib.Core.List.{List}
+use Prim.Native.Nat.{ℕ, zero, suc, _+_, _-_, _*_, _/_, _≤_, _<_}
+use lib.ListN.{getD, set, replicate}
+use lib.Dec.{ltb, leb, eqb}
+use lib.Ieee.{Float, lt, le}
+use Rattle.order.specs.Numbers.{last}
+use Rattle.scheduler.specs.declared.Scheduler.{Scheduler}
+
+-- the head time of a cell: `held` has room * 4 + 1 numbers to a cell (its count first), `times` room * 10 floats (the first event's time first)
+unfoldable pub headIn : List Float → List ℕ → ℕ → ℕ → Float
+headIn times held room cell = cond (eqb (getD held (cell * (room * 4 + 1)) 0) 0) last (getD times (cell * (room * 10)) last)
+
+-- the head time at a heap index; an index past the end reads `last`
+unfoldable pub timeIn : (ℕ → Float) → List ℕ → ℕ → ℕ → Float
+timeIn h heap n i = cond (ltb i n) (h (getD heap i 0)) last
+
+abbrev pub timeAt : (ℕ → Float) → Scheduler → ℕ → Float
+timeAt h s i = timeIn h (s .heap) (s .cells) i
+
+-- two elements change places
+abbrev pub swap : List ℕ → ℕ → ℕ → List ℕ
+swap l a b = set (set l a (getD l b 0)) b (getD l a 0)
+
+-- the cells at two heap indices change places, in the heap and in the lookups
+unfoldable pub swapAt : Scheduler → ℕ → ℕ → Scheduler
+swapAt s a b = record { heap = swap (s .heap) a b; lookups = swap (s .lookups) (getD (s .heap) a 0) (getD (s .heap) b 0); cells = s .cells }
+
+-- of a parent p and its children l and r: l if left < parent and left ≤ right, else r if right < parent and right < left, else p itself
+abbrev pub pick : Float → Float → Float → ℕ → ℕ → ℕ → ℕ
+pick tp tl tr p l r = cond (lt tl tp && le tl tr) l (cond (lt tr tp && lt tr tl) r p)
+
+-- the child that p changes places with, or p itself
+unfoldable pub childIn : (ℕ → Float) → List ℕ → ℕ → ℕ → ℕ
+childIn h heap n p = pick (timeIn h heap n p) (timeIn h heap n (2 * p + 1)) (timeIn h heap n (2 * p + 2)) p (2 * p + 1) (2 * p + 2)
+
+abbrev pub childOf : (ℕ → Float) → Scheduler → ℕ → ℕ
+childOf h s p = childIn h (s .heap) (s .cells) p
+
+-- a downshift of at most k steps, and of as many as the cells from p on
+unfoldable pub down : (ℕ → Float) → ℕ → Scheduler → ℕ → Scheduler
+down h zero s p = s
+down h (suc k) s p = cond (eqb (childOf h s p) p) s (down h k (swapAt s p (childOf h s p)) (childOf h s p))
+
+unfoldable pub downshifted : (ℕ → Float) → Scheduler → ℕ → Scheduler
+downshifted h s p = down h (s .cells - p) s p
+
+-- the parent's index
+abbrev pub parent : ℕ → ℕ
+parent c = (c - 1) / 2
+
+-- the parent that c changes places with, or c itself
+unfoldable pub parentOf : (ℕ → Float) → Scheduler → ℕ → ℕ
+parentOf h s c = cond (ltb c (s .cells) && lt (timeAt h s c) (timeAt h s (parent c))) (parent c) c
+
+-- an upshift of at most k steps, and of as many as the index
+unfoldable pub up : (ℕ → Float) → ℕ → Scheduler → ℕ → Scheduler
+up h zero s c = s
+up h (suc k) s c = cond (eqb (parentOf h s c) c) s (up h k (swapAt s c (parentOf h s c)) (parentOf h s c))
+
+unfoldable pub upshifted : (ℕ → Float) → Scheduler → ℕ → Scheduler
+upshifted h s c = up h c s c
+
+-- down if before < after, otherwise up
+unfoldable pub updated : (ℕ → Float) → Scheduler → ℕ → Float → Float → Scheduler
+updated h s cell before after =
+    cond (lt before after) (downshifted h s (getD (s .lookups) cell 0)) (upshifted h s (getD (s .lookups) cell 0))
+
+-- 0, 1, .., then zeros
+unfoldable pub numbered : ℕ → List ℕ → List ℕ
+numbered zero l = l
+numbered (suc i) l = set (numbered i l) i i
+
+unfoldable pub start : ℕ → Scheduler
+start n = record { heap = numbered n (replicate 256 0); lookups = numbered n (replicate 256 0); cells = n }
+
+-- what a shift asks: the heap's room holds the cells, and no head time is above `last`
+pub record Fit (h : ℕ → Float) (s : Scheduler) : Type 0 where
+  pub room : s .cells ≤ 256
+  pub top : (k : ℕ) → lt last (h k) ≡ false

@@ -1,0 +1,187 @@
+// The scheduler: a minimum heap of cell numbers by head time, with its inverse.
+ghost use mathlib.Core.Path.{_≡_};
+ghost use Prim.Native.Nat.{_≤_, _<_};
+ghost use Rattle.scheduler.specs.Heap.{headIn, timeIn, swapAt, pick, childIn, downshifted, parentOf, upshifted, updated, start, Fit};
+
+const LAST: f64 = 1.7976931348623157e308;
+
+pub struct Scheduler {
+    pub heap: [u8; 256],
+    pub lookups: [u8; 256],
+    pub cells: usize,
+}
+
+// The head time of a cell: its first place's, f64::MAX where it holds no event.
+// `held` has room * 4 + 1 numbers to a cell (its count first), `times` room * 10 floats.
+pub fn head_time(times: &[f64], held: &[u64], room: usize, cell: usize) -> f64
+    requires { ⌜ (room ≤ 256) × (cell < 256) ⌝ }
+    ensures { λ r. ⌜ r ≡ headIn (now (times .entry)) (now (held .entry)) room cell ⌝ }
+{
+    let w = room * 4 + 1;
+    let v = room * 10;
+    let at = cell * w;
+    if held.len() <= at {
+        return LAST;
+    }
+    if held[at] == 0 {
+        return LAST;
+    }
+    let p = cell * v;
+    if p < times.len() { times[p] } else { LAST }
+}
+
+fn head_of(times: &[f64], held: &[u64], room: usize, number: u8) -> f64
+    requires { ⌜ room ≤ 256 ⌝ }
+    ensures { λ r. ⌜ r ≡ headIn (now (times .entry)) (now (held .entry)) room number ⌝ }
+{
+    head_time(times, held, room, number as usize)
+}
+
+// The head time at a heap index: f64::MAX past the cells in use. The array is lent, and not copied.
+fn time_in(
+    heap: &[u8; 256],
+    cells: usize,
+    times: &[f64],
+    held: &[u64],
+    room: usize,
+    at: usize,
+) -> f64
+    requires { ⌜ (cells ≤ 256) × (room ≤ 256) ⌝ }
+    ensures { λ r. ⌜ r ≡ timeIn (headIn (now (times .entry)) (now (held .entry)) room) (now (heap .entry)) cells at ⌝ }
+{
+    if cells <= at {
+        return LAST;
+    }
+    let cell = heap[at];
+    head_of(times, held, room, cell)
+}
+
+// The child that p changes places with, or p where the shift ends.
+fn child(
+    heap: &[u8; 256],
+    cells: usize,
+    times: &[f64],
+    held: &[u64],
+    room: usize,
+    p: usize,
+) -> usize
+    requires { ⌜ (cells ≤ 256) × (p < 256) × (room ≤ 256) ⌝ }
+    ensures { λ r. ⌜ r ≡ childIn (headIn (now (times .entry)) (now (held .entry)) room) (now (heap .entry)) cells p ⌝ }
+{
+    let l = 2 * p + 1;
+    let r = 2 * p + 2;
+    let tp = time_in(heap, cells, times, held, room, p);
+    let tl = time_in(heap, cells, times, held, room, l);
+    let tr = time_in(heap, cells, times, held, room, r);
+    pick_child(tp, tl, tr, p, l, r)
+}
+
+// Of a parent p and its children l and r, by their times: the child to change places with, or p.
+fn pick_child(tp: f64, tl: f64, tr: f64, p: usize, l: usize, r: usize) -> usize
+    ensures { λ x. ⌜ x ≡ pick tp tl tr p l r ⌝ }
+{
+    if tl < tp && tl <= tr {
+        l
+    } else if tr < tp && tr < tl {
+        r
+    } else {
+        p
+    }
+}
+
+impl Scheduler {
+    pub fn new(cells: usize) -> Scheduler
+        requires { ⌜ cells ≤ 256 ⌝ }
+        ensures { λ r. ⌜ r ≡ start cells ⌝ }
+    {
+        let mut heap = [0u8; 256];
+        let mut lookups = [0u8; 256];
+        let mut i = 0usize;
+        while i < cells {
+            heap[i] = i as u8;
+            lookups[i] = i as u8;
+            i += 1;
+        }
+        Scheduler {
+            heap,
+            lookups,
+            cells,
+        }
+    }
+
+    // The cells at two heap indices change places, in the heap and in the lookups.
+    fn swapped(mut self, a: usize, b: usize) -> Scheduler
+        requires { ⌜ (a < 256) × (b < 256) ⌝ }
+        ensures { λ r. ⌜ r ≡ swapAt self a b ⌝ }
+    {
+        let x = self.heap[a];
+        let y = self.heap[b];
+        self.heap[a] = y;
+        self.heap[b] = x;
+        let i = x as usize;
+        let j = y as usize;
+        let p = self.lookups[i];
+        let q = self.lookups[j];
+        self.lookups[i] = q;
+        self.lookups[j] = p;
+        self
+    }
+
+    // The cell at p goes down while a child's head is earlier.
+    fn downshift(self, times: &[f64], held: &[u64], room: usize, p: usize) -> Scheduler
+        requires { ⌜ Fit (headIn (now times) (now held) room) self × (room ≤ 256) ⌝ }
+        ensures { λ r. ⌜ r ≡ downshifted (headIn (now (times .entry)) (now (held .entry)) room) self p ⌝ }
+    {
+        let n = self.cells;
+        if n <= p {
+            return self;
+        }
+        let q = child(&self.heap, n, times, held, room, p);
+        if q == p {
+            return self;
+        }
+        self.swapped(p, q).downshift(times, held, room, q)
+    }
+
+    // The cell at c goes up while its head is earlier than its parent's.
+    fn upshift(self, times: &[f64], held: &[u64], room: usize, c: usize) -> Scheduler
+        requires { ⌜ (self .cells ≤ 256) × (room ≤ 256) ⌝ }
+        ensures { λ r. ⌜ r ≡ upshifted (headIn (now (times .entry)) (now (held .entry)) room) self c ⌝ }
+    {
+        if c == 0 {
+            return self;
+        }
+        let n = self.cells;
+        if n <= c {
+            return self;
+        }
+        let p = (c - 1) / 2;
+        let tc = time_in(&self.heap, n, times, held, room, c);
+        let tp = time_in(&self.heap, n, times, held, room, p);
+        if tc < tp {
+            return self.swapped(c, p).upshift(times, held, room, p);
+        }
+        self
+    }
+
+    // The cell's head went from before to after: it finds its place again.
+    pub fn update(
+        self,
+        times: &[f64],
+        held: &[u64],
+        room: usize,
+        cell: usize,
+        before: f64,
+        after: f64,
+    ) -> Scheduler
+        requires { ⌜ Fit (headIn (now times) (now held) room) self × (cell < 256) × (room ≤ 256) ⌝ }
+        ensures { λ r. ⌜ r ≡ updated (headIn (now (times .entry)) (now (held .entry)) room) self cell before after ⌝ }
+    {
+        let at = self.lookups[cell];
+        if before < after {
+            self.downshift(times, held, room, at as usize)
+        } else {
+            self.upshift(times, held, room, at as usize)
+        }
+    }
+}
