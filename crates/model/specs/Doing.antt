@@ -30,26 +30,26 @@ unfoldable pub stepGrain : ℕ → State → Out State
 stepGrain g s = store g (stepped (s .box) (s .clock) (grain s g)) s
 
 -- the scheduling of each kind, from the state
-abbrev pub collide : ℕ → ℕ → ℕ → State → Out State
-collide c p q s = put c (collision (s .box) (s .clock) c p q (grain s p) (grain s q)) s
+abbrev pub scheduleCollision : ℕ → ℕ → ℕ → State → Out State
+scheduleCollision c p q s = put c (collision (s .box) (s .clock) c p q (grain s p) (grain s q)) s
 
 abbrev pub Finder : Type 0
 Finder = ℕ → Domain → Float → ℕ → ℕ → Particle → Plan
 
-abbrev pub bound : Finder → ℕ → ℕ → ℕ → State → Out State
-bound f c p d s = put c (f d (s .box) (s .clock) c p (grain s p)) s
+abbrev pub scheduleBy : Finder → ℕ → ℕ → ℕ → State → Out State
+scheduleBy f c p d s = put c (f d (s .box) (s .clock) c p (grain s p)) s
 
 -- each kind in both directions
 unfoldable pub boundaries : ℕ → ℕ → State → Out State
 boundaries c p s =
-    then (each (bound toNeighbour c p) 2 0 s)
-    (λ u. then (each (bound outOfCell c p) 2 0 u)
-    (λ w. each (bound wall c p) 2 0 w))
+    then (each (scheduleBy toNeighbour c p) 2 0 s)
+    (λ u. then (each (scheduleBy outOfCell c p) 2 0 u)
+    (λ w. each (scheduleBy wall c p) 2 0 w))
 
 unfoldable pub scheduleWith : ℕ → ℕ → List ℕ → State → Out State
 scheduleWith p c qs s =
     then (eachOf stepGrain qs s)
-    (λ u. then (eachOf (collide c p) qs u)
+    (λ u. then (eachOf (scheduleCollision c p) qs u)
     (λ w. boundaries c p w))
 
 unfoldable pub scheduleEvents : ℕ → ℕ → State → Out State

@@ -16,7 +16,7 @@ use Rattle.model.specs.FromPToC.{cellsOfGrain}
 use Rattle.model.specs.Events.{zeroP}
 use Rattle.model.specs.State.{Row, row, State, zeroG, listed, marked}
 use Rattle.model.specs.Acts.{store, insert, enter}
-use Rattle.model.specs.Doing.{collide, boundaries, syncAt}
+use Rattle.model.specs.Doing.{scheduleCollision, boundaries, syncAt}
 
 -- ---- an accepted start clears every place
 abbrev pub empty : {A : Type 0} → ℕ → A → Row A
@@ -24,10 +24,15 @@ empty k z = row [] (replicate k z)
 
 unfoldable pub clear : Domain → ℕ → ℕ → State
 clear b room n = record {
-  box = b; clock = fzero; mark = 0; room = room;
-  grains = replicate n zeroG; homes = replicate n (empty homeRoom 0);
-  members = replicate (cells b) (empty memberRoom 0); queues = replicate (cells b) (empty room zeroP);
-  sched = startHeap (cells b)
+  box = b;
+  clock = fzero;
+  mark = 0;
+  room = room;
+  grains = replicate n zeroG;
+  homes = replicate n (empty homeRoom 0);
+  members = replicate (cells b) (empty memberRoom 0);
+  queues = replicate (cells b) (empty room zeroP);
+  sched = startHeap (cells b);
 }
 
 -- a grain's numbers, its time 0, and its entries
@@ -37,7 +42,7 @@ goesIn gs i s = let p = getD gs i zeroG in then (store i (grainOf (p .pos) (p .v
 -- init_events in one cell
 unfoldable pub pairs : ℕ → List ℕ → State → Out State
 pairs c [] s = out 0 s
-pairs c (p ∷ qs) s = then (eachOf (λ q. collide c p q) qs s) (pairs c qs)
+pairs c (p ∷ qs) s = then (eachOf (λ q. scheduleCollision c p q) qs s) (pairs c qs)
 
 abbrev pub syncIn : ℕ → State → Out State
 syncIn zero s = insert 0 (syncAt fzero) s

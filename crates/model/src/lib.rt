@@ -135,7 +135,17 @@ pub enum Started {
 
 // What a run answers: how it ended, the clock, and the events done.
 pub enum Report {
-    Synchronised { clock: f64, events: u64 },
-    Spent { clock: f64, events: u64 },
-    Refused { number: u64, clock: f64, events: u64 },
+    Synchronised {
+        clock: f64,
+        events: u64,
+    },
+    Spent {
+        clock: f64,
+        events: u64,
+    },
+    Refused {
+        number: u64,
+        clock: f64,
+        events: u64,
+    },
 }

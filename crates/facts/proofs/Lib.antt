@@ -1,0 +1,13 @@
+-- The theorems of demand 3 over the definitions of document 01, and what leads to them.
+pub mod Lists
+pub mod Queue
+pub mod Keeps
+pub mod Plans
+pub mod Frame
+pub mod Schedule
+pub mod Steps
+pub mod Runs
+pub mod Reflect
+pub mod Whole
+pub mod Grid
+pub mod Starts

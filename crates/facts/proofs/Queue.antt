@@ -1,0 +1,153 @@
+-- One cell's queue: what an insertion, a cancelling and the removal of the head keep. Assumes nothing.
+use Prim.Native.Nat.{ℕ, zero, suc, _+_, _-_, _≤_, _<_}
+use mathlib.Core.Path.{_≡_, refl, sym, ap, subst, _∙_}
+use mathlib.Core.List.{List, [], _∷_, _++_}
+use mathlib.Core.Bool.{Bool, true, false, not, _&&_, _||_}
+use native.Mathlib.Omega.{arith}
+use lib.Dec.{T, T-not, not-T}
+use lib.ListN.{length, getD, set, drop, replicate, length-replicate, length-append}
+use lib.Ieee.{Float, binary64, le, lt, isNan, fits}
+use lib.Ieee.Scale.{finite}
+use Rattle.model.specs.declared.Place.{Place}
+use Rattle.halting.specs.Out.{pick}
+use Rattle.order.specs.Numbers.{last}
+use Rattle.order.proofs.Order.{le-trans, le-total, lt-left, lt→le}
+use Rattle.order.proofs.Compare.{lt-asym, lt-of-not-le}
+use Rattle.model.specs.Events.{insertBy, keepBy, goneBy, names, eventOf, headTime, finePlace, zeroP}
+use Rattle.model.specs.State.{Row, row}
+use Rattle.model.specs.Standing.{Rising, All, Held, Queue, syncs, one-if}
+use Rattle.facts.proofs.Lists.{clash}
+
+pub T-of : (b : Bool) → b ≡ true → T b
+T-of b e = subst T (sym e) tt
+
+pub of-T : (b : Bool) → T b → b ≡ true
+of-T true t = refl
+of-T false t = absurd t
+
+pub not-of-T : (b : Bool) → T (not b) → b ≡ false
+not-of-T true t = absurd t
+not-of-T false t = refl
+
+pub and-l : (a b : Bool) → (a && b) ≡ true → a ≡ true
+and-l true b e = refl
+and-l false b e = e
+
+pub and-r : (a b : Bool) → (a && b) ≡ true → b ≡ true
+and-r true b e = e
+and-r false b e = clash e
+
+-- ---- a fine event's time
+pub fine-top : (e : Place) → finePlace e ≡ true → T (lt (e .time) last)
+unfolding finePlace
+fine-top e h = T-of (lt (e .time) last) (and-r (finite (e .time)) (lt (e .time) last) (and-l (finite (e .time) && lt (e .time) last) _ h))
+
+pub fine-finite : (e : Place) → finePlace e ≡ true → T (finite (e .time))
+unfolding finePlace
+fine-finite e h = T-of (finite (e .time)) (and-l (finite (e .time)) (lt (e .time) last) (and-l (finite (e .time) && lt (e .time) last) _ h))
+
+pub fine-real : (e : Place) → finePlace e ≡ true → T (not (isNan (e .time)))
+fine-real e h = lt-left (e .time) last (fine-top e h)
+
+-- ---- time order
+pub rising-from : (t u : Float) (l : List Place) → T (le t u) → Rising u l → Rising t l
+rising-from t u [] h r = tt
+rising-from t u (x ∷ xs) h r = (le-trans t u (x .time) h (r .0), r .1)
+
+late : (x e : Place) → finePlace x ≡ true → finePlace e ≡ true → le (x .time) (e .time) ≡ false → T (le (e .time) (x .time))
+late x e f g h = lt→le (e .time) (x .time) (T-of (lt (e .time) (x .time)) (lt-of-not-le (x .time) (e .time) (not-of-T _ (fine-real x f)) (not-of-T _ (fine-real e g)) h))
+
+pub rising-insert : (n c : ℕ) (m : List ℕ) (t : Float) (e : Place) (l : List Place) → finePlace e ≡ true → T (le t (e .time)) → All (Held n c m) l → Rising t l → Rising t (insertBy e l)
+unfolding insertBy
+rising-insert n c m t e [] f h a r = (h, tt)
+rising-insert n c m t e (x ∷ xs) f h a r = by (le (x .time) (e .time)) refl (rising-insert n c m (x .time) e xs f)
+  where
+    by : (b : Bool) → le (x .time) (e .time) ≡ b → (T (le (x .time) (e .time)) → All (Held n c m) xs → Rising (x .time) xs → Rising (x .time) (insertBy e xs)) → Rising t (insertBy e (x ∷ xs))
+    by true q ih = rw q (r .0, ih (T-of _ q) (a .1) (r .1))
+    by false q ih = rw q (h, (late x e (a .0 .fine) f q, r .1))
+
+pub rising-keep : (g : ℕ) (t : Float) (l : List Place) → Rising t l → Rising t (keepBy g l)
+unfolding keepBy
+rising-keep g t [] r = tt
+rising-keep g t (x ∷ xs) r = by (names (eventOf (x .kind) x) g) refl (rising-keep g (x .time) xs (r .1))
+  where
+    by : (b : Bool) → names (eventOf (x .kind) x) g ≡ b → Rising (x .time) (keepBy g xs) → Rising t (keepBy g (x ∷ xs))
+    by true q ih = rw q (rising-from t (x .time) (keepBy g xs) (r .0) ih)
+    by false q ih = rw q (r .0, ih)
+
+-- ---- every event
+module _ (P : Place → Type 0) where
+  pub all-insert : (e : Place) (l : List Place) → P e → All P l → All P (insertBy e l)
+  unfolding insertBy
+  all-insert e [] p a = (p, tt)
+  all-insert e (x ∷ xs) p a = by (le (x .time) (e .time)) refl (all-insert e xs p (a .1))
+    where
+      by : (b : Bool) → le (x .time) (e .time) ≡ b → All P (insertBy e xs) → All P (insertBy e (x ∷ xs))
+      by true q ih = rw q (a .0, ih)
+      by false q ih = rw q (p, a)
+
+  pub all-keep : (g : ℕ) (l : List Place) → All P l → All P (keepBy g l)
+  unfolding keepBy
+  all-keep g [] a = tt
+  all-keep g (x ∷ xs) a = by (names (eventOf (x .kind) x) g) refl (all-keep g xs (a .1))
+    where
+      by : (b : Bool) → names (eventOf (x .kind) x) g ≡ b → All P (keepBy g xs) → All P (keepBy g (x ∷ xs))
+      by true q ih = rw q ih
+      by false q ih = rw q (a .0, ih)
+
+pub all-to : (P Q : Place → Type 0) (l : List Place) → ((x : Place) → P x → Q x) → All P l → All Q l
+all-to P Q [] f a = tt
+all-to P Q (x ∷ xs) f a = (f x (a .0), all-to P Q xs f (a .1))
+
+pub all-both : (P Q : Place → Type 0) (l : List Place) → All P l → All Q l → All (λ x. P x × Q x) l
+all-both P Q [] a b = tt
+all-both P Q (x ∷ xs) a b = ((a .0, b .0), all-both P Q xs (a .1) (b .1))
+
+-- what is kept does not name the grain
+pub kept-names : (g : ℕ) (l : List Place) → All (λ x. names (eventOf (x .kind) x) g ≡ false) (keepBy g l)
+unfolding keepBy
+kept-names g [] = tt
+kept-names g (x ∷ xs) = by (names (eventOf (x .kind) x) g) refl (kept-names g xs)
+  where
+    by : (b : Bool) → names (eventOf (x .kind) x) g ≡ b → All (λ y. names (eventOf (y .kind) y) g ≡ false) (keepBy g xs) → All (λ y. names (eventOf (y .kind) y) g ≡ false) (keepBy g (x ∷ xs))
+    by true q ih = rw q ih
+    by false q ih = rw q (q, ih)
+
+-- ---- how many
+pub length-insert : (e : Place) (l : List Place) → length (insertBy e l) ≡ suc (length l)
+unfolding insertBy
+length-insert e [] = refl
+length-insert e (x ∷ xs) = by (le (x .time) (e .time)) refl (length-insert e xs)
+  where
+    by : (b : Bool) → le (x .time) (e .time) ≡ b → length (insertBy e xs) ≡ suc (length xs) → length (insertBy e (x ∷ xs)) ≡ suc (suc (length xs))
+    by true q ih = rw q (ap suc ih)
+    by false q ih = rw q
+
+pub length-keep : (g : ℕ) (l : List Place) → length (keepBy g l) + goneBy g l ≡ length l
+unfolding keepBy goneBy
+length-keep g [] = refl
+length-keep g (x ∷ xs) = by (names (eventOf (x .kind) x) g) refl (length-keep g xs)
+  where
+    by : (b : Bool) → names (eventOf (x .kind) x) g ≡ b → length (keepBy g xs) + goneBy g xs ≡ length xs → length (keepBy g (x ∷ xs)) + goneBy g (x ∷ xs) ≡ suc (length xs)
+    by true q ih = rw q (omega (arith, ih))
+    by false q ih = rw q (omega (arith, ih))
+
+drop-one : {A : Type 0} (l : List A) (a k : ℕ) → a + length l ≡ k → a < k → suc a + length (drop 1 l) ≡ k
+drop-one [] a k e h = absurd (omega (arith, e))
+drop-one (x ∷ xs) a k e h = omega (arith, e)
+
+-- ---- the three changes of a queue
+module _ (t : Float) (room n c : ℕ) (m : List ℕ) (r : Row Place) (q : Queue t room n c m r) where
+  pub queue-insert : (e : Place) → Held n c m e → T (le t (e .time)) → length (r .live) < room → Queue t room n c m (row (insertBy e (r .live)) (drop 1 (r .spare)))
+  queue-insert e h l f = record {
+    full = rw (length-insert e (r .live)) (drop-one (r .spare) (length (r .live)) room (q .full) f);
+    rising = rising-insert n c m t e (r .live) (h .fine) l (q .held) (q .rising);
+    held = all-insert (Held n c m) e (r .live) h (q .held);
+  }
+
+  pub queue-cancel : (g : ℕ) → Queue t room n c m (row (keepBy g (r .live)) (replicate (goneBy g (r .live)) zeroP ++ r .spare))
+  queue-cancel g = record {
+    full = rw (length-append (replicate (goneBy g (r .live)) zeroP) (r .spare), length-replicate (goneBy g (r .live)) zeroP) (omega (arith, q .full, length-keep g (r .live)));
+    rising = rising-keep g t (r .live) (q .rising);
+    held = all-keep (Held n c m) g (r .live) (q .held);
+  }

@@ -1,0 +1,81 @@
+-- A run, step by step: the standing facts along it, the clock, and a run of j + k as two. Assumes nothing.
+use Prim.Native.Nat.{ℕ, zero, suc, _+_, _≤_, _<_}
+use mathlib.Core.Path.{_≡_, refl, sym, ap, subst, _∙_}
+use mathlib.Core.Bool.{Bool, true, false}
+use native.Mathlib.Omega.{arith}
+use native.Mathlib.Nat.{zero-add, suc-add, add-suc}
+use lib.Dec.{T}
+use lib.Ieee.{Float, le, lt}
+use Rattle.order.specs.Numbers.{fzero}
+use Rattle.order.proofs.Order.{le-trans, le-refl}
+use Rattle.order.proofs.Clock.{finite-no-nan}
+use Rattle.model.specs.State.{State}
+use Rattle.model.specs.Doing.{Stepped, done, halted, Moved, step, Whole}
+use Rattle.model.specs.Run.{How, spent, Ran, ends, onward, runFrom, plus, goOn, continue, refused}
+use Rattle.model.specs.Standing.{Sound, Standing}
+use Rattle.facts.proofs.Steps.{step-sound, step-clock, step-stands}
+
+not-spent : {A : Type 0} (h : How) → h ≡ spent → (h ≡ spent → ⊥) → A
+not-spent h e n = absurd (n e)
+
+-- ---- over the steps alone: j + k steps are j steps and then, if they were spent, k more
+onward-continue : (h : Stepped) (s : State) (d : ℕ) (f g k : ℕ → State → Ran) → ((e : ℕ) (u : State) → f e u ≡ continue (g e u) k) → onward h s d f ≡ continue (onward h s d g) k
+onward-continue done s d f g k p = p (suc d) s
+onward-continue Stepped.synchronised s d f g k p = refl
+onward-continue (halted r) s d f g k p = refl
+
+pub split : (rate : Float) (j k d : ℕ) (s : State) → runFrom rate (j + k) d s ≡ continue (runFrom rate j d s) (runFrom rate k)
+unfolding runFrom
+split rate zero k d s = rw (zero-add k)
+split rate (suc j) k d s = rw (suc-add j k) (onward-continue ((step rate s) .how) ((step rate s) .state) d (runFrom rate (j + k)) (runFrom rate j) (runFrom rate k) (split rate j k))
+
+-- the steps done before are added to those done
+onward-plus : (c : ℕ) (h : Stepped) (s : State) (d : ℕ) (f : ℕ → State → Ran) → ((e : ℕ) (u : State) → f (c + e) u ≡ plus c (f e u)) → onward h s (c + d) f ≡ plus c (onward h s d f)
+onward-plus c done s d f p = rw (← add-suc c d) (p (suc d) s)
+onward-plus c Stepped.synchronised s d f p = rw (add-suc c d)
+onward-plus c (halted r) s d f p = refl
+
+pub count : (rate : Float) (b c d : ℕ) (s : State) → runFrom rate b (c + d) s ≡ plus c (runFrom rate b d s)
+unfolding runFrom
+count rate zero c d s = refl
+count rate (suc b) c d s = onward-plus c ((step rate s) .how) ((step rate s) .state) d (runFrom rate b) (count rate b c)
+
+-- ---- what a run keeps
+module _ (rate : Float) (later : lt rate fzero ≡ false) where
+  -- where the run is not refused, all stands at its end
+  abbrev Stands : How → State → Type 0
+  Stands How.synchronised s = Standing s
+  Stands spent s = Standing s
+  Stands (refused r) s = Unit {0}
+
+  onward-stands : (h : Stepped) (s : State) (d : ℕ) (f : ℕ → State → Ran) → (Whole h → Standing s) → ((e : ℕ) (u : State) → Standing u → Stands ((f e u) .how) ((f e u) .state)) → Stands ((onward h s d f) .how) ((onward h s d f) .state)
+  onward-stands done s d f p k = k (suc d) s (p tt)
+  onward-stands Stepped.synchronised s d f p k = p tt
+  onward-stands (halted r) s d f p k = tt
+
+  pub run-stands : (b d : ℕ) (s : State) → Standing s → Stands ((runFrom rate b d s) .how) ((runFrom rate b d s) .state)
+  unfolding runFrom
+  run-stands zero d s st = st
+  run-stands (suc b) d s st = onward-stands ((step rate s) .how) ((step rate s) .state) d (runFrom rate b) (step-stands rate later s st) (run-stands b)
+
+  -- sound in any case, and the clock has not gone back
+  pub record Onward (t : Float) (s : State) : Type 0 where
+    pub sound : Sound s
+    pub clock : T (le t (s .clock))
+
+  onward-on : (t : Float) (h : Stepped) (s : State) (d : ℕ) (f : ℕ → State → Ran) → Onward t s → (Whole h → Standing s)
+      → ((e : ℕ) (u : State) → Standing u → Onward t u → Onward t ((f e u) .state)) → Onward t ((onward h s d f) .state)
+  onward-on t done s d f o p k = k (suc d) s (p tt) o
+  onward-on t Stepped.synchronised s d f o p k = o
+  onward-on t (halted r) s d f o p k = o
+
+  run-on : (t : Float) (b d : ℕ) (s : State) → Standing s → Onward t s → Onward t ((runFrom rate b d s) .state)
+  unfolding runFrom
+  run-on t zero d s st o = o
+  run-on t (suc b) d s st o =
+      onward-on t ((step rate s) .how) ((step rate s) .state) d (runFrom rate b)
+      (record { sound = step-sound rate later s st; clock = le-trans t (s .clock) (((step rate s) .state) .clock) (o .clock) (step-clock rate later s st) })
+      (step-stands rate later s st) (λ e u x y. run-on t b e u x y)
+
+  pub run-clock : (b d : ℕ) (s : State) → Standing s → Onward (s .clock) ((runFrom rate b d s) .state)
+  run-clock b d s st = run-on (s .clock) b d s st (record { sound = st .sound; clock = le-refl (s .clock) (finite-no-nan (s .clock) (st .sound .clock)) })

@@ -1,0 +1,170 @@
+-- schedule_events and the five executions keep `Sound`, done or refused. Assumes nothing.
+use Prim.Native.Nat.{ℕ, zero, suc, _+_, _-_, _≤_, _<_}
+use mathlib.Core.Path.{_≡_, refl, sym, ap, subst, _∙_}
+use mathlib.Core.List.{List, [], _∷_, _++_}
+use mathlib.Core.Bool.{Bool, true, false, not, _&&_, _||_, or-true, or-false}
+use native.Mathlib.Omega.{arith}
+use lib.Dec.{T, eqb}
+use lib.ListN.{length, getD}
+use lib.Ieee.{Float, binary64, add, le, lt, fits, isNan, ofBits}
+use lib.Ieee.Fits.{add-fits}
+use borrow.Author.Tests.{eqb-true, eq-eqb}
+use Rattle.myvec.specs.declared.MyVec.{MyVec}
+use Rattle.model.specs.declared.Particle.{Particle}
+use Rattle.model.specs.declared.Place.{Place}
+use Rattle.model.specs.declared.Event.{Event}
+use Rattle.model.specs.declared.Event.the-variants.{InterParticleCollision, MoveToNeighbour, MoveOutOfCell, WallReflection, Synchronisation}
+use Rattle.model.specs.Doing as event
+use Rattle.halting.specs.Out.{Out, out, next, then, each, pick, eachOf}
+use Rattle.halting.proofs.Laws.{then-sound, each-sound}
+use Rattle.order.specs.Numbers.{fzero}
+use Rattle.order.proofs.Order.{le-refl}
+use Rattle.order.proofs.Clock.{finite-no-nan, clock-on}
+use Rattle.model.specs.Grid.{cells}
+use Rattle.model.specs.State.{State, Row, grain, home, listed, queue, has}
+use Rattle.model.specs.Acts.{store, insert, put, cancelled, cancel, enter, leave}
+use Rattle.model.specs.Collision.{collision}
+use Rattle.model.specs.Moves.{toNeighbour, outOfCell}
+use Rattle.model.specs.Walls.{wall}
+use Rattle.model.specs.Doing.{others, stepGrain, scheduleCollision, Finder, scheduleBy, boundaries, scheduleWith, scheduleEvents, landed, again, forget, doCollision, doNeighbour, doOut, doWall, doSync, syncAt, execute}
+use Rattle.model.specs.Stepping.{stepped, grainOf}
+use Rattle.model.specs.Standing.{Sound, Named, one-if}
+use Rattle.facts.proofs.Lists.{clash}
+use Rattle.facts.proofs.Keeps.{on-test, Apt, insert-sound}
+use Rattle.facts.proofs.Plans.{AptPlan, collision-apt, toNeighbour-apt, outOfCell-apt, wall-apt}
+use Rattle.facts.proofs.Frame.{Near, Frame, Keeps, Goes, near-refl, near-trans, frame-refl, frame-trans, keeps-refl, keeps-on, goes-on, keeps-goes, store-keeps, put-keeps, cancelled-keeps, cancelled-free, In, in-frame, in-home, in-cell, enter-goes, enter-in, leave-goes}
+
+-- ---- loops over a list, and an act whose second part needs the first to be done
+pub of-sound : {S : Type 0} (P : S → Type 0) (act : ℕ → S → Out S) (xs : List ℕ) → ((x : ℕ) (s : S) → has x xs ≡ true → P s → P ((act x s) .st)) → (s : S) → P s → P ((eachOf act xs s) .st)
+unfolding eachOf has
+of-sound P act [] k s p = p
+of-sound P act (x ∷ xs) k s p =
+    then-sound P (act x s) (eachOf act xs) (k x s (rw (eq-eqb x x refl)) p)
+    (λ u q. of-sound P act xs (λ y t h. k y t (rw h (or-true (eqb y x)))) u q)
+
+next-both : {S : Type 0} (P Q : S → Type 0) (r : ℕ) (s : S) (k : S → Out S) → P s → (r ≡ 0 → Q s) → ((u : S) → P u → Q u → P ((k u) .st)) → P ((next r s k) .st)
+next-both P Q zero s k p q g = g s p (q refl)
+next-both P Q (suc r) s k p q g = p
+
+pub then-both : {S : Type 0} (P Q : S → Type 0) (o : Out S) (k : S → Out S) → P (o .st) → (o .num ≡ 0 → Q (o .st)) → ((u : S) → P u → Q u → P ((k u) .st)) → P ((then o k) .st)
+then-both P Q o k = next-both P Q (o .num) (o .st) k
+
+-- ---- stepping
+pub same-clock : (s : State) → Sound s → T (le (s .clock) (s .clock))
+same-clock s sound = le-refl (s .clock) (finite-no-nan (s .clock) (sound .clock))
+
+pub step-keeps : (s : State) (g : ℕ) → Sound s → g < length (s .grains) → Keeps s ((stepGrain g s) .st)
+unfolding stepGrain
+step-keeps s g sound G = store-keeps s g (stepped (s .box) (s .clock) (grain s g)) sound G (same-clock s sound)
+
+-- ---- scheduling
+pub collide-keeps : (s : State) (c p q : ℕ) → Sound s → In p c s → In q c s → eqb p q ≡ false → Keeps s ((scheduleCollision c p q s) .st)
+collide-keeps s c p q sound i j d =
+    put-keeps s c (collision (s .box) (s .clock) c p q (grain s p) (grain s q)) sound (i .cell)
+    (collision-apt (cells (s .box)) c (listed s c) (s .clock) (sound .clock) (sound .fit) (s .box) p q (grain s p) (grain s q) (i .there) (j .there) d)
+
+-- what a finder finds may go in
+abbrev Finds : Finder → Type 0
+Finds f = (s : State) (c p d : ℕ) → Sound s → In p c s → AptPlan (cells (s .box)) c (listed s c) (s .clock) (f d (s .box) (s .clock) c p (grain s p))
+
+bound-keeps : (f : Finder) → Finds f → (c p : ℕ) (s : State) → Sound s → In p c s → Keeps s ((each (scheduleBy f c p) 2 0 s) .st)
+bound-keeps f finds c p s sound i =
+    each-sound (scheduleBy f c p) (Keeps s) 2
+    (λ d u h k. keeps-on s u _ k (put-keeps u c (f d (u .box) (u .clock) c p (grain u p)) (k .sound) ((in-frame p c s u (k .frame) i) .cell) (finds u c p d (k .sound) (in-frame p c s u (k .frame) i))))
+    2 0 s (omega arith) (keeps-refl s sound)
+
+pub boundaries-keeps : (c p : ℕ) (s : State) → Sound s → In p c s → Keeps s ((boundaries c p s) .st)
+unfolding boundaries
+boundaries-keeps c p s sound i =
+    then-sound (Keeps s) (each (scheduleBy toNeighbour c p) 2 0 s) (λ u. then (each (scheduleBy outOfCell c p) 2 0 u) (λ w. each (scheduleBy wall c p) 2 0 w))
+    (bound-keeps toNeighbour (λ u c′ p′ d h j. toNeighbour-apt (cells (u .box)) c′ (listed u c′) (u .clock) (h .clock) (h .fit) d (u .box) p′ (grain u p′) refl (j .cell) (j .there)) c p s sound i)
+    (λ u k. then-sound (Keeps s) (each (scheduleBy outOfCell c p) 2 0 u) (λ w. each (scheduleBy wall c p) 2 0 w)
+    (keeps-on s u _ k (bound-keeps outOfCell (λ u c′ p′ d h j. outOfCell-apt (cells (u .box)) c′ (listed u c′) (u .clock) (h .clock) (h .fit) d (u .box) p′ (grain u p′) (j .there)) c p u (k .sound) (in-frame p c s u (k .frame) i)))
+    (λ w l. keeps-on s w _ l (bound-keeps wall (λ u c′ p′ d h j. wall-apt (cells (u .box)) c′ (listed u c′) (u .clock) (h .clock) (h .fit) d (u .box) p′ (grain u p′) (j .there)) c p w (l .sound) (in-frame p c s w (l .frame) i))))
+
+has-others : (p q : ℕ) (l : List ℕ) → has q (others p l) ≡ true → (has q l ≡ true) × (eqb p q ≡ false)
+unfolding has others
+has-others p q [] h = (h, clash h)
+has-others p q (x ∷ xs) h = by (eqb p x) refl (has-others p q xs)
+  where
+    or-case : (a b : Bool) (P : Type 0) → (a || b) ≡ true → (a ≡ true → P) → (b ≡ true → P) → P
+    or-case true b P e f g = f refl
+    or-case false b P e f g = g e
+
+    by : (b : Bool) → eqb p x ≡ b → (has q (others p xs) ≡ true → (has q xs ≡ true) × (eqb p q ≡ false)) → ((eqb q x || has q xs) ≡ true) × (eqb p q ≡ false)
+    by true e ih = let w = ih (rw e at h) in (rw (w .0) (or-true (eqb q x)), w .1)
+    by false e ih = or-case (eqb q x) (has q (others p xs)) (((eqb q x || has q xs) ≡ true) × (eqb p q ≡ false)) (rw e at h)
+        (λ f. ((rw f), rw (eqb-true q x f) e)) (λ f. let w = ih f in (rw (w .0) (or-true (eqb q x)), w .1))
+
+pub scheduleWith-keeps : (p c : ℕ) (qs : List ℕ) (s : State) → Sound s → In p c s → ((q : ℕ) → has q qs ≡ true → In q c s × (eqb p q ≡ false)) → Keeps s ((scheduleWith p c qs s) .st)
+unfolding scheduleWith
+scheduleWith-keeps p c qs s sound i j =
+    then-sound (Keeps s) (eachOf stepGrain qs s) (λ u. then (eachOf (scheduleCollision c p) qs u) (λ w. boundaries c p w))
+    (of-sound (Keeps s) stepGrain qs (λ q u h k. keeps-on s u _ k (step-keeps u q (k .sound) ((in-frame q c s u (k .frame) (j q h .0)) .grain))) s (keeps-refl s sound))
+    (λ u k. then-sound (Keeps s) (eachOf (scheduleCollision c p) qs u) (λ w. boundaries c p w)
+    (of-sound (Keeps s) (scheduleCollision c p) qs (λ q w h l. keeps-on s w _ l (collide-keeps w c p q (l .sound) (in-frame p c s w (l .frame) i) (in-frame q c s w (l .frame) (j q h .0)) (j q h .1))) u k)
+    (λ w l. keeps-on s w _ l (boundaries-keeps c p w (l .sound) (in-frame p c s w (l .frame) i))))
+
+pub schedule-keeps : (p c : ℕ) (s : State) → Sound s → In p c s → Keeps s ((scheduleEvents p c s) .st)
+unfolding scheduleEvents
+schedule-keeps p c s sound i =
+    scheduleWith-keeps p c (others p (listed s c)) s sound i (λ q h. let w = has-others p q (listed s c) h in (in-cell q c s sound (i .cell) (w .0), w .1))
+
+-- ---- in all cells of a grain
+pub forget-keeps : (p : ℕ) (s : State) → Sound s → p < length (s .grains) → Keeps s ((forget p s) .st)
+unfolding forget
+forget-keeps p s sound P =
+    of-sound (Keeps s) (λ c. cancel p c) (home s p)
+    (λ c u h k. keeps-on s u _ k (cancelled-keeps u p c (k .sound) ((in-frame p c s u (k .frame) (in-home p c s sound P h)) .cell))) s (keeps-refl s sound)
+
+pub again-keeps : (p : ℕ) (s : State) → Sound s → p < length (s .grains) → Keeps s ((again p s) .st)
+unfolding again
+again-keeps p s sound P =
+    of-sound (Keeps s) (λ c. scheduleEvents p c) (home s p)
+    (λ c u h k. keeps-on s u _ k (schedule-keeps p c u (k .sound) (in-frame p c s u (k .frame) (in-home p c s sound P h)))) s (keeps-refl s sound)
+
+-- ---- the executions
+still-in : (p : ℕ) (s u : State) → Keeps s u → p < length (s .grains) → p < length (u .grains)
+still-in p s u k h = rw (k .frame .near .few) h
+
+pub collision-goes : (p q : ℕ) (x y : Particle) (s : State) → Sound s → p < length (s .grains) → q < length (s .grains) → x .time ≡ s .clock → y .time ≡ s .clock → Keeps s ((doCollision p q x y s) .st)
+unfolding doCollision
+collision-goes p q x y s sound P Q X Y =
+    then-sound (Keeps s) (store p x s) _ (store-keeps s p x sound P (rw X (same-clock s sound)))
+    (λ s1 k1. then-sound (Keeps s) (store q y s1) _ (keeps-on s s1 _ k1 (store-keeps s1 q y (k1 .sound) (still-in q s s1 k1 Q) (rw (Y ∙ sym (k1 .frame .near .clock)) (same-clock s1 (k1 .sound)))))
+    (λ s2 k2. then-sound (Keeps s) (forget p s2) _ (keeps-on s s2 _ k2 (forget-keeps p s2 (k2 .sound) (still-in p s s2 k2 P)))
+    (λ s3 k3. then-sound (Keeps s) (forget q s3) _ (keeps-on s s3 _ k3 (forget-keeps q s3 (k3 .sound) (still-in q s s3 k3 Q)))
+    (λ s4 k4. then-sound (Keeps s) (again p s4) _ (keeps-on s s4 _ k4 (again-keeps p s4 (k4 .sound) (still-in p s s4 k4 P)))
+    (λ s5 k5. keeps-on s s5 _ k5 (again-keeps q s5 (k5 .sound) (still-in q s s5 k5 Q)))))))
+
+pub wall-goes : (p : ℕ) (x : Particle) (s : State) → Sound s → p < length (s .grains) → x .time ≡ s .clock → Keeps s ((doWall p x s) .st)
+unfolding doWall
+wall-goes p x s sound P X =
+    then-sound (Keeps s) (store p x s) _ (store-keeps s p x sound P (rw X (same-clock s sound)))
+    (λ s1 k1. then-sound (Keeps s) (forget p s1) _ (keeps-on s s1 _ k1 (forget-keeps p s1 (k1 .sound) (still-in p s s1 k1 P)))
+    (λ s2 k2. keeps-on s s2 _ k2 (again-keeps p s2 (k2 .sound) (still-in p s s2 k2 P))))
+
+pub neighbour-goes : (p : ℕ) (x : MyVec) (k : ℕ) (s : State) → Sound s → p < length (s .grains) → k < cells (s .box) → Goes s ((doNeighbour p x k s) .st)
+unfolding doNeighbour
+neighbour-goes p x k s sound P K =
+    then-both (Goes s) (λ u. Keeps s u) (store p (landed x (s .clock) (grain s p)) s) _ (keeps-goes s _ stored) (λ z. stored)
+    (λ s1 g1 k1.
+    let K1 : k < cells (s1 .box) = rw (k1 .frame .near .box) K in
+    then-both (Goes s) (λ u. In p k u) (enter p k s1) _ (goes-on s s1 _ g1 (enter-goes s1 p k (k1 .sound) (still-in p s s1 k1 P) K1)) (enter-in s1 p k (k1 .sound) (still-in p s s1 k1 P) K1)
+    (λ s2 g2 i. goes-on s s2 _ g2 (keeps-goes s2 _ (schedule-keeps p k s2 (g2 .sound) i))))
+  where
+    stored : Keeps s ((store p (landed x (s .clock) (grain s p)) s) .st)
+    stored = store-keeps s p (landed x (s .clock) (grain s p)) sound P (same-clock s sound)
+
+pub out-goes : (p : ℕ) (x : MyVec) (k : ℕ) (s : State) → Sound s → In p k s → Goes s ((doOut p x k s) .st)
+unfolding doOut
+out-goes p x k s sound i =
+    then-both (Goes s) (λ u. Keeps s u) (store p (landed x (s .clock) (grain s p)) s) _ (keeps-goes s _ stored) (λ z. stored)
+    (λ s1 g1 k1.
+    let i1 = in-frame p k s s1 (k1 .frame) i in
+    let k2 = cancelled-keeps s1 p k (k1 .sound) (i1 .cell) in
+    goes-on s (cancelled p k s1) _ (keeps-goes s (cancelled p k s1) (keeps-on s s1 (cancelled p k s1) k1 k2))
+    (leave-goes (cancelled p k s1) p k (k2 .sound) (in-frame p k s1 (cancelled p k s1) (k2 .frame) i1) (cancelled-free s1 p k (k1 .sound) (i1 .cell))))
+  where
+    stored : Keeps s ((store p (landed x (s .clock) (grain s p)) s) .st)
+    stored = store-keeps s p (landed x (s .clock) (grain s p)) sound (i .grain) (same-clock s sound)

@@ -1,0 +1,394 @@
+-- A start that is accepted and does not halt gives the standing facts, where from_p_to_c gives each grain a cell. Assumes nothing.
+use Prim.Native.Nat.{ℕ, zero, suc, _+_, _-_, _≤_, _<_}
+use mathlib.Core.Path.{_≡_, refl, sym, ap, subst, _∙_}
+use mathlib.Core.List.{List, [], _∷_, _++_}
+use mathlib.Core.Bool.{Bool, true, false, not, _&&_, _||_, or-true}
+use native.Mathlib.Omega.{arith}
+use native.Mathlib.Decide.{decLe, ℕ-discrete}
+use native.Mathlib.Nat.{add-suc, add-zero, suc-add}
+use lib.Dec.{T, eqb, leb}
+use lib.ListN.{length, getD, replicate, length-replicate, getD-replicate, List·getD-eq-default}
+use lib.Ieee.{Float, binary64, ofBits, le, lt, fits, isNan}
+use lib.Ieee.Scale.{finite}
+use borrow.Author.Tests.{eq-eqb, eqb-true, eqb-false, ne-eqb, leb-true}
+use Rattle.scheduler.specs.declared.Scheduler.{Scheduler}
+use Rattle.model.specs.declared.Domain.{Domain}
+use Rattle.model.specs.declared.Particle.{Particle}
+use Rattle.model.specs.declared.Place.{Place}
+use Rattle.halting.specs.Out.{Out, out, next, then, each, pick, eachOf}
+use Rattle.halting.proofs.Laws.{then-sound, each-sound, then-keeps}
+use Rattle.order.specs.Numbers.{fzero, last}
+use Rattle.scheduler.specs.Heap.{timeAt, parent, start as startHeap}
+use Rattle.scheduler.specs.Standing.{Inverse, Ordered}
+use Rattle.order.proofs.Compare.{lt-irrefl}
+use Rattle.scheduler.proofs.Laws.{time-in, time-out}
+use Rattle.scheduler.proofs.Inverse.{start-inverse}
+use Rattle.model.specs.Grid.{cells}
+use Rattle.model.specs.Events.{headTime, zeroP, eventOf}
+use Rattle.model.specs.FromPToC.{cellsOfGrain}
+use Rattle.model.specs.State.{Row, row, none, State, zeroG, grain, home, listed, queue, heads, liveAt, has, marked}
+use Rattle.model.specs.Acts.{fineGrain, store, insert, enter}
+use Rattle.model.specs.Doing.{scheduleCollision, boundaries, syncAt}
+use Rattle.model.specs.Stepping.{grainOf}
+use Rattle.model.specs.Sizes.{boxOk, countsOk, grainOk, firstBad}
+use Rattle.model.specs.Start.{Begun, empty, clear, goesIn, pairs, syncIn, initCell, begin, refused, started, startedAt, start}
+use Rattle.model.specs.Standing.{All, Once, Numbers, Side, Lists, Queue, Heap, Grain, Sound, Standing, syncs, one-if}
+use Rattle.facts.proofs.Lists.{clash}
+use Rattle.facts.proofs.Queue.{and-l, and-r}
+use Rattle.facts.proofs.Keeps.{on-test, Apt, insert-sound}
+use Rattle.facts.proofs.Plans.{cells-some}
+use Rattle.facts.proofs.Frame.{Near, Frame, Keeps, Goes, near-refl, near-trans, keeps-refl, keeps-on, goes-on, keeps-goes, store-keeps, In, in-frame, in-cell, enter-goes, enter-in}
+use Rattle.facts.proofs.Schedule.{of-sound, then-both, same-clock, collide-keeps, boundaries-keeps}
+use Rattle.facts.proofs.Steps.{Ends, insert-ends}
+use Rattle.facts.proofs.Grid.{cells-max, cells-under}
+
+-- ---- the cleared state is sound
+abbrev emptyN : ℕ → Row ℕ
+emptyN k = empty k 0
+
+empty-numbers : (n k : ℕ) → Numbers n k (emptyN k)
+unfolding has
+empty-numbers n k = record { full = full′; below = λ x h. clash h; once = tt }
+  where
+    z : ℕ
+    z = 0
+
+    full′ : 0 + length (replicate {A = ℕ} k 0) ≡ k
+    full′ = let e = length-replicate {A = ℕ} k 0 in omega (arith, e)
+
+empty-side : (m n k : ℕ) → Side m n k (replicate m (emptyN k))
+empty-side m n k = record { long = length-replicate m (emptyN k); each = λ i I. rw (getD-replicate m i (emptyN k) none I) (empty-numbers n k) }
+
+module _ (m : ℕ) {A : Type 0} (k : ℕ) (z : A) where
+  empty-live : (i : ℕ) → liveAt (replicate m (empty k z)) i ≡ []
+  empty-live i = elim (decLe m i) [
+    | yes o ↦ ap (λ (r : Row A). r .live) (List·getD-eq-default (replicate m (empty k z)) none (let e = length-replicate m (empty k z) in omega (arith, e)))
+    | no h ↦ ap (λ (r : Row A). r .live) (getD-replicate m i (empty k z) none (omega arith))
+  ]
+
+empty-heads : (m room c : ℕ) → heads (replicate m (empty room zeroP)) c ≡ last
+unfolding heads
+empty-heads m room c = ap headTime (empty-live m room zeroP c)
+
+all-last : (h : ℕ → Float) (s : Scheduler) → ((c : ℕ) → h c ≡ last) → (i : ℕ) → timeAt h s i ≡ last
+all-last h s f i = elim (decLe (s .cells) i) [
+  | yes o ↦ time-out h s i o
+  | no n ↦ time-in h s i (omega arith) ∙ f (getD (s .heap) i 0)
+]
+
+all-ordered : (h : ℕ → Float) (s : Scheduler) → ((c : ℕ) → h c ≡ last) → Ordered h s
+unfolding Ordered
+all-ordered h s f c p q = rw (all-last h s f c, all-last h s f (parent c)) (lt-irrefl last)
+
+zero-fine : fineGrain zeroG ≡ true
+unfolding fineGrain ofBits
+zero-fine = refl
+
+zero-le : T (le fzero fzero)
+unfolding le ofBits
+zero-le = tt
+
+zero-finite : T (finite fzero)
+unfolding ofBits
+zero-finite = tt
+
+zero-fits : T (fits binary64 fzero)
+unfolding fits ofBits
+zero-fits = tt
+
+start-cells : (n : ℕ) → (startHeap n) .cells ≡ n
+unfolding startHeap
+start-cells n = refl
+
+pub clear-sound : (b : Domain) (room n : ℕ) → boxOk b ≡ true → 16 ≤ room → room ≤ 256 → n ≤ 256 → Sound (clear b room n)
+unfolding clear
+clear-sound b room n h r r′ N =
+    let e = length-replicate n zeroG in
+    record {
+      box = h;
+      room = (r, r′);
+      few = rw e N;
+      clock = zero-finite;
+      fit = zero-fits;
+      grains = λ g G. rw (getD-replicate n g zeroG zeroG (rw e at G)) (record { fine = zero-fine; past = zero-le });
+      lists = rw e (record {
+        homes = empty-side n (cells b) 8;
+        members = empty-side (cells b) n 32;
+        mutual′ = λ i c I C. rw (empty-live n {A = ℕ} 8 0 i, empty-live (cells b) {A = ℕ} 32 0 c) (nothing c i);
+      });
+      long = length-replicate (cells b) (empty room zeroP);
+      queues = λ c C. rw (getD-replicate (cells b) c (empty room zeroP) none C) (record { full = let l = length-replicate room zeroP in omega (arith, l); rising = tt; held = tt });
+      heap = record { cells = start-cells (cells b); inverse = start-inverse (cells b) (cells-max b h); ordered = all-ordered (heads (replicate (cells b) (empty room zeroP))) (startHeap (cells b)) (empty-heads (cells b) room) };
+    }
+  where
+    nothing : (x y : ℕ) → has x [] ≡ has y []
+    nothing x y = unfold has in refl
+
+-- ---- grains go in
+-- a loop whose fact grows with its count
+pub each-upto : {S : Type 0} (act : ℕ → S → Out S) (P : ℕ → S → Type 0) (top : ℕ) → ((c : ℕ) (s : S) → c < top → P c s → (act c s) .num ≡ 0 → P (suc c) ((act c s) .st))
+    → (m c : ℕ) (s : S) → c + m ≤ top → P c s → (each act m c s) .num ≡ 0 → P (c + m) ((each act m c s) .st)
+unfolding each
+each-upto act P top k zero c s h p z = rw (add-zero c) p
+each-upto {S} act P top k (suc m) c s h p z =
+    subst (λ (n : ℕ). P n ((each act (suc m) c s) .st)) (suc-add c m ∙ sym (add-suc c m))
+    (then-keeps (P (suc c)) (P (suc c + m)) (act c s) (each act m (suc c)) (k c s (omega arith) p) (λ (u : S) (q : P (suc c) u). each-upto act P top k m (suc c) u (omega arith) q) z)
+
+module _ (b : Domain) (room : ℕ) (gs : List Particle) (box : boxOk b ≡ true) where
+  abbrev s₀ : State
+  s₀ = clear b room (length gs)
+
+  abbrev at : ℕ → Particle
+  at i = getD gs i zeroG
+
+  clear-box : s₀ .box ≡ b
+  unfolding clear
+  clear-box = refl
+
+  clear-clock : s₀ .clock ≡ fzero
+  unfolding clear
+  clear-clock = refl
+
+  clear-few : length (s₀ .grains) ≡ length gs
+  unfolding clear
+  clear-few = length-replicate (length gs) zeroG
+
+  entries : (i : ℕ) (u : State) → Goes s₀ u → i < length gs → (cs : List ℕ) → ((c : ℕ) → has c cs ≡ true → c < cells b) → Goes u ((eachOf (λ c. enter i c) cs u) .st)
+  entries i u g I cs C =
+      of-sound (Goes u) (λ c. enter i c) cs
+      (λ c w h k.
+      let e : w .box ≡ b = k .near .box ∙ g .near .box ∙ clear-box in
+      let l : length (w .grains) ≡ length gs = k .near .few ∙ g .near .few ∙ clear-few in
+      goes-on u w _ k (enter-goes w i c (k .sound) (rw l I) (rw e (C c h))))
+      u (record { sound = g .sound; near = near-refl u })
+
+  stored : (i : ℕ) (u : State) → Goes s₀ u → i < length gs → Keeps u ((store i (grainOf (at i .pos) (at i .vel) fzero (at i .val)) u) .st)
+  stored i u g I =
+      let l : length (u .grains) ≡ length gs = g .near .few ∙ clear-few in
+      store-keeps u i (grainOf (at i .pos) (at i .vel) fzero (at i .val)) (g .sound) (rw l I) (rw (g .near .clock ∙ clear-clock) zero-le)
+
+  goesIn-goes : (i : ℕ) (u : State) → i < length gs → Goes s₀ u → Goes s₀ ((goesIn gs i u) .st)
+  unfolding goesIn
+  goesIn-goes i u I g =
+      then-sound (Goes s₀) (store i (grainOf (at i .pos) (at i .vel) fzero (at i .val)) u) _ (goes-on s₀ u _ g (keeps-goes u _ (stored i u g I)))
+      (λ w k. goes-on s₀ w _ k (entries i w k I (cellsOfGrain (w .box) (at i .pos)) (λ c h. cells-under b (at i .pos) box c (subst (λ (d : Domain). has c (cellsOfGrain d (at i .pos)) ≡ true) (k .near .box ∙ clear-box) h))))
+
+  -- a grain that went in has a cell, where from_p_to_c gives one
+  has-some : (c : ℕ) (l : List ℕ) → has c l ≡ true → 1 ≤ length l
+  unfolding has
+  has-some c [] h = clash h
+  has-some c (x ∷ xs) h = omega arith
+
+  entered-some : (i : ℕ) (u : State) → Goes s₀ u → i < length gs → (cs : List ℕ) → ((c : ℕ) → has c cs ≡ true → c < cells b) → 1 ≤ length cs
+      → (eachOf (λ c. enter i c) cs u) .num ≡ 0 → 1 ≤ length (home ((eachOf (λ c. enter i c) cs u) .st) i)
+  unfolding eachOf has
+  entered-some i u g I [] C some z = absurd (omega arith)
+  entered-some i u g I (c ∷ cs) C some z =
+      let e : u .box ≡ b = g .near .box ∙ clear-box in
+      let l : length (u .grains) ≡ length gs = g .near .few ∙ clear-few in
+      let I′ : i < length (u .grains) = rw l I in
+      let K : c < cells (u .box) = rw e (C c (rw (eq-eqb c c refl))) in
+      then-keeps (λ v. Goes u v × In i c v) (λ v. 1 ≤ length (home v i)) (enter i c u) (eachOf (λ c. enter i c) cs)
+      (λ y. (enter-goes u i c (g .sound) I′ K, enter-in u i c (g .sound) I′ K y))
+      (λ v p y.
+      let h = p .1 in
+      let q : has c (home v i) ≡ true = p .0 .sound .lists .mutual′ i c (h .grain) (h .cell) ∙ h .there in
+      (entries i v (goes-on s₀ u v g (p .0)) I cs (λ d x. C d (rw x (or-true (eqb d c))))) .near .housed i (has-some c (home v i) q))
+      z
+
+  abbrev pub Reaches : Type 0
+  Reaches = (i : ℕ) → i < length gs → 1 ≤ length (cellsOfGrain b (at i .pos))
+
+  goesIn-some : Reaches → (i : ℕ) (u : State) → i < length gs → Goes s₀ u → (goesIn gs i u) .num ≡ 0 → 1 ≤ length (home ((goesIn gs i u) .st) i)
+  unfolding goesIn
+  goesIn-some some i u I g =
+      then-keeps (Goes s₀) (λ v. 1 ≤ length (home v i)) (store i (grainOf (at i .pos) (at i .vel) fzero (at i .val)) u) _
+      (λ z. goes-on s₀ u _ g (keeps-goes u _ (stored i u g I)))
+      (λ w k. let e : w .box ≡ b = k .near .box ∙ clear-box in
+      entered-some i w k I (cellsOfGrain (w .box) (at i .pos)) (λ c h. cells-under b (at i .pos) box c (subst (λ (d : Domain). has c (cellsOfGrain d (at i .pos)) ≡ true) e h)) (rw e (some i I)))
+
+  -- as each went in, so far
+  pub record Inside (i : ℕ) (u : State) : Type 0 where
+    pub goes : Goes s₀ u
+    pub some : (g : ℕ) → g < i → 1 ≤ length (home u g)
+
+  goesIn-near : (i : ℕ) (u : State) → i < length gs → Goes s₀ u → Near u ((goesIn gs i u) .st)
+  unfolding goesIn
+  goesIn-near i u I g =
+      then-both (λ v. Near u v) (λ v. Goes u v) (store i (grainOf (at i .pos) (at i .vel) fzero (at i .val)) u) _ ((stored i u g I) .frame .near) (λ z. keeps-goes u _ (stored i u g I))
+      (λ w n k. near-trans u w _ n ((entries i w (goes-on s₀ u w g k) I (cellsOfGrain (w .box) (at i .pos))
+      (λ c h. cells-under b (at i .pos) box c (subst (λ (d : Domain). has c (cellsOfGrain d (at i .pos)) ≡ true) (k .near .box ∙ g .near .box ∙ clear-box) h))) .near))
+
+  pub all-inside : Reaches → Sound s₀ → (each (goesIn gs) (length gs) 0 s₀) .num ≡ 0 → Inside (length gs) ((each (goesIn gs) (length gs) 0 s₀) .st)
+  all-inside some sound z =
+      subst (λ (k : ℕ). Inside k ((each (goesIn gs) (length gs) 0 s₀) .st)) (omega arith)
+      (each-upto (goesIn gs) Inside (length gs)
+      (λ i u I p y. record {
+        goes = goesIn-goes i u I (p .goes);
+        some = λ g G. elim (ℕ-discrete g i) [
+          | yes e ↦ rw e (goesIn-some some i u I (p .goes) y)
+          | no d ↦ (goesIn-near i u I (p .goes)) .housed g (p .some g (omega arith))
+        ];
+      })
+      (length gs) 0 s₀ (omega arith) (record { goes = record { sound = sound; near = near-refl s₀ }; some = λ g G. absurd (omega arith) }) z)
+
+-- ---- init_events
+different : (p q : ℕ) (l : List ℕ) → has p l ≡ false → has q l ≡ true → eqb p q ≡ false
+different p q l a h = elim (ℕ-discrete p q) [
+  | yes e ↦ clash (sym a ∙ ap (λ (x : ℕ). has x l) e ∙ h)
+  | no d ↦ ne-eqb p q d
+]
+
+pub pairs-keeps : (c : ℕ) (l : List ℕ) (s : State) → Sound s → Once l → ((p : ℕ) → has p l ≡ true → In p c s) → Keeps s ((pairs c l s) .st)
+unfolding pairs has
+pairs-keeps c [] s sound o i = keeps-refl s sound
+pairs-keeps c (p ∷ qs) s sound o i =
+    then-sound (Keeps s) (eachOf (λ q. scheduleCollision c p q) qs s) (pairs c qs)
+    (of-sound (Keeps s) (λ q. scheduleCollision c p q) qs
+    (λ q u h k. keeps-on s u _ k (collide-keeps u c p q (k .sound) (in-frame p c s u (k .frame) (i p (rw (eq-eqb p p refl)))) (in-frame q c s u (k .frame) (i q (rw h (or-true (eqb q p))))) (different p q qs (o .0) h)))
+    s (keeps-refl s sound))
+    (λ u k. keeps-on s u _ k (pairs-keeps c qs u (k .sound) (o .1) (λ q h. in-frame q c s u (k .frame) (i q (rw h (or-true (eqb q p)))))))
+
+-- all but the synchronisation, in one cell
+abbrev restOf : ℕ → State → Out State
+restOf c u = then (pairs c (listed u c) u) (λ w. eachOf (λ p. boundaries c p) (listed w c) w)
+
+pub rest-keeps : (c : ℕ) (s : State) → Sound s → c < cells (s .box) → Keeps s ((restOf c s) .st)
+rest-keeps c s sound C =
+    then-sound (Keeps s) (pairs c (listed s c) s) (λ w. eachOf (λ p. boundaries c p) (listed w c) w)
+    (pairs-keeps c (listed s c) s sound (sound .lists .members .each c C .once) (λ p h. in-cell p c s sound C h))
+    (λ w k.
+    let K : c < cells (w .box) = rw (k .frame .near .box) C in
+    keeps-on s w _ k (of-sound (Keeps w) (λ p. boundaries c p) (listed w c) (λ p u h l. keeps-on w u _ l (boundaries-keeps c p u (l .sound) (in-frame p c w u (l .frame) (in-cell p c w (k .sound) K h)))) w (keeps-refl w (k .sound))))
+
+pub later-keeps : (c : ℕ) (s : State) → Sound s → suc c < cells (s .box) → Keeps s ((initCell (suc c) s) .st)
+unfolding initCell
+later-keeps c s sound C = rest-keeps (suc c) s sound C
+
+-- the first synchronisation, at 0
+sync-apt : (s : State) → s .clock ≡ fzero → Apt (cells (s .box)) 0 (listed s 0) (s .clock) (syncAt fzero)
+sync-apt s e = record { kind = (omega arith, omega arith); fit = zero-fits; named = (refl, tt); ahead = λ k. rw e zero-le }
+
+-- after an end, what keeps
+next-ends : (k : ℕ) (s : State) (r : ℕ) (u : State) (f : State → Out State) → Ends k s (out r u) → ((w : State) → Ends k s (out 0 w) → Keeps w ((f w) .st)) → Ends k s (next r u f)
+next-ends k s zero u f a b =
+    let q = b u a in
+    record {
+      sound = q .sound;
+      clock = q .frame .near .clock ∙ a .clock;
+      box = q .frame .near .box ∙ a .box;
+      mark = q .frame .near .mark ∙ a .mark;
+      few = q .frame .near .few ∙ a .few;
+      housed = λ g h. q .frame .near .housed g (a .housed g h);
+      calm = λ z. q .frame .near .calm ∙ a .calm refl;
+    }
+next-ends k s (suc r) u f a b = a
+
+then-ends : (k : ℕ) (s : State) (o : Out State) (f : State → Out State) → Ends k s o → ((w : State) → Ends k s (out 0 w) → Keeps w ((f w) .st)) → Ends k s (then o f)
+then-ends k s o f a b = next-ends k s (o .num) (o .st) f a b
+
+first-ends : (s : State) → Sound s → s .clock ≡ fzero → Ends 1 s (initCell 0 s)
+unfolding initCell
+first-ends s sound e =
+    then-ends 1 s (insert 0 (syncAt fzero) s) (restOf 0) (insert-ends s (syncAt fzero) sound (sync-apt s e)) (λ w a. rest-keeps 0 w (a .sound) (cells-some (w .box)))
+
+-- the cells from 1 on
+rest-of : (m c : ℕ) (s : State) → Sound s → suc c + m ≤ cells (s .box) → Keeps s ((each initCell m (suc c) s) .st)
+unfolding each
+rest-of zero c s sound h = keeps-refl s sound
+rest-of (suc m) c s sound h =
+    then-sound (Keeps s) (initCell (suc c) s) (each initCell m (suc (suc c))) (later-keeps c s sound (omega arith))
+    (λ u k. keeps-on s u _ k (rest-of m (suc c) u (k .sound) (rw (k .frame .near .box) (omega arith))))
+
+init-ends : (m : ℕ) (s : State) → Sound s → s .clock ≡ fzero → m ≡ cells (s .box) → 0 < m → Ends 1 s (each initCell m 0 s)
+unfolding each
+init-ends zero s sound e q h = absurd (omega arith)
+init-ends (suc m) s sound e q h =
+    then-ends 1 s (initCell 0 s) (each initCell m 1) (first-ends s sound e) (λ w a. rest-of m 0 w (a .sound) (rw (a .box) (omega (arith, q))))
+
+-- A START THAT IS ACCEPTED AND DOES NOT HALT GIVES THE STANDING FACTS
+module _ (b : Domain) (room : ℕ) (gs : List Particle) (box : boxOk b ≡ true) (r : 16 ≤ room) (r′ : room ≤ 256) (few : length gs ≤ 256) where
+  cleared : Sound (clear b room (length gs))
+  cleared = clear-sound b room (length gs) box r r′ few
+
+  clear-syncs : syncs (queue (clear b room (length gs)) 0) ≡ 0
+  unfolding clear syncs
+  clear-syncs = ap syncs (empty-live (cells b) room zeroP 0)
+
+  clear-mark : (clear b room (length gs)) .mark ≡ 0
+  unfolding clear
+  clear-mark = refl
+
+  inits : (u : State) → Inside b room gs box (length gs) u → (each initCell (cells b) 0 u) .num ≡ 0 → Standing ((each initCell (cells b) 0 u) .st)
+  inits u p z =
+      let n = p .goes .near in
+      let e = init-ends (cells b) u (p .goes .sound) (n .clock ∙ clear-clock b room gs box) (sym (ap cells (n .box ∙ clear-box b room gs box))) (cells-some b) in
+      record {
+        sound = e .sound;
+        free = e .mark ∙ n .mark ∙ clear-mark;
+        housed = λ g G. e .housed g (p .some g (rw (e .few ∙ n .few ∙ clear-few b room gs box) at G));
+        sync = e .calm z ∙ rw (n .calm ∙ clear-syncs);
+      }
+
+  pub begin-stands : Reaches b room gs box → (begin b room gs) .num ≡ 0 → Standing ((begin b room gs) .st)
+  unfolding begin
+  begin-stands some = then-keeps (Inside b room gs box (length gs)) Standing (each (goesIn gs) (length gs) 0 (clear b room (length gs))) (λ s. each initCell (cells b) 0 s) (all-inside b room gs box some cleared) inits
+
+  -- halted or not, it is sound
+  pub begin-sound : Sound ((begin b room gs) .st)
+  unfolding begin
+  begin-sound =
+      then-sound-goes (each (goesIn gs) (length gs) 0 (clear b room (length gs)))
+      (each-sound (goesIn gs) (Goes (clear b room (length gs))) (length gs) (λ i u I g. goesIn-goes b room gs box i u I g) (length gs) 0 (clear b room (length gs)) (omega arith) (record { sound = cleared; near = near-refl (clear b room (length gs)) }))
+    where
+      then-sound-goes : (o : Out State) → Goes (clear b room (length gs)) (o .st) → Sound ((then o (λ s. each initCell (cells b) 0 s)) .st)
+      then-sound-goes o g = by (o .num) (o .st) g
+        where
+          by : (k : ℕ) (u : State) → Goes (clear b room (length gs)) u → Sound ((next k u (λ s. each initCell (cells b) 0 s)) .st)
+          by zero u g = init-ends (cells b) u (g .sound) (g .near .clock ∙ clear-clock b room gs box) (sym (ap cells (g .near .box ∙ clear-box b room gs box))) (cells-some b) .sound
+          by (suc k) u g = g .sound
+
+-- ---- the public start
+marked-sound : (r : ℕ) (u : State) → Sound u → Sound (marked r u)
+marked-sound r u h = record { box = h .box; room = h .room; few = h .few; clock = h .clock; fit = h .fit; grains = h .grains; lists = h .lists; long = h .long; queues = h .queues; heap = h .heap }
+
+marked-stands : (r : ℕ) (u : State) → r ≡ 0 → Standing u → Standing (marked r u)
+marked-stands r u e st = record { sound = marked-sound r u (st .sound); free = e; housed = st .housed; sync = st .sync }
+
+first-good : (b : Domain) (gs : List Particle) → firstBad b gs ≡ length gs → (i : ℕ) → i < length gs → grainOk b (getD gs i zeroG) ≡ true
+unfolding firstBad
+first-good b [] e i h = absurd (omega arith)
+first-good b (p ∷ ps) e i h = by (grainOk b p) refl i h (first-good b ps)
+  where
+    by : (x : Bool) → grainOk b p ≡ x → (i : ℕ) → i < suc (length ps) → (firstBad b ps ≡ length ps → (i : ℕ) → i < length ps → grainOk b (getD ps i zeroG) ≡ true) → grainOk b (getD (p ∷ ps) i zeroG) ≡ true
+    by true q zero h k = q
+    by true q (suc i) h k = k (let z : suc (firstBad b ps) ≡ suc (length ps) = rw q at e in omega (arith, z)) i (omega arith)
+    by false q i h k = absurd (let z : 0 ≡ suc (length ps) = rw q at e in omega (arith, z))
+
+-- sound if it began; standing if it did not halt
+abbrev pub WellBegun : Begun → Type 0
+WellBegun (refused r i) = Unit {0}
+WellBegun (started s) = Sound s × (s .mark ≡ 0 → Standing s)
+
+-- what is open: an accepted position reaches a cell
+abbrev pub Placed : Domain → Type 0
+Placed b = (p : Particle) → grainOk b p ≡ true → 1 ≤ length (cellsOfGrain b (p .pos))
+
+pub start-stands : (b : Domain) (room : ℕ) (gs : List Particle) → (boxOk b ≡ true → Placed b) → WellBegun (start b room gs)
+unfolding start
+start-stands b room gs placed =
+    on-test WellBegun (boxOk b) _ (refused 1 0)
+    (λ box. on-test WellBegun (countsOk room (length gs)) _ (refused 2 0)
+    (λ c.
+    let few : length gs ≤ 256 = leb-true _ _ (and-l (leb (length gs) 256) _ c) in
+    let rooms = and-r (leb (length gs) 256) (leb 16 room && leb room 256) c in
+    let lo : 16 ≤ room = leb-true _ _ (and-l (leb 16 room) (leb room 256) rooms) in
+    let hi : room ≤ 256 = leb-true _ _ (and-r (leb 16 room) (leb room 256) rooms) in
+    on-test WellBegun (eqb (firstBad b gs) (length gs)) (startedAt (begin b room gs)) (refused 4 (firstBad b gs))
+    (λ g. (
+      marked-sound ((begin b room gs) .num) ((begin b room gs) .st) (begin-sound b room gs box lo hi few),
+      λ z. marked-stands ((begin b room gs) .num) ((begin b room gs) .st) z (begin-stands b room gs box lo hi few (λ i I. placed box (getD gs i zeroG) (first-good b gs (eqb-true _ _ g) i I)) z),
+    ))
+    (λ g. tt))
+    (λ c. tt))
+    (λ box. tt)

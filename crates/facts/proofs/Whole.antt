@@ -1,0 +1,141 @@
+-- The public run, behind its checks: a run of j + k is a run of j and, if that was spent, a run of k. Assumes nothing.
+use Prim.Native.Nat.{ℕ, zero, suc, _+_, _*_, _≤_, _<_}
+use mathlib.Core.Path.{_≡_, refl, sym, ap, subst, _∙_}
+use mathlib.Core.List.{List, [], _∷_}
+use mathlib.Core.Bool.{Bool, true, false, not, _&&_}
+use native.Mathlib.Omega.{arith}
+use native.Mathlib.Decide.{decLe}
+use native.Mathlib.Nat.{add-zero, mul-le-mul}
+use lib.Dec.{T, leb}
+use lib.ListN.{length, getD, List·getD-eq-default}
+use lib.Ieee.{Float, binary64, ofBits, le, lt, fits}
+use borrow.Author.Tests.{le-leb, lt-leb}
+use Rattle.model.specs.declared.Domain.{Domain}
+use Rattle.model.specs.declared.Place.{Place}
+use Rattle.halting.specs.Out.{pick}
+use Rattle.order.specs.Numbers.{fzero}
+use Rattle.order.proofs.Order.{le-lt-trans}
+use Rattle.model.specs.Grid.{across, cells}
+use Rattle.model.specs.State.{Row, none, State, queue, listed}
+use Rattle.model.specs.Run.{How, spent, Ran, runFrom, plus, goOn, continue, refused}
+use Rattle.model.specs.Standing.{All, Held, Sound, Standing}
+use Rattle.model.specs.Check.{counts, standing, Fitted, sized, halt, refusal, runAll, followBy, followed}
+use Rattle.model.specs.Sizes.{rated}
+use Rattle.facts.proofs.Lists.{clash}
+use Rattle.facts.proofs.Queue.{T-of, of-T, and-l, all-to}
+use Rattle.facts.proofs.Plans.{across-min}
+use Rattle.facts.proofs.Reflect.{Says, says-standing}
+use Rattle.facts.proofs.Runs.{split, count, run-stands}
+
+-- what stands, passes each check
+pub sound-fitted : (s : State) → Sound s → Fitted s
+sound-fitted s h = record {
+  clock = h .fit;
+  times = λ c. elim (decLe (cells (s .box)) c) [
+    | yes o ↦ subst (λ (r : Row Place). All (λ e. T (fits binary64 (e .time))) (r .live)) (sym (List·getD-eq-default (s .queues) none (omega (arith, h .long)))) tt
+    | no i ↦ all-to (Held (cells (s .box)) c (listed s c)) (λ e. T (fits binary64 (e .time))) (queue s c) (λ e x. x .fit) (h .queues c (omega arith) .held)
+  ];
+}
+
+nine-cells : (b : Domain) → 9 ≤ cells b
+nine-cells b = let p : 3 * 3 ≤ across 0 b * across 1 b = mul-le-mul (across-min 0 b) (across-min 1 b) in p
+
+stands-sized : (s : State) → Standing s → sized s ≡ true
+stands-sized s st =
+    let h = st .sound in
+    let w = nine-cells (s .box) in
+    let n : 9 ≤ s .sched .cells = omega (arith, h .heap .cells) in
+    rw (le-leb _ _ (h .few), le-leb _ _ (h .room .0), le-leb _ _ (h .room .1), le-leb _ _ n, le-leb _ _ (h .heap .inverse .room))
+
+free-halt : (m : ℕ) → m ≡ 0 → halt m ≡ false
+free-halt m e = rw e
+
+pub rated-later : (rate : Float) → rated rate ≡ true → lt rate fzero ≡ false
+rated-later rate h = by (lt rate fzero) refl
+  where
+    low : T (lt (ofBits binary64 0x3eb0_0000_0000_0000) fzero) → ⊥
+    low t = unfold lt ofBits in t
+
+    by : (b : Bool) → lt rate fzero ≡ b → lt rate fzero ≡ false
+    by true e = absurd (low (le-lt-trans (ofBits binary64 0x3eb0_0000_0000_0000) rate fzero (T-of _ (and-l (le (ofBits binary64 0x3eb0_0000_0000_0000) rate) (le rate (ofBits binary64 0x4130_0000_0000_0000)) h)) (T-of _ e)))
+    by false e = e
+
+-- at standing facts a run is its steps
+pub runs : (rate : Float) (b : ℕ) (s : State) → rated rate ≡ true → Standing s → runAll rate b s ≡ runFrom rate b 0 s
+unfolding runAll
+runs rate b s r st = rw (stands-sized s st, free-halt (s .mark) (st .free), r, says-standing s (sound-fitted s (st .sound)) .holds st)
+
+-- a spent run passed them; one that ended otherwise ends so with any greater budget
+abbrev gate : Bool → Bool → Bool → Bool → State → Ran → Ran
+gate a h r t s x = pick a (pick h (refusal (s .mark) s) (pick r (pick t x (refusal 10 s)) (refusal 3 s))) (refusal 2 s)
+
+refused-not : {A : Type 0} (n : ℕ) → refused n ≡ spent → A
+refused-not n e = absurd (let z : _≡_ {A = ℕ} 0 1 = cc in omega arith)
+
+gate-spent : (a h r t : Bool) (s : State) (x : Ran) → (gate a h r t s x) .how ≡ spent → (r ≡ true) × (t ≡ true)
+gate-spent true false true true s x e = (refl, refl)
+gate-spent true false true false s x e = refused-not 10 e
+gate-spent true false false t s x e = refused-not 3 e
+gate-spent true true r t s x e = refused-not (s .mark) e
+gate-spent false h r t s x e = refused-not 2 e
+
+gate-ended : (a h r t : Bool) (s : State) (x y : Ran) → ((gate a h r t s y) .how ≡ spent → ⊥) → ((y .how ≡ spent → ⊥) → x ≡ y) → gate a h r t s x ≡ gate a h r t s y
+gate-ended true false true true s x y n f = f n
+gate-ended true false true false s x y n f = refl
+gate-ended true false false t s x y n f = refl
+gate-ended true true r t s x y n f = refl
+gate-ended false h r t s x y n f = refl
+
+continue-spent : (h : How) (r : Ran) (k : ℕ → State → Ran) → h ≡ spent → goOn h r k ≡ k (r .count) (r .state)
+continue-spent h r k e = rw e
+
+continue-ended : (h : How) (r : Ran) (k : ℕ → State → Ran) → (h ≡ spent → ⊥) → goOn h r k ≡ r
+continue-ended How.synchronised r k n = refl
+continue-ended spent r k n = absurd (n refl)
+continue-ended (refused m) r k n = refl
+
+module _ (rate : Float) (j k : ℕ) (s : State) (fitted : Fitted s) where
+  after-spent : (runAll rate j s) .how ≡ spent → runAll rate (j + k) s ≡ plus ((runAll rate j s) .count) (runAll rate k ((runAll rate j s) .state))
+  after-spent e =
+      runs rate (j + k) s (g .0) st ∙ split rate j k 0 s ∙ continue-spent (r .how) r (runFrom rate k) e′ ∙
+      ap (λ (d : ℕ). runFrom rate k d (r .state)) (sym (add-zero (r .count))) ∙ count rate k (r .count) 0 (r .state) ∙
+      ap (plus (r .count)) (sym (runs rate k (r .state) (g .0) stands′)) ∙
+      ap (λ (q : Ran). plus (q .count) (runAll rate k (q .state))) (sym x)
+    where
+      g : (rated rate ≡ true) × (standing s ≡ true)
+      g = unfold runAll in gate-spent (sized s) (halt (s .mark)) (rated rate) (standing s) s (runFrom rate j 0 s) e
+
+      st : Standing s
+      st = says-standing s fitted .means (g .1)
+
+      r : Ran
+      r = runFrom rate j 0 s
+
+      x : runAll rate j s ≡ r
+      x = runs rate j s (g .0) st
+
+      e′ : r .how ≡ spent
+      e′ = ap (λ (q : Ran). q .how) (sym x) ∙ e
+
+      by : (h : How) → (runFrom rate j 0 s) .how ≡ h → h ≡ spent → Standing ((runFrom rate j 0 s) .state)
+      by How.synchronised p q = absurd (let z : _≡_ {A = ℕ} 0 1 = cc in omega arith)
+      by spent p q = rw p at (run-stands rate (rated-later rate (g .0)) j 0 s st)
+      by (refused m) p q = refused-not m q
+
+      stands′ : Standing (r .state)
+      stands′ = by (r .how) refl e′
+
+  after-ended : ((runAll rate j s) .how ≡ spent → ⊥) → runAll rate (j + k) s ≡ runAll rate j s
+  unfolding runAll
+  after-ended n =
+      gate-ended (sized s) (halt (s .mark)) (rated rate) (standing s) s (runFrom rate (j + k) 0 s) (runFrom rate j 0 s) n
+      (λ m. split rate j k 0 s ∙ continue-ended ((runFrom rate j 0 s) .how) (runFrom rate j 0 s) (runFrom rate k) m)
+
+  -- A RUN OF j + k IS A RUN OF j FOLLOWED BY A RUN OF k
+  pub whole : runAll rate (j + k) s ≡ followed (runAll rate j s) (runAll rate k)
+  whole = by ((runAll rate j s) .how) refl
+    where
+      by : (w : How) → (runAll rate j s) .how ≡ w → runAll rate (j + k) s ≡ followBy w (runAll rate j s) (runAll rate k)
+      by How.synchronised e = after-ended (λ q. let z : _≡_ {A = ℕ} 0 1 = cc in omega arith)
+      by spent e = after-spent e
+      by (refused m) e = after-ended (λ q. refused-not m (sym e ∙ q))
