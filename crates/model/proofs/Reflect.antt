@@ -11,23 +11,23 @@ use lib.Ieee.{Float, binary64, le, lt, fits}
 use lib.Ieee.Scale.{finite}
 use borrow.Author.Tests.{ltb-true, leb-true, eqb-true, eqb-false, lt-ltb, le-leb, eq-eqb, ne-eqb, not-true}
 use Rattle.scheduler.specs.declared.Scheduler.{Scheduler}
 use Rattle.model.specs.declared.Place.{Place}
 use Rattle.model.specs.declared.Event.{Event}
 use Rattle.model.specs.declared.Event.the-variants.{InterParticleCollision, MoveToNeighbour, MoveOutOfCell, WallReflection, Synchronisation}
 use Rattle.model.specs.Check as check
 use Rattle.halting.specs.Every.{every}
 use Rattle.halting.proofs.Tests.{every-true, true-every}
 use Rattle.scheduler.specs.Heap.{timeAt, parent}
 use Rattle.scheduler.specs.Standing.{Inverse, Ordered}
 use Rattle.model.specs.Grid.{cells}
 use Rattle.model.specs.Events.{eventOf, finePlace}
 use Rattle.model.specs.State.{Row, row, none, State, grain, home, listed, queue, heads, liveAt, has}
 use Rattle.model.specs.Acts.{fineGrain}
 use Rattle.model.specs.Sizes.{boxOk}
 use Rattle.model.specs.Standing.{Rising, All, Named, Held, Queue, Once, Numbers, Side, Lists, Heap, Grain, Sound, Standing, syncs}
 use Rattle.model.specs.Check.{Fitted, standing, sound}
-use Rattle.facts.proofs.Lists.{clash}
-use Rattle.facts.proofs.Queue.{T-of, of-T, and-l, and-r}
+use Rattle.model.proofs.Lists.{clash}
+use Rattle.model.proofs.Queue.{T-of, of-T, and-l, and-r}
 
 -- ---- a test that says whether P
 pub record Says (b : Bool) (P : Type 0) : Type 0 where

@@ -11,20 +11,20 @@ use lib.Ieee.{Float, binary64, add, sub, div, lt, le, isNan, inFloat, ofInt, ofB
 use lib.Ieee.Positive.{positive, between}
 use borrow.Author.Tests.{eqb-true}
 use Rattle.myvec.specs.declared.MyVec.{MyVec}
 use Rattle.model.specs.declared.Domain.{Domain}
 use Rattle.halting.specs.Out.{pick}
 use Rattle.model.specs.Grid.{cellsOf, across, cells, cellAt, lengthOf}
 use Rattle.order.proofs.Mono.{div-mono, positive-plain}
 use Rattle.order.proofs.Order.{le-refl}
 use Rattle.order.specs.Numbers.{fzero, half, three, nine, fortyeight}
 use Rattle.order.proofs.Cut.{cut-capped, cut-mono}
 use Rattle.model.specs.FromPToC.{upFrom, firstCell, endCell, kernel, reached, rows, cellsOfGrain}
 use Rattle.model.specs.State.{has}
 use Rattle.model.specs.Sizes.{boxOk, within}
-use Rattle.facts.proofs.Lists.{clash}
-use Rattle.facts.proofs.Queue.{T-of, and-l, and-r}
-use Rattle.facts.proofs.Keeps.{on-test}
-use Rattle.facts.proofs.Plans.{grid-in}
+use Rattle.model.proofs.Lists.{clash}
+use Rattle.model.proofs.Queue.{T-of, and-l, and-r}
+use Rattle.model.proofs.Keeps.{on-test}
+use Rattle.model.proofs.Plans.{grid-in}
 
 -- ---- 9 to 48 long: 3 to 16 cells
 nine-pos : T (positive nine)

@@ -9,11 +9,11 @@ use lib.Ieee.{Float, le, lt}
 use Rattle.order.specs.Numbers.{fzero}
 use Rattle.order.proofs.Order.{le-trans, le-refl}
 use Rattle.order.proofs.Clock.{finite-no-nan}
 use Rattle.model.specs.State.{State}
 use Rattle.model.specs.Doing.{Stepped, done, halted, Moved, step, Whole}
 use Rattle.model.specs.Run.{How, spent, Ran, ends, onward, runFrom, plus, goOn, continue, refused}
 use Rattle.model.specs.Standing.{Sound, Standing}
-use Rattle.facts.proofs.Steps.{step-sound, step-clock, step-stands}
+use Rattle.model.proofs.Steps.{step-sound, step-clock, step-stands}
 
 not-spent : {A : Type 0} (h : How) → h ≡ spent → (h ≡ spent → ⊥) → A
 not-spent h e n = absurd (n e)

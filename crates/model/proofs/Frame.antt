@@ -9,22 +9,22 @@ use lib.Dec.{T, eqb, ltb, leb}
 use lib.ListN.{length, getD, set, drop, replicate, length-set}
 use lib.Ieee.{Float, binary64, le, lt, fits}
 use borrow.Author.Tests.{ltb-true, leb-false, eq-eqb}
 use Rattle.model.specs.declared.Particle.{Particle}
 use Rattle.model.specs.declared.Place.{Place}
 use Rattle.model.specs.declared.Plan.{Plan}
 use Rattle.model.specs.declared.Plan.the-variants.{Nothing, Refused, Due}
 use Rattle.model.specs.declared.Event.{Event}
 use Rattle.model.specs.declared.Event.the-variants.{InterParticleCollision, MoveToNeighbour, MoveOutOfCell, WallReflection, Synchronisation}
 use Rattle.halting.specs.Out.{Out, out, next, then, each, pick}
 use Rattle.model.specs.Grid.{cells}
 use Rattle.model.specs.Events.{insertBy, keepBy, goneBy, names, eventOf, finePlace, placeOf, zeroP}
 use Rattle.model.specs.State.{Row, row, none, State, grain, home, listed, queue, liveAt, has, pushed, pulled, requeued, withGrains}
 use Rattle.model.specs.Acts.{fineGrain, store, insert, inserted, put, cancelled, cancel, enter, entered, leave, gone, queueRow}
 use Rattle.model.specs.Standing.{All, Sound, syncs, one-if}
-use Rattle.facts.proofs.Lists.{clash, live-same, live-other, length-snoc, length-but, has-entered}
-use Rattle.facts.proofs.Queue.{kept-names}
-use Rattle.facts.proofs.Keeps.{on-test, Apt, store-sound, insert-sound, cancelled-sound, enter-sound, leave-sound}
-use Rattle.facts.proofs.Plans.{AptPlan}
+use Rattle.model.proofs.Lists.{clash, live-same, live-other, length-snoc, length-but, has-entered}
+use Rattle.model.proofs.Queue.{kept-names}
+use Rattle.model.proofs.Keeps.{on-test, Apt, store-sound, insert-sound, cancelled-sound, enter-sound, leave-sound}
+use Rattle.model.proofs.Plans.{AptPlan}
 
 pub record Near (s u : State) : Type 0 where
   pub box : u .box ≡ s .box

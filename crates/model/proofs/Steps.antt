@@ -9,27 +9,27 @@ use lib.Dec.{T, ltb}
 use lib.ListN.{length, getD, set, drop}
 use lib.Ieee.{Float, binary64, add, le, lt, fits, isNan, ofBits}
 use lib.Ieee.Fits.{add-fits}
 use Rattle.model.specs.declared.Place.{Place}
 use Rattle.model.specs.declared.Event.{Event}
 use Rattle.model.specs.declared.Event.the-variants.{InterParticleCollision, MoveToNeighbour, MoveOutOfCell, WallReflection, Synchronisation}
 use Rattle.halting.specs.Out.{Out, out, next, then, each, pick}
 use Rattle.halting.proofs.Laws.{then-sound, each-sound}
 use Rattle.order.specs.Numbers.{fzero, last}
 use Rattle.order.proofs.Order.{le-lt-trans, lt-irrefl, le-refl}
 use Rattle.order.proofs.Clock.{clock-on, finite-no-nan}
 use Rattle.model.specs.Grid.{cells}
 use Rattle.model.specs.Events.{eventOf, headTime, headPlace, finePlace, insertBy, zeroP}
 use Rattle.model.specs.State.{State, Row, row, grain, home, listed, queue, has, liveAt, requeued, marked}
 use Rattle.model.specs.Acts.{insert, inserted, first, head, taken, queueRow}
 use Rattle.model.specs.Doing.{stepGrain, doSync, syncAt, execute, Stepped, done, halted, Moved, wasSync, finish, headEvent, event, step, Whole, synchronised}
 use Rattle.model.specs.Stepping.{grainOf}
 use Rattle.model.specs.Standing.{Sound, Standing, Named, Held, All, Rising, syncs, one-if}
-use Rattle.facts.proofs.Lists.{clash, live-same, live-other}
-use Rattle.facts.proofs.Queue.{fine-top}
-use Rattle.facts.proofs.Keeps.{on-test, Apt, insert-sound, first-in, root-first, taken-sound, taken-clock, head-held}
-use Rattle.facts.proofs.Plans.{cells-some}
-use Rattle.facts.proofs.Frame.{Near, Frame, Keeps, Goes, near-refl, near-trans, keeps-refl, keeps-on, keeps-goes, syncs-insert, In, in-cell}
-use Rattle.facts.proofs.Schedule.{step-keeps, collision-goes, neighbour-goes, out-goes, wall-goes}
+use Rattle.model.proofs.Lists.{clash, live-same, live-other}
+use Rattle.model.proofs.Queue.{fine-top}
+use Rattle.model.proofs.Keeps.{on-test, Apt, insert-sound, first-in, root-first, taken-sound, taken-clock, head-held}
+use Rattle.model.proofs.Plans.{cells-some}
+use Rattle.model.proofs.Frame.{Near, Frame, Keeps, Goes, near-refl, near-trans, keeps-refl, keeps-on, keeps-goes, syncs-insert, In, in-cell}
+use Rattle.model.proofs.Schedule.{step-keeps, collision-goes, neighbour-goes, out-goes, wall-goes}
 
 -- ---- the synchronisation
 -- what an execution leaves, k synchronisations more if it was done

@@ -23,24 +23,24 @@ use Rattle.scheduler.specs.Standing.{Inverse, Ordered}
 use Rattle.order.proofs.Compare.{lt-irrefl}
 use Rattle.scheduler.proofs.Laws.{time-in, time-out}
 use Rattle.scheduler.proofs.Inverse.{start-inverse}
 use Rattle.model.specs.Grid.{cells}
 use Rattle.model.specs.Events.{headTime, zeroP, eventOf}
 use Rattle.model.specs.FromPToC.{cellsOfGrain}
 use Rattle.model.specs.State.{Row, row, none, State, zeroG, grain, home, listed, queue, heads, liveAt, has, marked}
 use Rattle.model.specs.Acts.{fineGrain, store, insert, enter}
 use Rattle.model.specs.Doing.{scheduleCollision, boundaries, syncAt}
 use Rattle.model.specs.Stepping.{grainOf}
 use Rattle.model.specs.Sizes.{boxOk, countsOk, grainOk, firstBad}
 use Rattle.model.specs.Start.{Begun, empty, clear, goesIn, pairs, syncIn, initCell, begin, refused, started, startedAt, start}
 use Rattle.model.specs.Standing.{All, Once, Numbers, Side, Lists, Queue, Heap, Grain, Sound, Standing, syncs, one-if}
-use Rattle.facts.proofs.Lists.{clash}
-use Rattle.facts.proofs.Queue.{and-l, and-r}
-use Rattle.facts.proofs.Keeps.{on-test, Apt, insert-sound}
-use Rattle.facts.proofs.Plans.{cells-some}
-use Rattle.facts.proofs.Frame.{Near, Frame, Keeps, Goes, near-refl, near-trans, keeps-refl, keeps-on, goes-on, keeps-goes, store-keeps, In, in-frame, in-cell, enter-goes, enter-in}
-use Rattle.facts.proofs.Schedule.{of-sound, then-both, same-clock, collide-keeps, boundaries-keeps}
-use Rattle.facts.proofs.Steps.{Ends, insert-ends}
-use Rattle.facts.proofs.Grid.{cells-max, cells-under}
+use Rattle.model.proofs.Lists.{clash}
+use Rattle.model.proofs.Queue.{and-l, and-r}
+use Rattle.model.proofs.Keeps.{on-test, Apt, insert-sound}
+use Rattle.model.proofs.Plans.{cells-some}
+use Rattle.model.proofs.Frame.{Near, Frame, Keeps, Goes, near-refl, near-trans, keeps-refl, keeps-on, goes-on, keeps-goes, store-keeps, In, in-frame, in-cell, enter-goes, enter-in}
+use Rattle.model.proofs.Schedule.{of-sound, then-both, same-clock, collide-keeps, boundaries-keeps}
+use Rattle.model.proofs.Steps.{Ends, insert-ends}
+use Rattle.model.proofs.Grid.{cells-max, cells-under}
 
 -- ---- the cleared state is sound
 abbrev emptyN : ℕ → Row ℕ

@@ -8,15 +8,15 @@ use lib.Dec.{T, T-not, not-T}
 use lib.ListN.{length, getD, set, drop, replicate, length-replicate, length-append}
 use lib.Ieee.{Float, binary64, le, lt, isNan, fits}
 use lib.Ieee.Scale.{finite}
 use Rattle.model.specs.declared.Place.{Place}
 use Rattle.halting.specs.Out.{pick}
 use Rattle.order.specs.Numbers.{last}
 use Rattle.order.proofs.Order.{le-trans, le-total, lt-left, lt→le}
 use Rattle.order.proofs.Compare.{lt-asym, lt-of-not-le}
 use Rattle.model.specs.Events.{insertBy, keepBy, goneBy, names, eventOf, headTime, finePlace, zeroP}
 use Rattle.model.specs.State.{Row, row}
 use Rattle.model.specs.Standing.{Rising, All, Held, Queue, syncs, one-if}
-use Rattle.facts.proofs.Lists.{clash}
+use Rattle.model.proofs.Lists.{clash}
 
 pub T-of : (b : Bool) → b ≡ true → T b
 T-of b e = subst T (sym e) tt

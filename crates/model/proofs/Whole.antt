@@ -10,22 +10,22 @@ use lib.Dec.{T, leb}
 use lib.ListN.{length, getD, List·getD-eq-default}
 use lib.Ieee.{Float, binary64, ofBits, le, lt, fits}
 use borrow.Author.Tests.{le-leb, lt-leb}
 use Rattle.model.specs.declared.Domain.{Domain}
 use Rattle.model.specs.declared.Place.{Place}
 use Rattle.halting.specs.Out.{pick}
 use Rattle.order.specs.Numbers.{fzero}
 use Rattle.order.proofs.Order.{le-lt-trans}
 use Rattle.model.specs.Grid.{across, cells}
 use Rattle.model.specs.State.{Row, none, State, queue, listed}
 use Rattle.model.specs.Run.{How, spent, Ran, runFrom, plus, goOn, continue, refused}
 use Rattle.model.specs.Standing.{All, Held, Sound, Standing}
 use Rattle.model.specs.Check.{counts, standing, Fitted, sized, halt, refusal, runAll, followBy, followed}
 use Rattle.model.specs.Sizes.{rated}
-use Rattle.facts.proofs.Lists.{clash}
-use Rattle.facts.proofs.Queue.{T-of, of-T, and-l, all-to}
-use Rattle.facts.proofs.Plans.{across-min}
-use Rattle.facts.proofs.Reflect.{Says, says-standing}
-use Rattle.facts.proofs.Runs.{split, count, run-stands}
+use Rattle.model.proofs.Lists.{clash}
+use Rattle.model.proofs.Queue.{T-of, of-T, and-l, all-to}
+use Rattle.model.proofs.Plans.{across-min}
+use Rattle.model.proofs.Reflect.{Says, says-standing}
+use Rattle.model.proofs.Runs.{split, count, run-stands}
 
 -- what stands, passes each check
 pub sound-fitted : (s : State) → Sound s → Fitted s

@@ -13,32 +13,32 @@ use Rattle.root.specs.Root.{rootOf}
 use Rattle.root.specs.declared.Root.{Root}
 use Rattle.root.specs.declared.Root.the-variants as root
 use Rattle.myvec.specs.declared.MyVec.{MyVec}
 use Rattle.model.specs.declared.Contact.{Contact}
 use Rattle.model.specs.declared.Contact.the-variants as contact
 use Rattle.model.specs.declared.Domain.{Domain}
 use Rattle.model.specs.declared.Particle.{Particle}
 use Rattle.model.specs.declared.Event.{Event}
 use Rattle.model.specs.declared.Event.the-variants.{InterParticleCollision, MoveToNeighbour, MoveOutOfCell, WallReflection, Synchronisation}
 use Rattle.model.specs.declared.Pending.{Pending}
 use Rattle.model.specs.declared.Plan.{Plan}
 use Rattle.model.specs.declared.Plan.the-variants.{Nothing, Refused, Due}
 use Rattle.halting.specs.Out.{pick}
 use Rattle.order.specs.Numbers.{fzero, half}
 use Rattle.myvec.specs.Vec.{vsub}
 use Rattle.order.proofs.Order.{lt→le}
 use Rattle.order.proofs.Clock.{clock-on}
 use Rattle.model.specs.Collision.{afterRoot, collide, planned, timeOf, collision, struck}
 use Rattle.model.specs.Grid.{across, cells, cellAt, index, shifted, below, above}
 use Rattle.model.specs.Events.{placeOf, eventOf}
 use Rattle.model.specs.Periodic.{apart}
 use Rattle.model.specs.Stepping.{newPos, due}
 use Rattle.model.specs.State.{has}
 use Rattle.model.specs.Moves.{later, toNeighbour, outOfCell, shut, sideLow, aside, moveDt, gap}
 use Rattle.model.specs.Walls.{wall, noWall, wallVal}
 use Rattle.model.specs.Standing.{Named, one-if}
-use Rattle.facts.proofs.Lists.{clash}
-use Rattle.facts.proofs.Queue.{T-of, of-T}
-use Rattle.facts.proofs.Keeps.{on-test, Apt}
+use Rattle.model.proofs.Lists.{clash}
+use Rattle.model.proofs.Queue.{T-of, of-T}
+use Rattle.model.proofs.Keeps.{on-test, Apt}
 
 -- ---- the grid
 pub across-min : (d : ℕ) (b : Domain) → 3 ≤ across d b

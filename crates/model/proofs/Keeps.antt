@@ -26,13 +26,13 @@ use Rattle.order.proofs.Compare.{lt-asym, lt-irrefl, le-of-not-lt}
 use Rattle.scheduler.proofs.Laws.{time-in}
 use Rattle.scheduler.proofs.Inverse.{updated-inverse, updated-cells}
 use Rattle.scheduler.proofs.Order.{updated-ordered, root-least}
 use Rattle.model.specs.Grid.{cells}
 use Rattle.model.specs.Events.{insertBy, keepBy, goneBy, names, eventOf, headTime, headPlace, finePlace, zeroP}
 use Rattle.model.specs.State.{Row, row, none, State, zeroG, grain, home, listed, queue, heads, liveAt, has, pushed, pulled, requeued, withClock, withGrains}
 use Rattle.model.specs.Acts.{fineGrain, store, insert, inserted, cancelled, cancel, enter, entered, leave, gone, first, head, taken, queueRow}
 use Rattle.model.specs.Standing.{Rising, All, Named, Held, Queue, Once, Numbers, Side, Lists, Heap, Grain, Sound, syncs, one-if}
-use Rattle.facts.proofs.Lists.{clash, set-every, live-same, live-other, eqb-sym, has-entered, has-left, lists-enter, lists-leave}
-use Rattle.facts.proofs.Queue.{T-of, of-T, not-of-T, and-l, and-r, fine-top, fine-finite, fine-real, rising-from, all-to, all-both, all-keep, kept-names, queue-insert, queue-cancel}
+use Rattle.model.proofs.Lists.{clash, set-every, live-same, live-other, eqb-sym, has-entered, has-left, lists-enter, lists-leave}
+use Rattle.model.proofs.Queue.{T-of, of-T, not-of-T, and-l, and-r, fine-top, fine-finite, fine-real, rising-from, all-to, all-both, all-keep, kept-names, queue-insert, queue-cancel}
 
 pub on-test : {A : Type 0} (P : A → Type 0) (b : Bool) (x y : A) → (b ≡ true → P x) → (b ≡ false → P y) → P (pick b x y)
 on-test P true x y f g = f refl

@@ -10,29 +10,29 @@ use lib.Ieee.{Float, binary64, add, le, lt, fits, isNan, ofBits}
 use lib.Ieee.Fits.{add-fits}
 use borrow.Author.Tests.{eqb-true, eq-eqb}
 use Rattle.myvec.specs.declared.MyVec.{MyVec}
 use Rattle.model.specs.declared.Particle.{Particle}
 use Rattle.model.specs.declared.Place.{Place}
 use Rattle.model.specs.declared.Event.{Event}
 use Rattle.model.specs.declared.Event.the-variants.{InterParticleCollision, MoveToNeighbour, MoveOutOfCell, WallReflection, Synchronisation}
 use Rattle.model.specs.Doing as event
 use Rattle.halting.specs.Out.{Out, out, next, then, each, pick, eachOf}
 use Rattle.halting.proofs.Laws.{then-sound, each-sound}
 use Rattle.order.specs.Numbers.{fzero}
 use Rattle.order.proofs.Order.{le-refl}
 use Rattle.order.proofs.Clock.{finite-no-nan, clock-on}
 use Rattle.model.specs.Grid.{cells}
 use Rattle.model.specs.State.{State, Row, grain, home, listed, queue, has}
 use Rattle.model.specs.Acts.{store, insert, put, cancelled, cancel, enter, leave}
 use Rattle.model.specs.Collision.{collision}
 use Rattle.model.specs.Moves.{toNeighbour, outOfCell}
 use Rattle.model.specs.Walls.{wall}
 use Rattle.model.specs.Doing.{others, stepGrain, scheduleCollision, Finder, scheduleBy, boundaries, scheduleWith, scheduleEvents, landed, again, forget, doCollision, doNeighbour, doOut, doWall, doSync, syncAt, execute}
 use Rattle.model.specs.Stepping.{stepped, grainOf}
 use Rattle.model.specs.Standing.{Sound, Named, one-if}
-use Rattle.facts.proofs.Lists.{clash}
-use Rattle.facts.proofs.Keeps.{on-test, Apt, insert-sound}
-use Rattle.facts.proofs.Plans.{AptPlan, collision-apt, toNeighbour-apt, outOfCell-apt, wall-apt}
-use Rattle.facts.proofs.Frame.{Near, Frame, Keeps, Goes, near-refl, near-trans, frame-refl, frame-trans, keeps-refl, keeps-on, goes-on, keeps-goes, store-keeps, put-keeps, cancelled-keeps, cancelled-free, In, in-frame, in-home, in-cell, enter-goes, enter-in, leave-goes}
+use Rattle.model.proofs.Lists.{clash}
+use Rattle.model.proofs.Keeps.{on-test, Apt, insert-sound}
+use Rattle.model.proofs.Plans.{AptPlan, collision-apt, toNeighbour-apt, outOfCell-apt, wall-apt}
+use Rattle.model.proofs.Frame.{Near, Frame, Keeps, Goes, near-refl, near-trans, frame-refl, frame-trans, keeps-refl, keeps-on, goes-on, keeps-goes, store-keeps, put-keeps, cancelled-keeps, cancelled-free, In, in-frame, in-home, in-cell, enter-goes, enter-in, leave-goes}
 
 -- ---- loops over a list, and an act whose second part needs the first to be done
 pub of-sound : {S : Type 0} (P : S → Type 0) (act : ℕ → S → Out S) (xs : List ℕ) → ((x : ℕ) (s : S) → has x xs ≡ true → P s → P ((act x s) .st)) → (s : S) → P s → P ((eachOf act xs s) .st)

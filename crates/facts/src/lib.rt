@@ -1,1 +1,0 @@
-// No code: the theorems on document 01's definitions are in proofs/.
