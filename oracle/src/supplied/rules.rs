@@ -1,0 +1,13 @@
+// Document 01's rules that replace functions of the published text (the `ruled` tree uses them).
+use super::cell::CellPosition;
+
+/// Periodic correction: in an edge cell, what lies beyond half the length comes back by one length.
+pub fn correct_periodicity(dpos: f64, length: f64, cell_position: &CellPosition) -> f64 {
+    let half = length / 2.;
+    match cell_position {
+        CellPosition::Centre => dpos,
+        _ if dpos < -half => dpos + length,
+        _ if dpos > half => dpos - length,
+        _ => dpos,
+    }
+}
