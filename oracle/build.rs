@@ -27,24 +27,21 @@ const FILES: &[(&str, &[Patch])] = &[
     ("simulator/cell.rs", &[]),
     (
         "simulator/particle.rs",
-        &[
-            ("use crate::random::Random;", ""),
-            ("\nfn from_p_to_c(", "\npub fn from_p_to_c("),
-        ],
+        &[("use crate::random::Random;", ""), ("\nfn from_p_to_c(", "\npub fn from_p_to_c(")],
     ),
     (
         "simulator/scheduler.rs",
-        &[
-            ("\n    heap: Vec<", "\n    pub heap: Vec<"),
-            ("\n    lookups: Vec<", "\n    pub lookups: Vec<"),
-        ],
+        &[("\n    heap: Vec<", "\n    pub heap: Vec<"), ("\n    lookups: Vec<", "\n    pub lookups: Vec<")],
     ),
     (
         "simulator/event.rs",
         &[
             ("\nmod util;", "\npub mod util;"),
             // one event for each call, instead of all up to a synchronisation
-            ("break time;\n            }\n        }\n", "break time;\n            }\n        }\n        break time;\n"),
+            (
+                "break time;\n            }\n        }\n",
+                "break time;\n            }\n        }\n        break time;\n",
+            ),
         ],
     ),
     ("simulator/event/util.rs", &[]),

@@ -20,14 +20,12 @@ pub fn random_start(r: &mut Random) -> Start {
     };
     let mut start = Start { lengths, periodic, rate: random_rate(r), room, grains: Vec::new() };
     let count = count(r, lengths);
-    let place = r.below(6);
-    let speed = r.below(7);
+    let styles = random_styles(r);
     for n in 0..count {
-        let other = r.once_in(10);
-        let place = if other { r.below(6) } else { place };
-        let speed = if other { r.below(7) } else { speed };
-        let [x, y] = [0, 1].map(|dim| coordinate(r, &start, n, dim, place));
-        let [vx, vy] = [velocity(r, speed), velocity(r, speed)];
+        let other = random_styles(r);
+        let styles = if r.once_in(10) { other } else { styles };
+        let [x, y] = [0, 1].map(|dim| coordinate(r, &start, n, dim, styles[dim].0));
+        let [vx, vy] = [0, 1].map(|dim| velocity(r, styles[dim].1));
         let val = match r.below(4) {
             0 => r.pick(&[0., 1., 0.5, -0.]),
             _ => r.between(0., 1.),
@@ -35,6 +33,13 @@ pub fn random_start(r: &mut Random) -> Start {
         start.grains.push([x, y, vx, vy, val]);
     }
     start
+}
+
+/// How positions and velocities are drawn, in each direction; half of the time alike in both.
+fn random_styles(r: &mut Random) -> [(u64, u64); 2] {
+    let first = (r.below(6), r.below(7));
+    let second = (r.below(6), r.below(7));
+    [first, if r.once_in(2) { first } else { second }]
 }
 
 /// A rate within document 01's range, its ends included.

@@ -79,9 +79,8 @@ fn grains_not_ahead(s: &State) -> bool {
 }
 
 fn heap_inverse(s: &State) -> bool {
-    (0..s.members.len()).all(|i| {
-        s.look[s.heap[i] as usize] == i as u64 && s.heap[s.look[i] as usize] == i as u64
-    })
+    (0..s.members.len())
+        .all(|i| s.look[s.heap[i] as usize] == i as u64 && s.heap[s.look[i] as usize] == i as u64)
 }
 
 fn heap_ordered(s: &State) -> bool {

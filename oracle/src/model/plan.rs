@@ -43,9 +43,8 @@ pub fn contact(dpos: [f64; 2], dvel: [f64; 2]) -> Result<Option<f64>, u64> {
 pub fn collision(s: &State, cell: usize, p: u64, q: u64) -> Plan {
     let edges = [0, 1].map(|dim| span(s.lengths, cell, dim).edge);
     let (g, h) = (s.grains[p as usize], s.grains[q as usize]);
-    let apart = |from: [f64; 2], to: [f64; 2]| {
-        by_component(|i| corrected(to[i] - from[i], s.lengths[i], edges[i]))
-    };
+    let apart =
+        |from: [f64; 2], to: [f64; 2]| by_component(|i| corrected(to[i] - from[i], s.lengths[i], edges[i]));
     let dvel = by_component(|i| h.vel[i] - g.vel[i]);
     let Some(dt) = contact(apart(g.pos, h.pos), dvel)? else {
         return Ok(None);

@@ -40,8 +40,7 @@ pub fn counts_in_range(grains: usize, cells: usize, room: u64) -> bool {
 /// If a grain's start numbers x, y, vx, vy, val are in range.
 fn accepted(lengths: [f64; 2], periodic: [bool; 2], grain: &[f64; 5]) -> bool {
     let inside = |dim: usize| {
-        let (low, high) =
-            if periodic[dim] { (0., lengths[dim]) } else { (0.5, lengths[dim] - 0.5) };
+        let (low, high) = if periodic[dim] { (0., lengths[dim]) } else { (0.5, lengths[dim] - 0.5) };
         low <= grain[dim] && grain[dim] <= high
     };
     let speed = |v: f64| (-1024. ..=1024.).contains(&v);
