@@ -36,7 +36,11 @@ const FILES: &[(&str, &[Patch])] = &[
     (
         "simulator/event.rs",
         &[
-            ("\nmod util;", "\npub mod util;"),
+            ("mod inter_particle_collision;", "pub mod inter_particle_collision;"),
+            ("mod move_out_of_cell;", "pub mod move_out_of_cell;"),
+            ("mod move_to_neighbour;", "pub mod move_to_neighbour;"),
+            ("mod util;", "pub mod util;"),
+            ("mod wall_reflection;", "pub mod wall_reflection;"),
             // one event for each call, instead of all up to a synchronisation
             (
                 "break time;\n            }\n        }\n",

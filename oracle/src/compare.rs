@@ -1,10 +1,13 @@
 // `oracle compare`: the Rust with document 01's rules against the model, whole state after every event.
-// Beside it: the standing facts after every event, the split of a budget, cleared places, and how often
-// the text as published goes another way inside the domain.
+// Beside it: the standing facts after every event, the split of a budget, cleared places, mutated states,
+// and how often the text as published goes another way inside the domain.
+use crate::crafted::known_starts;
 use crate::domain::equal_times;
+use crate::leaves::compare_leaves;
 use crate::model::facts::broken;
 use crate::model::run::{Report, Started, Told};
 use crate::model::state::State;
+use crate::mutate::{try_mutated, Mutations};
 use crate::random::Random;
 use crate::rust::{AsPublished, Published, WithRules};
 use crate::starts::{random_rate, random_start};
@@ -12,6 +15,9 @@ use crate::text::Start;
 use crate::words::{held, seen, spare_clear};
 use std::collections::BTreeMap;
 use std::time::{Duration, Instant};
+
+/// Random single schedulings, steppings and lookups compared before the runs.
+const LEAVES: u64 = 20_000;
 
 #[derive(Default)]
 struct Figures {
@@ -23,6 +29,7 @@ struct Figures {
     published_runs: u64,
     published_events: u64,
     published_differs: u64,
+    mutations: Mutations,
     mismatches: u64,
 }
 
@@ -42,18 +49,27 @@ impl Figures {
 pub fn compare(seed: u64, seconds: u64) -> bool {
     let mut random = Random(seed);
     let mut figures = Figures::default();
+    figures.mismatches += compare_leaves(&mut random, LEAVES);
+    for start in known_starts() {
+        figures.starts += 1;
+        try_start(&start, &mut random, &mut figures);
+    }
     let end = Instant::now() + Duration::from_secs(seconds);
     while Instant::now() < end {
         let start = random_start(&mut random);
         figures.starts += 1;
-        match start.model() {
-            Started::Refused(number, _) => figures.cause(format!("refused at start by {number}")),
-            Started::Done(s) if s.mark != 0 => figures.cause(format!("halted at start by {}", s.mark)),
-            Started::Done(s) => one_run(&start, *s, &mut random, &mut figures),
-        }
+        try_start(&start, &mut random, &mut figures);
     }
     print_figures(&figures, seed);
     figures.mismatches == 0
+}
+
+fn try_start(start: &Start, random: &mut Random, figures: &mut Figures) {
+    match start.model() {
+        Started::Refused(number, _) => figures.cause(format!("refused at start by {number}")),
+        Started::Done(s) if s.mark != 0 => figures.cause(format!("halted at start by {}", s.mark)),
+        Started::Done(s) => one_run(start, *s, random, figures),
+    }
 }
 
 /// The text as published beside a run, until it goes another way or the domain is left.
@@ -74,7 +90,7 @@ impl Beside {
 
 fn one_run(start: &Start, mut model: State, random: &mut Random, figures: &mut Figures) {
     let mut rust = WithRules::start(start);
-    let mut beside = Beside(random.once_in(4).then(|| AsPublished::start(start)));
+    let mut beside = Beside((start.grains.len() < 3 || random.once_in(4)).then(|| AsPublished::start(start)));
     figures.published_runs += u64::from(beside.0.is_some());
     let mut rate = start.rate;
     let limit = random.pick(&[40, 200, 1000, 3000]);
@@ -108,6 +124,11 @@ fn one_run(start: &Start, mut model: State, random: &mut Random, figures: &mut F
             figures.splits += 1;
             if !split_agrees(&model, random) {
                 return figures.mismatch("a run of j+k is not a run of j and one of k", start, events);
+            }
+        }
+        if random.once_in(100) {
+            if let Some(what) = try_mutated(&model, random, &mut figures.mutations) {
+                return figures.mismatch(what, start, events);
             }
         }
         let clock = model.clock;
@@ -160,7 +181,9 @@ fn split_agrees(state: &State, random: &mut Random) -> bool {
 fn print_figures(f: &Figures, seed: u64) {
     println!("seed {seed}: {} starts", f.starts);
     println!("states compared, one after each event: {} ({} inside the domain)", f.events, f.inside);
-    println!("budgets split: {}", f.splits);
+    println!("leaves compared: {LEAVES} of each kind; budgets split: {}", f.splits);
+    let Mutations { refused, ran, events } = f.mutations;
+    println!("mutated states: {refused} refused with nothing changed, {ran} run for {events} events");
     for (cause, runs) in &f.causes {
         println!("  runs {cause}: {runs}");
     }

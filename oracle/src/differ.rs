@@ -59,7 +59,8 @@ fn squares() -> bool {
     let mut random = Random(9);
     let other = (0..5_000_000).filter(|_| {
         let x = black_box(f64::from_bits(random.bits()));
-        !x.is_nan() && black_box(x.powi(black_box(2))).to_bits() != (x * x).to_bits()
+        let [written, called] = [x.powi(2), x.powi(black_box(2))].map(f64::to_bits);
+        !x.is_nan() && (written != (x * x).to_bits() || called != (x * x).to_bits())
     });
     let other = other.count();
     told(other == 0, format!("powi(2) against x*x: {other} of 5,000,000 differ"))

@@ -4,11 +4,15 @@ mod crafted;
 mod differ;
 mod domain;
 mod dumps;
+mod leaves;
 mod model;
+mod mutate;
 mod random;
 mod rust;
 mod starts;
 mod text;
+mod vectors;
+mod walk;
 mod words;
 
 include!(concat!(env!("OUT_DIR"), "/trees.rs"));
@@ -18,7 +22,8 @@ const USAGE: &str = "usage:
   oracle compare [SEED [SECONDS]]                the Rust with document 01's rules against the model
   oracle refusals                                crafted inputs for every refusal, by the model
   oracle differ                                  what docs/DIFFERENCES.md says, by running it
-  oracle lost                                    the grain that the text as published loses";
+  oracle lost                                    the grain that the text as published loses
+  oracle vectors FOLDER                          files for other programs to replay";
 
 fn main() {
     let arguments: Vec<String> = std::env::args().skip(1).collect();
@@ -28,6 +33,7 @@ fn main() {
         ["compare", ref rest @ ..] if rest.len() < 3 => compare(rest),
         ["refusals"] => passed(crafted::refusals()),
         ["differ"] => passed(differ::differ()),
+        ["vectors", folder] => vectors::vectors(folder),
         ["lost"] => passed(differ::lost()),
         _ => Err(USAGE.into()),
     };

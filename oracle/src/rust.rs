@@ -1,5 +1,6 @@
 // The published Rust as the oracle sees it, whichever of the two trees it comes from.
-use crate::model::state::State;
+use crate::leaves::Leaf;
+use crate::model::state::{Place, State};
 use crate::text::Start;
 
 pub trait Published {
@@ -13,6 +14,12 @@ pub trait Published {
     fn correction(dpos: f64, length: f64) -> f64;
     /// Its product of two vectors.
     fn product(a: [f64; 2], b: [f64; 2]) -> f64;
+    /// What one scheduling finds; collisions are of grains 0 and 1, all else of grain 0.
+    fn planned(leaf: &Leaf, kind: u64, dim: usize) -> Option<Place>;
+    /// A position stepped by dt.
+    fn stepped(lengths: [f64; 2], pos: [f64; 2], vel: [f64; 2], dt: f64) -> [f64; 2];
+    /// The cells that a position touches.
+    fn cells_touched(lengths: [f64; 2], pos: [f64; 2]) -> Vec<usize>;
 }
 
 /// The text with its own rules, and with document 01's.

@@ -4,11 +4,16 @@ use std::cell::RefCell;
 use std::rc::Rc;
 
 use super::super::myvec::MyVec;
-use super::cell::Cell;
+use super::cell::{init_cells, Cell};
+use super::event::inter_particle_collision::InterParticleCollision;
+use super::event::move_out_of_cell::MoveOutOfCell;
+use super::event::move_to_neighbour::MoveToNeighbour;
 use super::event::util::correct_periodicity;
+use super::event::wall_reflection::WallReflection;
 use super::event::{Event, EventType};
 use super::particle::{from_p_to_c, Particle, RADIUS};
 use super::{Domain, Simulator, NDIMS};
+use crate::leaves::Leaf;
 use crate::model::state::{Grain, Place, Row, State, COLLISION, NEIGHBOUR, OUT, SYNC, WALL};
 use crate::rust::Published;
 use crate::text::Start;
@@ -78,6 +83,34 @@ impl Published for Simulator {
 
     fn product(a: [f64; 2], b: [f64; 2]) -> f64 {
         MyVec::new(a) * MyVec::new(b)
+    }
+
+    fn planned(leaf: &Leaf, kind: u64, dim: usize) -> Option<Place> {
+        let domain = Domain { lengths: leaf.lengths, periodicities: leaf.periodic };
+        let (_, cells) = init_cells(&domain);
+        let (cell, time) = (&cells[leaf.cell], leaf.clock);
+        let grain = |index: usize| {
+            let [x, y, vx, vy, val] = leaf.grains[index];
+            let (pos, vel) = (MyVec::new([x, y]), MyVec::new([vx, vy]));
+            Rc::new(RefCell::new(Particle { index, rad: RADIUS, pos, vel, time, cells: Vec::new(), val }))
+        };
+        let event = match kind {
+            COLLISION => InterParticleCollision::schedule(&domain, time, cell, &grain(0), &grain(1)),
+            NEIGHBOUR => MoveToNeighbour::schedule(&domain, time, cell, dim, &grain(0)),
+            OUT => MoveOutOfCell::schedule(&domain, time, cell, dim, &grain(0)),
+            _ => WallReflection::schedule(&domain, time, cell, dim, &grain(0)),
+        };
+        event.as_ref().map(place)
+    }
+
+    fn stepped(lengths: [f64; 2], pos: [f64; 2], vel: [f64; 2], dt: f64) -> [f64; 2] {
+        let domain = Domain { lengths, periodicities: [true; NDIMS] };
+        pair(Particle::get_new_pos(&domain, MyVec::new(pos), MyVec::new(vel), dt))
+    }
+
+    fn cells_touched(lengths: [f64; 2], pos: [f64; 2]) -> Vec<usize> {
+        let (ncells, _) = init_cells(&Domain { lengths, periodicities: [true; NDIMS] });
+        from_p_to_c(&lengths, &ncells, RADIUS, &MyVec::new(pos))
     }
 }
 
