@@ -30,7 +30,7 @@ pub fn equal_times(s: &State) -> Option<Cause> {
 pub struct Watch {
     pub state: Box<State>,
     pub events: u64,
-    /// After which event the domain was left, and why; 0 is the start.
+    /// At which event the domain was left, and why; 0 is the start.
     pub left: Option<(u64, Cause)>,
 }
 

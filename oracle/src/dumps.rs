@@ -19,10 +19,15 @@ pub fn dumps(of: &str, wanted: &[u64], text: &str) -> Result<(), String> {
     Ok(())
 }
 
+/// Where the domain was left, if it was, and where the model halted, if that was later.
 fn tell(watch: &Watch) {
+    let events = watch.events;
     match watch.left {
-        Some((events, cause)) => eprintln!("left the domain after event {events}: {cause}"),
-        None => eprintln!("inside the domain up to event {}", watch.events),
+        Some((at, cause)) => eprintln!("left the domain at event {at}: {cause}"),
+        None => eprintln!("inside the domain up to event {events}"),
+    }
+    if watch.halted() && watch.left.is_some_and(|(at, _)| at < events) {
+        eprintln!("document 01 halts at event {events}: refusal {}", watch.state.mark);
     }
 }
 
@@ -42,16 +47,20 @@ fn of_model(mut watch: Watch, start: &Start, wanted: &[u64]) {
 
 /// The Rust's dumps. It has no refusals and goes on where the model halts, unless it panics.
 fn of_rust<S: Published>(mut watch: Watch, start: &Start, wanted: &[u64]) {
-    let mut rust = S::start(start);
+    std::panic::set_hook(Box::new(|_| {}));
+    let Ok(mut rust) = catch_unwind(|| S::start(start)) else {
+        eprintln!("the Rust panics at the start");
+        return tell(&watch);
+    };
     let mut done = 0;
     for &events in wanted {
         while done < events {
             watch.step(start.rate);
+            done += 1;
             if catch_unwind(AssertUnwindSafe(|| rust.step(start.rate))).is_err() {
-                eprintln!("the Rust panicked in event {}", done + 1);
+                eprintln!("the Rust panics in event {done}");
                 return tell(&watch);
             }
-            done += 1;
         }
         print!("{}", dump(&rust.picture()));
     }

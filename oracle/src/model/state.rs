@@ -103,7 +103,7 @@ impl<T: Clone + Default> Row<T> {
     }
 }
 
-#[derive(Clone)]
+#[derive(Clone, Default)]
 pub struct State {
     pub lengths: [f64; 2],
     /// 1 where the direction is periodic, 0 where it is wall-bounded.
@@ -125,19 +125,7 @@ pub struct State {
 impl State {
     /// A box with nothing in it, not even cells.
     pub fn empty(lengths: [f64; 2], periodic: [u64; 2]) -> State {
-        State {
-            lengths,
-            periodic,
-            clock: 0.,
-            mark: 0,
-            room: 0,
-            grains: Vec::new(),
-            homes: Vec::new(),
-            members: Vec::new(),
-            queues: Vec::new(),
-            heap: Vec::new(),
-            look: Vec::new(),
-        }
+        State { lengths, periodic, ..State::default() }
     }
 
     pub fn is_periodic(&self, dim: usize) -> bool {
