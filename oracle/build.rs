@@ -52,8 +52,8 @@ const FILES: &[(&str, &[Patch])] = &[
     (
         "simulator/event/synchronisation.rs",
         &[(
-            "crate::simulator::particle::{find_minimum_distance, Particle}",
-            "crate::simulator::{bridge::find_minimum_distance, particle::Particle}",
+            "particle::{find_minimum_distance, Particle}",
+            "{bridge::find_minimum_distance, particle::Particle}",
         )],
     ),
     (
@@ -112,10 +112,7 @@ const RULES: &[(&str, &[Patch])] = &[
     // an event goes in after every one that is not later
     (
         "simulator/event.rs",
-        &[(
-            "events.binary_search_by(|event| event.time.partial_cmp(&new_event.time).unwrap())",
-            "Err::<usize, usize>(events.partition_point(|event| event.time <= new_event.time))",
-        )],
+        &[("events.binary_search_by(", "crate::simulator::rules::after_all_not_later(&events, ")],
     ),
 ];
 

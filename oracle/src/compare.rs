@@ -105,13 +105,13 @@ fn one_run(start: &Start, mut model: State, random: &mut Random, figures: &mut F
         if let Some(fact) = broken(&model) {
             return figures.mismatch(&format!("standing fact broken ({fact})"), start, events);
         }
-        figures.events += 1;
+        figures.events += u64::from(events > 0);
         if inside && equal_times(&model).is_some() {
             figures.cause("left the domain by equal times (compared further)".into());
             inside = false;
             beside.0 = None;
         }
-        figures.inside += u64::from(inside);
+        figures.inside += u64::from(inside && events > 0);
         beside.look(&ours, &mut theirs, figures);
         if events == limit {
             figures.cause(format!("ended after its {limit} events"));
@@ -180,7 +180,7 @@ fn split_agrees(state: &State, random: &mut Random) -> bool {
 
 fn print_figures(f: &Figures, seed: u64) {
     println!("seed {seed}: {} starts", f.starts);
-    println!("states compared, one after each event: {} ({} inside the domain)", f.events, f.inside);
+    println!("events compared, whole state after each: {} ({} inside the domain)", f.events, f.inside);
     println!("leaves compared: {LEAVES} of each kind; budgets split: {}", f.splits);
     let Mutations { refused, ran, events } = f.mutations;
     println!("mutated states: {refused} refused with nothing changed, {ran} run for {events} events");

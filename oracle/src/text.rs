@@ -1,4 +1,17 @@
-// The start text and the dump, as the dump format lays them down.
+// The start text and the dump. ASCII, lines ended by LF, a float as 16 upper-case hex digits of its bits.
+//
+// Start text: `L0 L1 P0 P1 RATE ROOM N`, then N lines `X Y VX VY VAL`.
+// Dump (floats of one record run together):
+//   clock CLOCK mark MARK
+//   g I X..VAL : C C ..      each grain: x y vx vy time val, and its cells
+//   c I : G G ..             each cell: its grains; below it its events, in order:
+//   e TIME S                 synchronisation
+//   e TIME C P Q F           collision: positions of p and q, velocities, the mean value twice
+//   e TIME N P CELL F        into CELL, position
+//   e TIME O P CELL F        out of CELL, position
+//   e TIME W P F             wall: position, velocity, value
+//   heap : C C ..            as many places as cells
+//   look : N N ..
 use crate::model::run::{start, Started};
 use crate::model::state::{State, COLLISION, NEIGHBOUR, OUT, SYNC, WALL};
 use std::fmt::Write;
