@@ -127,7 +127,7 @@ fn main() {
     for name in ["published", "ruled"] {
         let path = out.join(name).join("mod.rs");
         index += &format!(
-            "#[allow(dead_code, unused_imports, unused_mut, unused_variables)]\n#[path = {:?}]\npub mod {name};\n",
+            "#[allow(clippy::all, dead_code, unused_imports, unused_mut, unused_variables)]\n#[path = {:?}]\npub mod {name};\n",
             path.display().to_string()
         );
     }

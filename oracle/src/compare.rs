@@ -27,7 +27,7 @@ struct Figures {
     splits: u64,
     causes: BTreeMap<String, u64>,
     published_runs: u64,
-    published_events: u64,
+    published_states: u64,
     published_differs: u64,
     mutations: Mutations,
     mismatches: u64,
@@ -36,6 +36,12 @@ struct Figures {
 impl Figures {
     fn cause(&mut self, name: String) {
         *self.causes.entry(name).or_default() += 1;
+    }
+
+    /// Counts an event that was done by the model and the Rust.
+    fn count(&mut self, run: &Run) {
+        self.events += 1;
+        self.inside += u64::from(run.inside);
     }
 
     fn mismatch(&mut self, what: &str, start: &Start, events: u64) {
@@ -72,80 +78,109 @@ fn try_start(start: &Start, random: &mut Random, figures: &mut Figures) {
     }
 }
 
-/// The text as published beside a run, until it goes another way or the domain is left.
-struct Beside(Option<AsPublished>);
+/// One run under comparison.
+struct Run {
+    model: State,
+    rust: WithRules,
+    /// The text as published, until it goes another way or the domain is left.
+    published: Option<AsPublished>,
+    inside: bool,
+    rate: f64,
+    /// The clock before the last event.
+    clock: f64,
+    /// The two states as words.
+    ours: Vec<u64>,
+    theirs: Vec<u64>,
+}
 
-impl Beside {
-    fn look(&mut self, model_words: &[u64], words: &mut Vec<u64>, figures: &mut Figures) {
-        let Some(rust) = &self.0 else { return };
-        seen(&rust.picture(), words);
-        if words.as_slice() != model_words {
-            figures.published_differs += 1;
-            self.0 = None;
-        } else {
-            figures.published_events += 1;
+fn one_run(start: &Start, model: State, random: &mut Random, figures: &mut Figures) {
+    let beside = start.grains.len() < 3 || random.once_in(4);
+    let mut run = Run {
+        model,
+        rust: WithRules::start(start),
+        published: beside.then(|| AsPublished::start(start)),
+        inside: true,
+        rate: start.rate,
+        clock: 0.,
+        ours: Vec::new(),
+        theirs: Vec::new(),
+    };
+    figures.published_runs += u64::from(beside);
+    let limit = random.pick(&[40, 200, 1000, 3000]);
+    for events in 0..=limit {
+        if let Some(what) = run.differs(figures).or_else(|| run.tried(random, figures)) {
+            return figures.mismatch(&what, start, events);
+        }
+        if events == limit {
+            return figures.cause(format!("ended after its {limit} events"));
+        }
+        match run.step() {
+            Ok(()) => figures.count(&run),
+            Err(number) => return figures.cause(format!("halted in a run by {number}")),
         }
     }
 }
 
-fn one_run(start: &Start, mut model: State, random: &mut Random, figures: &mut Figures) {
-    let mut rust = WithRules::start(start);
-    let mut beside = Beside((start.grains.len() < 3 || random.once_in(4)).then(|| AsPublished::start(start)));
-    figures.published_runs += u64::from(beside.0.is_some());
-    let mut rate = start.rate;
-    let limit = random.pick(&[40, 200, 1000, 3000]);
-    let (mut ours, mut theirs) = (Vec::new(), Vec::new());
-    let mut inside = true;
-    for events in 0.. {
-        seen(&model, &mut ours);
-        seen(&rust.picture(), &mut theirs);
-        if ours != theirs {
-            return figures.mismatch("the Rust with 01's rules and the model differ", start, events);
+impl Run {
+    /// One event in all that are still compared.
+    fn step(&mut self) -> Result<(), u64> {
+        self.clock = self.model.clock;
+        self.model.step(self.rate)?;
+        self.rust.step(self.rate);
+        if let Some(published) = &mut self.published {
+            published.step(self.rate);
         }
-        if let Some(fact) = broken(&model) {
-            return figures.mismatch(&format!("standing fact broken ({fact})"), start, events);
+        Ok(())
+    }
+
+    /// What is wrong with the state as it stands, if anything is.
+    fn differs(&mut self, figures: &mut Figures) -> Option<String> {
+        seen(&self.model, &mut self.ours);
+        seen(&self.rust.picture(), &mut self.theirs);
+        if self.ours != self.theirs {
+            return Some("the Rust with 01's rules and the model differ".into());
         }
-        figures.events += u64::from(events > 0);
-        if inside && equal_times(&model).is_some() {
+        if let Some(fact) = broken(&self.model) {
+            return Some(format!("standing fact broken ({fact})"));
+        }
+        if self.model.clock < self.clock {
+            return Some("the clock went back".into());
+        }
+        if self.inside && equal_times(&self.model).is_some() {
             figures.cause("left the domain by equal times (compared further)".into());
-            inside = false;
-            beside.0 = None;
+            self.inside = false;
+            self.published = None;
         }
-        figures.inside += u64::from(inside && events > 0);
-        beside.look(&ours, &mut theirs, figures);
-        if events == limit {
-            figures.cause(format!("ended after its {limit} events"));
-            break;
+        if let Some(published) = &self.published {
+            seen(&published.picture(), &mut self.theirs);
+            if self.ours == self.theirs {
+                figures.published_states += 1;
+            } else {
+                figures.published_differs += 1;
+                self.published = None;
+            }
         }
+        None
+    }
+
+    /// Now and then another rate, a split budget, a mutated state, a look at the unused places.
+    fn tried(&mut self, random: &mut Random, figures: &mut Figures) -> Option<String> {
         if random.once_in(40) {
-            rate = random_rate(random);
+            self.rate = random_rate(random);
         }
         if random.once_in(150) {
             figures.splits += 1;
-            if !split_agrees(&model, random) {
-                return figures.mismatch("a run of j+k is not a run of j and one of k", start, events);
+            if !split_agrees(&self.model, random) {
+                return Some("a run of j+k is not a run of j and one of k".into());
             }
+        }
+        if random.once_in(30) && !spare_clear(&self.model) {
+            return Some("a place given up is not cleared".into());
         }
         if random.once_in(100) {
-            if let Some(what) = try_mutated(&model, random, &mut figures.mutations) {
-                return figures.mismatch(what, start, events);
-            }
+            return try_mutated(&self.model, random, &mut figures.mutations).map(String::from);
         }
-        let clock = model.clock;
-        if let Err(number) = model.step(rate) {
-            figures.cause(format!("halted in a run by {number}"));
-            break;
-        }
-        if model.clock < clock {
-            return figures.mismatch("the clock went back", start, events + 1);
-        }
-        rust.step(rate);
-        if let Some(published) = &mut beside.0 {
-            published.step(rate);
-        }
-    }
-    if !spare_clear(&model) {
-        figures.mismatch("a place given up is not cleared", start, limit);
+        None
     }
 }
 
@@ -189,7 +224,7 @@ fn print_figures(f: &Figures, seed: u64) {
     }
     println!(
         "as published: {} runs, {} states equal inside the domain, {} runs went another way",
-        f.published_runs, f.published_events, f.published_differs
+        f.published_runs, f.published_states, f.published_differs
     );
     println!("mismatches: {}", f.mismatches);
 }

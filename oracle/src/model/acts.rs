@@ -63,7 +63,7 @@ impl State {
 
     /// Inserts an event after every one that is not later: 5 before 6.
     pub fn insert(&mut self, cell: usize, event: Place) -> Act {
-        if !finite(&event.floats()) || !(event.time.is_finite() && event.time < f64::MAX) {
+        if !(finite(&event.floats()) && event.time.is_finite() && event.time < f64::MAX) {
             return Err(5);
         }
         if self.queues[cell].full() {

@@ -2,9 +2,11 @@
 use super::grid::cells_along;
 use super::state::{Place, Row, State, COLLISION, NEIGHBOUR, OUT, SYNC, WALL};
 
-/// The first standing fact that a state breaks, if any.
+type Fact = (fn(&State) -> bool, &'static str);
+
+/// The first standing fact that a state breaks, if any. The later tests lean on the earlier ones.
 pub fn broken(s: &State) -> Option<&'static str> {
-    let tests: [(fn(&State) -> bool, &str); 12] = [
+    let facts: [Fact; 13] = [
         (no_mark, "no mark"),
         (box_in_range, "box lengths and flags in range"),
         (cells_of_box, "cells as the box gives them"),
@@ -17,13 +19,9 @@ pub fn broken(s: &State) -> Option<&'static str> {
         (heap_ordered, "no child earlier than its parent"),
         (one_synchronisation, "one synchronisation, in cell 0"),
         (lists_agree, "cells and grains list each other, once each; each grain in some cell"),
+        (events_named, "events name grains that their cell lists"),
     ];
-    for (holds, name) in tests {
-        if !holds(s) {
-            return Some(name);
-        }
-    }
-    (!events_named(s)).then_some("events name grains that their cell lists")
+    facts.iter().find(|(holds, _)| !holds(s)).map(|(_, name)| *name)
 }
 
 fn no_mark(s: &State) -> bool {
