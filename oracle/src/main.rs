@@ -5,6 +5,7 @@ mod differ;
 mod domain;
 mod dumps;
 mod leaves;
+mod lost;
 mod model;
 mod mutate;
 mod random;
@@ -34,7 +35,7 @@ fn main() {
         ["refusals"] => passed(crafted::refusals()),
         ["differ"] => passed(differ::differ()),
         ["vectors", folder] => vectors::vectors(folder),
-        ["lost"] => passed(differ::lost()),
+        ["lost"] => passed(lost::lost()),
         _ => Err(USAGE.into()),
     };
     if let Err(message) = done {
