@@ -21,14 +21,14 @@ fn told(holds: bool, what: String) -> bool {
 
 /// The product of two vectors starts from zero in the text, from the first term in 01.
 fn product() -> bool {
-    let (u, v) = ([-0., -0.], [1., 1.]);
-    let (theirs, ours) = (AsPublished::product(u, v), WithRules::product(u, v));
+    let (dvel, normal) = ([-1., -0.], [0., 1.]);
+    let (theirs, ours) = (AsPublished::product(dvel, normal), WithRules::product(dvel, normal));
     let differ = theirs.to_bits() == 0 && ours.to_bits() == 1 << 63;
-    let one = told(differ, format!("product of (-0, -0) and (1, 1): published {theirs:?}, 01 {ours:?}"));
-    // a grazing contact whose two products are -0: the sum's sign reaches no stored number
-    let start = Start::small([true, true], 64, &[grain(2., 4., 0., 0.), grain(5., 5., -1., -0.)]);
+    let one = told(differ, format!("product of (-1, -0) and (0, 1): published {theirs:?}, 01 {ours:?}"));
+    // a grazing contact with just these two: the sign of the sum reaches no stored number
+    let start = Start::small([true, true], 64, &[grain(2., 4., 1., 0.), grain(5., 5., 0., -0.)]);
     let same = first_difference(&start, 12).is_none();
-    one & told(same, "a grazing contact with both products -0: all states equal".into())
+    one & told(same, "a grazing contact with this product: all states equal".into())
 }
 
 /// Candidates of least magnitude in the text, half the length in 01: apart only at exactly +length/2.
