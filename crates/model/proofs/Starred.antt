@@ -10,13 +10,15 @@ use lib.ListN.{length}
 use lib.Count.{leadingZeros}
 use lib.Ieee.{Float, nan, inf, fin, binary64, ofBits, toBits, round, add, sub, mul, div, neg, lt, le, eq, ofInt, toUnsigned}
 use lib.Ieee.Fits.{and-l, and-r}
-use Rattle.order.specs.Numbers.{fzero, half, one, nine}
+use Rattle.order.specs.Numbers.{fzero, half, one, two, nine}
 use Rattle.root.specs.Isqrt.{near, root}
 use Rattle.root.specs.Root.{rootOf, sqrtOf}
 use Rattle.myvec.specs.declared.MyVec.{MyVec}
 use Rattle.myvec.specs.Vec.{vec}
 use Rattle.model.specs.declared.Domain.{Domain}
 use Rattle.model.specs.declared.Particle.{Particle}
+use Rattle.model.specs.declared.Place.{Place}
+use Rattle.model.specs.declared.Event.the-variants.{MoveOutOfCell}
 use Rattle.model.specs.declared.Contact.{Contact}
 use Rattle.model.specs.declared.Contact.the-variants.{Never, After, Refused}
 use Rattle.model.specs.declared.Plan.{Plan}
@@ -27,6 +29,7 @@ use Rattle.model.specs.FromPToC.{upFrom, reached, rows, cellsOfGrain}
 use Rattle.model.specs.Collision.{aOf, bOf, cOf, dOf, tooSlow, collide}
 use Rattle.model.specs.Moves.{later, toNeighbour, outOfCell}
 use Rattle.model.specs.Walls.{wall}
+use Rattle.model.specs.Events.{zeroV, placeOf, insertBy}
 use Rattle.model.specs.Start.{Begun, refused, started, start}
 use Rattle.model.specs.Standing.{All}
 use Rattle.model.specs.Check.{all}
@@ -87,6 +90,14 @@ leaving b c p = dt (outOfCell 0 b fzero c 0 p)
 abbrev reflecting : Domain → ℕ → Particle → Contact
 reflecting b c p = dt (wall 0 b fzero c 0 p)
 
+-- the grains that some events name, in order; an event of grain i at a time
+abbrev grains : List Place → List ℕ
+grains [] = []
+grains (x ∷ xs) = x .p ∷ grains xs
+
+abbrev ofGrain : ℕ → Float → Place
+ofGrain i t = placeOf (record { time = t; event = MoveOutOfCell i zeroV 0 })
+
 -- the number of a refused start
 abbrev refusal : Begun → ℕ
 refusal (refused r i) = r
@@ -146,6 +157,8 @@ unstarred =
     ∷ (when (entering periodicBox 5 (mover half (minus 1 1))) (After (plus 3 1)) ∷ [])
     -- (1 / a)·(-√d - b) where dividing by a rounds to another float
     ∷ (when (collide (vec (plus 3 1) fzero) (vec (minus 21 1) fzero)) (After (ofBits binary64 0x3fb8_6186_1861_8619)) ∷ [])
+    -- an event goes after one that is as early, and before a later one
+    ∷ (numbers (grains (insertBy (ofGrain 2 one) (ofGrain 0 one ∷ ofGrain 1 two ∷ []))) (0 ∷ 2 ∷ 1 ∷ []) ∷ [])
     ∷ []
 
 -- ---- the test of a row
@@ -262,7 +275,7 @@ pub starred-hold : All Claim starred
 starred-hold = good-rows starred starred-good
 
 unstarred-good : T (all (all good) unstarred)
-unfolding unstarred round add sub mul div neg lt le eq ofInt toUnsigned ofBits toBits rootOf sqrtOf near root leadingZeros across position newPos later toNeighbour outOfCell wall start
+unfolding unstarred round add sub mul div neg lt le eq ofInt toUnsigned ofBits toBits rootOf sqrtOf near root leadingZeros across position newPos later toNeighbour outOfCell wall insertBy start
 unstarred-good = tt
 
 pub unstarred-hold : All Claim unstarred
