@@ -11,3 +11,4 @@ pub mod Reflect
 pub mod Whole
 pub mod Grid
 pub mod Starts
+pub mod Starred
