@@ -1,4 +1,6 @@
 // The lent tables: how many grains, cells and event places they hold, and the leaves that read and write them.
+pub mod places;
+
 pub struct Sizes {
     pub grains: usize,
     pub cells: usize,

@@ -1,0 +1,2 @@
+-- Laws of the tables: runs of places (Runs).
+pub mod Runs
