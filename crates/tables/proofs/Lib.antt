@@ -1,2 +1,5 @@
 -- Laws of the tables: runs of places (Runs).
 pub mod Runs
+-- The laws that other crates cite.
+pub mod RowLaws
+pub mod GrainLaws
