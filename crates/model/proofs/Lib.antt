@@ -10,4 +10,9 @@ pub mod Runs
 pub mod Reflect
 pub mod Whole
 pub mod Grid
+pub mod Quarters
+pub mod Kernels
+pub mod Few
+pub mod Placed
+pub mod Born
 pub mod Starts

@@ -1,4 +1,4 @@
--- A start that is accepted and does not halt gives the standing facts, where from_p_to_c gives each grain a cell. Assumes nothing.
+-- A start that is accepted and does not halt gives the standing facts. Assumes nothing.
 use Prim.Native.Nat.{ℕ, zero, suc, _+_, _-_, _≤_, _<_}
 use mathlib.Core.Path.{_≡_, refl, sym, ap, subst, _∙_}
 use mathlib.Core.List.{List, [], _∷_, _++_}
@@ -41,6 +41,7 @@ use Rattle.model.proofs.Frame.{Near, Frame, Keeps, Goes, near-refl, nea
 use Rattle.model.proofs.Schedule.{of-sound, then-both, same-clock, collide-keeps, boundaries-keeps}
 use Rattle.model.proofs.Steps.{Ends, insert-ends}
 use Rattle.model.proofs.Grid.{cells-max, cells-under}
+use Rattle.model.proofs.Born.{Fits, born}
 
 -- ---- the cleared state is sound
 abbrev emptyN : ℕ → Row ℕ
@@ -370,13 +371,10 @@ abbrev pub WellBegun : Begun → Type 0
 WellBegun (refused r i) = Unit {0}
 WellBegun (started s) = Sound s × (s .mark ≡ 0 → Standing s)
 
--- what is open: an accepted position reaches a cell
-abbrev pub Placed : Domain → Type 0
-Placed b = (p : Particle) → grainOk b p ≡ true → 1 ≤ length (cellsOfGrain b (p .pos))
-
-pub start-stands : (b : Domain) (room : ℕ) (gs : List Particle) → (boxOk b ≡ true → Placed b) → WellBegun (start b room gs)
+-- whatever it is given: the lengths are 64-bit floats, as every owned float is
+pub start-stands : (b : Domain) (room : ℕ) (gs : List Particle) → Fits b → WellBegun (start b room gs)
 unfolding start
-start-stands b room gs placed =
+start-stands b room gs f =
     on-test WellBegun (boxOk b) _ (refused 1 0)
     (λ box. on-test WellBegun (countsOk room (length gs)) _ (refused 2 0)
     (λ c.
@@ -387,7 +385,7 @@ start-stands b room gs placed =
     on-test WellBegun (eqb (firstBad b gs) (length gs)) (startedAt (begin b room gs)) (refused 4 (firstBad b gs))
     (λ g. (
       marked-sound ((begin b room gs) .num) ((begin b room gs) .st) (begin-sound b room gs box lo hi few),
-      λ z. marked-stands ((begin b room gs) .num) ((begin b room gs) .st) z (begin-stands b room gs box lo hi few (λ i I. placed box (getD gs i zeroG) (first-good b gs (eqb-true _ _ g) i I)) z),
+      λ z. marked-stands ((begin b room gs) .num) ((begin b room gs) .st) z (begin-stands b room gs box lo hi few (λ i I. born b (getD gs i zeroG) f box (first-good b gs (eqb-true _ _ g) i I) .some) z),
     ))
     (λ g. tt))
     (λ c. tt))
