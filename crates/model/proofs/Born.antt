@@ -24,6 +24,7 @@ use mathlib.Core.List.{List, _++_}
 use Rattle.halting.specs.Out.{pick}
 use Rattle.model.specs.declared.Domain.{Domain}
 use Rattle.model.specs.declared.Particle.{Particle}
+use Rattle.model.specs.Check.{Fits}
 use Rattle.model.specs.Sizes.{within, boxOk, placeOk, grainOk}
 use Rattle.model.proofs.Queue.{T-of, and-l, and-r}
 use Rattle.model.proofs.Placed.{Placed, alone, joined, product}
@@ -307,11 +308,7 @@ half-up : T (le fzero half)
 unfolding ofBits le
 half-up = tt
 
--- ---- the box's lengths are 64-bit floats: an owned float is one, so every caller has it
-pub record Fits (b : Domain) : Type 0 where
-  pub first : T (fits binary64 (lengthOf 0 b))
-  pub second : T (fits binary64 (lengthOf 1 b))
-
+-- ---- both directions: the lengths are 64-bit floats, as every owned float is
 direction-placed : (l x : Float) (p : Bool) → T (fits binary64 l) → within nine fortyeight l ≡ true → pick p (within fzero l x) (within half (sub binary64 l half) x) ≡ true → Placed 2 (cellsOf l) (reached l (cellsOf l) x)
 direction-placed l x true f h k = within-placed l x (T-of _ (and-l (le nine l) _ h)) (T-of _ (and-r (le nine l) _ h)) (T-of _ (and-l (le fzero x) _ k)) (T-of _ (and-r (le fzero x) _ k))
 direction-placed l x false f h k =

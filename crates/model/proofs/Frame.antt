@@ -20,7 +20,8 @@ use Rattle.model.specs.Grid.{cells}
 use Rattle.model.specs.Events.{insertBy, keepBy, goneBy, names, eventOf, finePlace, placeOf, zeroP}
 use Rattle.model.specs.State.{Row, row, none, State, grain, home, listed, queue, liveAt, has, pushed, pulled, requeued, withGrains}
 use Rattle.model.specs.Acts.{fineGrain, store, insert, inserted, put, cancelled, cancel, enter, entered, leave, gone, queueRow}
-use Rattle.model.specs.Standing.{All, Sound, syncs, one-if}
+use Rattle.model.specs.Standing.{All, syncs, one-if}
+use Rattle.model.specs.Sound.{Sound}
 use Rattle.model.proofs.Lists.{clash, live-same, live-other, length-snoc, length-but, has-entered}
 use Rattle.model.proofs.Queue.{kept-names}
 use Rattle.model.proofs.Keeps.{on-test, Apt, store-sound, insert-sound, cancelled-sound, enter-sound, leave-sound}

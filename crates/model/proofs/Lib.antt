@@ -7,6 +7,7 @@ pub mod Frame
 pub mod Schedule
 pub mod Steps
 pub mod Runs
+pub mod Stands
 pub mod Reflect
 pub mod Whole
 pub mod Grid

@@ -35,7 +35,8 @@ use Rattle.model.specs.Stepping.{newPos, due}
 use Rattle.model.specs.State.{has}
 use Rattle.model.specs.Moves.{later, toNeighbour, outOfCell, shut, sideLow, aside, moveDt, gap}
 use Rattle.model.specs.Walls.{wall, noWall, wallVal}
-use Rattle.model.specs.Standing.{Named, one-if}
+use Rattle.model.specs.Standing.{one-if}
+use Rattle.model.specs.Sound.{Named}
 use Rattle.model.proofs.Lists.{clash}
 use Rattle.model.proofs.Queue.{T-of, of-T}
 use Rattle.model.proofs.Keeps.{on-test, Apt}

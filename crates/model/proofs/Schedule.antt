@@ -28,7 +28,8 @@ use Rattle.model.specs.Moves.{toNeighbour, outOfCell}
 use Rattle.model.specs.Walls.{wall}
 use Rattle.model.specs.Doing.{others, stepGrain, scheduleCollision, Finder, scheduleBy, boundaries, scheduleWith, scheduleEvents, landed, again, forget, doCollision, doNeighbour, doOut, doWall, doSync, syncAt, execute}
 use Rattle.model.specs.Stepping.{stepped, grainOf}
-use Rattle.model.specs.Standing.{Sound, Named, one-if}
+use Rattle.model.specs.Standing.{one-if}
+use Rattle.model.specs.Sound.{Sound, Named}
 use Rattle.model.proofs.Lists.{clash}
 use Rattle.model.proofs.Keeps.{on-test, Apt, insert-sound}
 use Rattle.model.proofs.Plans.{AptPlan, collision-apt, toNeighbour-apt, outOfCell-apt, wall-apt}

@@ -23,7 +23,8 @@ use Rattle.model.specs.State.{State, Row, row, grain, home, listed, queu
 use Rattle.model.specs.Acts.{insert, inserted, first, head, taken, queueRow}
 use Rattle.model.specs.Doing.{stepGrain, doSync, syncAt, execute, Stepped, done, halted, Moved, wasSync, finish, headEvent, event, step, Whole, synchronised}
 use Rattle.model.specs.Stepping.{grainOf}
-use Rattle.model.specs.Standing.{Sound, Standing, Named, Held, All, Rising, syncs, one-if}
+use Rattle.model.specs.Standing.{All, Rising, syncs, one-if}
+use Rattle.model.specs.Sound.{Sound, Stands, Named, Held}
 use Rattle.model.proofs.Lists.{clash, live-same, live-other}
 use Rattle.model.proofs.Queue.{fine-top}
 use Rattle.model.proofs.Keeps.{on-test, Apt, insert-sound, first-in, root-first, taken-sound, taken-clock, head-held}
@@ -128,7 +129,7 @@ some-of : (l : List Place) → T (lt (headTime l) last) → 0 < length l
 some-of [] h = absurd (lt-irrefl last h)
 some-of (x ∷ xs) h = omega arith
 
-pub first-some : (s : State) → Standing s → 0 < length (queue s (first s))
+pub first-some : (s : State) → Stands s → 0 < length (queue s (first s))
 first-some s st =
     let N = cells-some (s .box) in
     some-of (queue s (first s)) (le-lt-trans (headTime (queue s (first s))) (headTime (queue s 0)) last (root-first s (st .sound) N 0 N)
@@ -147,7 +148,7 @@ only-there n c l (MoveOutOfCell p x k) m d = refl
 only-there n c l (WallReflection p x v w) m d = refl
 only-there n c l Synchronisation m d = absurd (d (m .0))
 
-module _ (s : State) (st : Standing s) where
+module _ (s : State) (st : Stands s) where
   abbrev c₀ : ℕ
   c₀ = first s
 
@@ -176,7 +177,7 @@ module _ (s : State) (st : Standing s) where
       r = row (drop 1 (queue s c₀)) (zeroP ∷ (queueRow s c₀) .spare)
 
 -- ---- a step
-module _ (rate : Float) (later : lt rate fzero ≡ false) (s : State) (st : Standing s) where
+module _ (rate : Float) (later : lt rate fzero ≡ false) (s : State) (st : Stands s) where
   pub event-ends : Ends (one-if (headEvent s)) (taken s) (event rate s)
   unfolding event
   event-ends =
@@ -215,7 +216,7 @@ module _ (rate : Float) (later : lt rate fzero ≡ false) (s : State) (st : Stan
   unfolding taken requeued
   taken-home g = refl
 
-  whole-stands : (event rate s) .num ≡ 0 → Standing ((event rate s) .st)
+  whole-stands : (event rate s) .num ≡ 0 → Stands ((event rate s) .st)
   whole-stands z =
       let e = event-ends in
       record {
@@ -225,10 +226,10 @@ module _ (rate : Float) (later : lt rate fzero ≡ false) (s : State) (st : Stan
         sync = e .calm z ∙ taken-syncs s st;
       }
 
-  finish-stands : (r : ℕ) (u : State) (e : Event) → (r ≡ 0 → Standing u) → Whole ((finish r u e) .how) → Standing ((finish r u e) .state)
+  finish-stands : (r : ℕ) (u : State) (e : Event) → (r ≡ 0 → Stands u) → Whole ((finish r u e) .how) → Stands ((finish r u e) .state)
   finish-stands zero u e h w = h refl
   finish-stands (suc r) u e h w = absurd w
 
-  pub step-stands : Whole ((step rate s) .how) → Standing ((step rate s) .state)
+  pub step-stands : Whole ((step rate s) .how) → Stands ((step rate s) .state)
   unfolding step
   step-stands = finish-stands ((event rate s) .num) ((event rate s) .st) (headEvent s) whole-stands
