@@ -7,6 +7,7 @@ pub mod Frame
 pub mod Schedule
 pub mod Steps
 pub mod Runs
+pub mod Counts
 pub mod Stands
 pub mod Reflect
 pub mod Whole
@@ -17,3 +18,5 @@ pub mod Few
 pub mod Placed
 pub mod Born
 pub mod Starts
+pub mod Reached
+pub mod Demand3

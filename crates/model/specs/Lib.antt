@@ -16,4 +16,5 @@ pub mod Start
 pub mod Standing
 pub mod Sound
 pub mod Check
+pub mod Reached
 pub mod Reports
