@@ -20,3 +20,5 @@ pub mod Born
 pub mod Starts
 pub mod Reached
 pub mod Demand3
+pub mod Performs
+pub mod Halts

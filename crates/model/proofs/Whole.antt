@@ -14,7 +14,7 @@ use Rattle.order.proofs.Order.{le-lt-trans}
 use Rattle.model.specs.Grid.{across, cells}
 use Rattle.model.specs.State.{State}
 use Rattle.model.specs.Run.{How, spent, Ran, runFrom, plus, goOn, refused}
-use Rattle.model.specs.Sound.{Stands}
+use Rattle.model.specs.Sound.{Sound, Stands}
 use Rattle.model.specs.Check.{standing, Fitted, sized, halt, refusal, runAll, followBy, followed}
 use Rattle.model.specs.Sizes.{rated}
 use Rattle.model.proofs.Queue.{T-of, and-l}
@@ -27,9 +27,8 @@ use Rattle.model.proofs.Runs.{split, count, run-stands}
 nine-cells : (b : Domain) → 9 ≤ cells b
 nine-cells b = let p : 3 * 3 ≤ across 0 b * across 1 b = mul-le-mul (across-min 0 b) (across-min 1 b) in p
 
-stands-sized : (s : State) → Stands s → sized s ≡ true
-stands-sized s st =
-    let h = st .sound in
+pub sound-sized : (s : State) → Sound s → sized s ≡ true
+sound-sized s h =
     let w = nine-cells (s .box) in
     let n : 9 ≤ s .sched .cells = omega (arith, h .heap .cells) in
     rw (le-leb _ _ (h .few), le-leb _ _ (h .room .0), le-leb _ _ (h .room .1), le-leb _ _ n, le-leb _ _ (h .heap .inverse .room))
@@ -50,7 +49,7 @@ rated-later rate h = by (lt rate fzero) refl
 -- at standing facts a run is its steps
 pub runs : (rate : Float) (b : ℕ) (s : State) → rated rate ≡ true → Stands s → runAll rate b s ≡ runFrom rate b 0 s
 unfolding runAll
-runs rate b s r st = rw (stands-sized s st, free-halt (s .mark) (st .free), r, says-stands s (sound-fitted s (st .sound)) .holds st)
+runs rate b s r st = rw (sound-sized s (st .sound), free-halt (s .mark) (st .free), r, says-stands s (sound-fitted s (st .sound)) .holds st)
 
 -- a spent run passed them; one that ended otherwise ends so with any greater budget
 abbrev gate : Bool → Bool → Bool → Bool → State → Ran → Ran
