@@ -10,7 +10,7 @@ use lib.Dec.{eqb, leb}
 use lib.ListN.{length}
 use lib.Ieee.{Float}
 use native.Mathlib.Decide.{ℕ-discrete}
-use borrow.Author.Tests.{le-leb, leb-true}
+use borrow.Author.Tests.{le-leb, leb-true, eqb-true}
 use Rattle.halting.specs.Out.{Out, out, pick}
 use Rattle.order.specs.Numbers.{fzero}
 use Rattle.model.specs.declared.Domain.{Domain}
@@ -78,21 +78,30 @@ run-halts rate b s r e =
     let w : Ended rate s b (refused r) c ((runFrom rate b 0 s) .state) = subst (λ (h : How). Ended rate s b h c ((runFrom rate b 0 s) .state)) e (counts rate s b .ended) in
     subst (Halt r (taken (steps rate c s))) (ap (λ (m : Moved). m .state) (w .1)) (step-halts rate (steps rate c s) r (ap (λ (m : Moved). m .how) (w .1)))
 
+-- what an accepted start was given, and what it is
+pub record Accepted (b : Domain) (room : ℕ) (gs : List Particle) (s : State) : Type 0 where
+  pub box : boxOk b ≡ true
+  pub counts : countsOk room (length gs) ≡ true
+  pub good : firstBad b gs ≡ length gs
+  pub is : s ≡ marked ((begin b room gs) .num) ((begin b room gs) .st)
+
+pub accepted : (b : Domain) (room : ℕ) (gs : List Particle) (s : State) → start b room gs ≡ started s → Accepted b room gs s
+unfolding start
+accepted b room gs s = by (boxOk b) refl (countsOk room (length gs)) refl (eqb (firstBad b gs) (length gs)) refl
+  where
+    by : (x : Bool) → boxOk b ≡ x → (y : Bool) → countsOk room (length gs) ≡ y → (z : Bool) → eqb (firstBad b gs) (length gs) ≡ z
+        → pick x (pick y (pick z (startedAt (begin b room gs)) (begun.refused 4 (firstBad b gs))) (begun.refused 2 0)) (begun.refused 1 0) ≡ started s → Accepted b room gs s
+    by true p true q true r e = record { box = p; counts = q; good = eqb-true _ _ r; is = cc }
+    by true p true q false r e = absurd (let z : _≡_ {A = ℕ} 0 1 = cc in omega arith)
+    by true p false q z r e = absurd (let z : _≡_ {A = ℕ} 0 1 = cc in omega arith)
+    by false p y q z r e = absurd (let z : _≡_ {A = ℕ} 0 1 = cc in omega arith)
+
 -- a start that halts: every place was cleared, and then the acts before the refused one were done
 pub start-halts : (b : Domain) (room : ℕ) (gs : List Particle) (s : State) → start b room gs ≡ started s → (s .mark ≡ 0 → ⊥) → Halt (s .mark) (clear b room (length gs)) s
 start-halts b room gs s e n =
-    let q : marked ((begin b room gs) .num) ((begin b room gs) .st) ≡ s = begun-is e in
-    subst (λ (u : State). Halt (u .mark) (clear b room (length gs)) u) q
-    (halt-of (clear b room (length gs)) ((begin b room gs) .num) ((begin b room gs) .st) (begin-acted b room gs .acts) (begin-acted b room gs .did) (begin-acted b room gs .refuses) (λ z. n (ap (λ (u : State). u .mark) (sym q) ∙ z)))
-  where
-    begun-is : start b room gs ≡ started s → marked ((begin b room gs) .num) ((begin b room gs) .st) ≡ s
-    begun-is = unfold start in by (boxOk b) (countsOk room (length gs)) (eqb (firstBad b gs) (length gs))
-      where
-        by : (x y z : Bool) → pick x (pick y (pick z (startedAt (begin b room gs)) (begun.refused 4 (firstBad b gs))) (begun.refused 2 0)) (begun.refused 1 0) ≡ started s → marked ((begin b room gs) .num) ((begin b room gs) .st) ≡ s
-        by true true true e = cc
-        by true true false e = absurd (let z : _≡_ {A = ℕ} 0 1 = cc in omega arith)
-        by true false z e = absurd (let z : _≡_ {A = ℕ} 0 1 = cc in omega arith)
-        by false y z e = absurd (let z : _≡_ {A = ℕ} 0 1 = cc in omega arith)
+    let q = accepted b room gs s e .is in
+    subst (λ (u : State). Halt (u .mark) (clear b room (length gs)) u) (sym q)
+    (halt-of (clear b room (length gs)) ((begin b room gs) .num) ((begin b room gs) .st) (begin-acted b room gs .acts) (begin-acted b room gs .did) (begin-acted b room gs .refuses) (λ z. n (ap (λ (u : State). u .mark) q ∙ z)))
 
 -- ---- 2. a halted state that passes check 2 answers its number, the clock +0 and no events, and changes nothing, for any rate and budget
 pub halted-again : (rate : Float) (b : ℕ) (s : State) → sized s ≡ true → halt (s .mark) ≡ true → runAll rate b s ≡ record { how = refused (s .mark); clock = fzero; count = 0; state = s }
@@ -159,7 +168,7 @@ start-accepted b room gs e f g = rw (e, f, g)
 abbrev Marked : State → Type 0
 Marked s = (s .mark ≡ 0) ⊎ (halt (s .mark) ≡ true)
 
-in-range : (m : ℕ) → 5 ≤ m → m ≤ 9 → halt m ≡ true
+pub in-range : (m : ℕ) → 5 ≤ m → m ≤ 9 → halt m ≡ true
 in-range m h k = rw (le-leb 5 m h, le-leb m 9 k)
 
 run-marked : (rate : Float) → rated rate ≡ true → (b : ℕ) (s : State) → Stands s → Marked ((runFrom rate b 0 s) .state)

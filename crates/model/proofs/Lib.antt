@@ -22,3 +22,6 @@ pub mod Reached
 pub mod Demand3
 pub mod Performs
 pub mod Halts
+pub mod Roots
+pub mod Fresh
+pub mod Never

@@ -62,7 +62,7 @@ empty-side : (m n k : ℕ) → Side m n k (replicate m (emptyN k))
 empty-side m n k = record { long = length-replicate m (emptyN k); each = λ i I. rw (getD-replicate m i (emptyN k) none I) (empty-numbers n k) }
 
 module _ (m : ℕ) {A : Type 0} (k : ℕ) (z : A) where
-  empty-live : (i : ℕ) → liveAt (replicate m (empty k z)) i ≡ []
+  pub empty-live : (i : ℕ) → liveAt (replicate m (empty k z)) i ≡ []
   empty-live i = elim (decLe m i) [
     | yes o ↦ ap (λ (r : Row A). r .live) (List·getD-eq-default (replicate m (empty k z)) none (let e = length-replicate m (empty k z) in omega (arith, e)))
     | no h ↦ ap (λ (r : Row A). r .live) (getD-replicate m i (empty k z) none (omega arith))
@@ -143,15 +143,15 @@ module _ (b : Domain) (room : ℕ) (gs : List Particle) (box : boxOk b ≡ true)
   abbrev at : ℕ → Particle
   at i = getD gs i zeroG
 
-  clear-box : s₀ .box ≡ b
+  pub clear-box : s₀ .box ≡ b
   unfolding clear
   clear-box = refl
 
-  clear-clock : s₀ .clock ≡ fzero
+  pub clear-clock : s₀ .clock ≡ fzero
   unfolding clear
   clear-clock = refl
 
-  clear-few : length (s₀ .grains) ≡ length gs
+  pub clear-few : length (s₀ .grains) ≡ length gs
   unfolding clear
   clear-few = length-replicate (length gs) zeroG
 
@@ -164,12 +164,12 @@ module _ (b : Domain) (room : ℕ) (gs : List Particle) (box : boxOk b ≡ true)
       goes-on u w _ k (enter-goes w i c (k .sound) (rw l I) (rw e (C c h))))
       u (record { sound = g .sound; near = near-refl u })
 
-  stored : (i : ℕ) (u : State) → Goes s₀ u → i < length gs → Keeps u ((store i (grainOf (at i .pos) (at i .vel) fzero (at i .val)) u) .st)
+  pub stored : (i : ℕ) (u : State) → Goes s₀ u → i < length gs → Keeps u ((store i (grainOf (at i .pos) (at i .vel) fzero (at i .val)) u) .st)
   stored i u g I =
       let l : length (u .grains) ≡ length gs = g .near .few ∙ clear-few in
       store-keeps u i (grainOf (at i .pos) (at i .vel) fzero (at i .val)) (g .sound) (rw l I) (rw (g .near .clock ∙ clear-clock) zero-le)
 
-  goesIn-goes : (i : ℕ) (u : State) → i < length gs → Goes s₀ u → Goes s₀ ((goesIn gs i u) .st)
+  pub goesIn-goes : (i : ℕ) (u : State) → i < length gs → Goes s₀ u → Goes s₀ ((goesIn gs i u) .st)
   unfolding goesIn
   goesIn-goes i u I g =
       then-sound (Goes s₀) (store i (grainOf (at i .pos) (at i .vel) fzero (at i .val)) u) _ (goes-on s₀ u _ g (keeps-goes u _ (stored i u g I)))
@@ -235,7 +235,7 @@ module _ (b : Domain) (room : ℕ) (gs : List Particle) (box : boxOk b ≡ true)
       (length gs) 0 s₀ (omega arith) (record { goes = record { sound = sound; near = near-refl s₀ }; some = λ g G. absurd (omega arith) }) z)
 
 -- ---- init_events
-different : (p q : ℕ) (l : List ℕ) → has p l ≡ false → has q l ≡ true → eqb p q ≡ false
+pub different : (p q : ℕ) (l : List ℕ) → has p l ≡ false → has q l ≡ true → eqb p q ≡ false
 different p q l a h = elim (ℕ-discrete p q) [
   | yes e ↦ clash (sym a ∙ ap (λ (x : ℕ). has x l) e ∙ h)
   | no d ↦ ne-eqb p q d
@@ -310,7 +310,7 @@ init-ends (suc m) s sound e q h =
 
 -- A START THAT IS ACCEPTED AND DOES NOT HALT GIVES THE STANDING FACTS
 module _ (b : Domain) (room : ℕ) (gs : List Particle) (box : boxOk b ≡ true) (r : 16 ≤ room) (r′ : room ≤ 256) (few : length gs ≤ 256) where
-  cleared : Sound (clear b room (length gs))
+  pub cleared : Sound (clear b room (length gs))
   cleared = clear-sound b room (length gs) box r r′ few
 
   clear-syncs : syncs (queue (clear b room (length gs)) 0) ≡ 0
@@ -357,7 +357,7 @@ marked-sound r u h = record { box = h .box; room = h .room; few = h .few; clock 
 marked-stands : (r : ℕ) (u : State) → r ≡ 0 → Stands u → Stands (marked r u)
 marked-stands r u e st = record { sound = marked-sound r u (st .sound); free = e; housed = st .housed; sync = st .sync }
 
-first-good : (b : Domain) (gs : List Particle) → firstBad b gs ≡ length gs → (i : ℕ) → i < length gs → grainOk b (getD gs i zeroG) ≡ true
+pub first-good : (b : Domain) (gs : List Particle) → firstBad b gs ≡ length gs → (i : ℕ) → i < length gs → grainOk b (getD gs i zeroG) ≡ true
 unfolding firstBad
 first-good b [] e i h = absurd (omega arith)
 first-good b (p ∷ ps) e i h = by (grainOk b p) refl i h (first-good b ps)

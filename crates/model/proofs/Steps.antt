@@ -1,35 +1,35 @@
 -- A step keeps the standing facts if it does not halt, and `Sound` if it does; the clock does not go back. Assumes nothing.
-use Prim.Native.Nat.{ℕ, zero, suc, _+_, _-_, _≤_, _<_}
+use Prim.Native.Nat.{ℕ, zero, suc, _+_, _≤_, _<_}
 use mathlib.Core.Path.{_≡_, refl, sym, ap, subst, _∙_}
-use mathlib.Core.List.{List, [], _∷_, _++_}
-use mathlib.Core.Bool.{Bool, true, false, not}
+use mathlib.Core.List.{List, [], _∷_}
+use mathlib.Core.Bool.{Bool, false, not}
 use native.Mathlib.Omega.{arith}
 use native.Mathlib.Decide.{ℕ-discrete}
 use lib.Dec.{T, ltb}
-use lib.ListN.{length, getD, set, drop}
-use lib.Ieee.{Float, binary64, add, le, lt, fits, isNan, ofBits}
+use lib.ListN.{length, set, drop}
+use lib.Ieee.{Float, binary64, add, le, lt, ofBits}
 use lib.Ieee.Fits.{add-fits}
 use Rattle.model.specs.declared.Place.{Place}
 use Rattle.model.specs.declared.Event.{Event}
 use Rattle.model.specs.declared.Event.the-variants.{InterParticleCollision, MoveToNeighbour, MoveOutOfCell, WallReflection, Synchronisation}
-use Rattle.halting.specs.Out.{Out, out, next, then, each, pick}
-use Rattle.halting.proofs.Laws.{then-sound, each-sound}
+use Rattle.halting.specs.Out.{Out, out, next, each, pick}
+use Rattle.halting.proofs.Laws.{each-sound}
 use Rattle.order.specs.Numbers.{fzero, last}
-use Rattle.order.proofs.Order.{le-lt-trans, lt-irrefl, le-refl}
-use Rattle.order.proofs.Clock.{clock-on, finite-no-nan}
+use Rattle.order.proofs.Order.{le-lt-trans, lt-irrefl}
+use Rattle.order.proofs.Clock.{clock-on}
 use Rattle.model.specs.Grid.{cells}
 use Rattle.model.specs.Events.{eventOf, headTime, headPlace, finePlace, insertBy, zeroP}
-use Rattle.model.specs.State.{State, Row, row, grain, home, listed, queue, has, liveAt, requeued, marked}
+use Rattle.model.specs.State.{State, Row, row, grain, home, listed, queue, liveAt, requeued}
 use Rattle.model.specs.Acts.{insert, inserted, first, head, taken, queueRow}
-use Rattle.model.specs.Doing.{stepGrain, doSync, syncAt, execute, Stepped, done, halted, Moved, wasSync, finish, headEvent, event, step, Whole, synchronised}
+use Rattle.model.specs.Doing.{stepGrain, doSync, syncAt, execute, finish, headEvent, event, step, Whole}
 use Rattle.model.specs.Stepping.{grainOf}
-use Rattle.model.specs.Standing.{All, Rising, syncs, one-if}
+use Rattle.model.specs.Standing.{All, syncs, one-if}
 use Rattle.model.specs.Sound.{Sound, Stands, Named, Held}
-use Rattle.model.proofs.Lists.{clash, live-same, live-other}
+use Rattle.model.proofs.Lists.{live-same, live-other}
 use Rattle.model.proofs.Queue.{fine-top}
 use Rattle.model.proofs.Keeps.{on-test, Apt, insert-sound, first-in, root-first, taken-sound, taken-clock, head-held}
 use Rattle.model.proofs.Plans.{cells-some}
-use Rattle.model.proofs.Frame.{Near, Frame, Keeps, Goes, near-refl, near-trans, keeps-refl, keeps-on, keeps-goes, syncs-insert, In, in-cell}
+use Rattle.model.proofs.Frame.{Keeps, Goes, keeps-refl, keeps-on, keeps-goes, syncs-insert, In, in-cell}
 use Rattle.model.proofs.Schedule.{step-keeps, collision-goes, neighbour-goes, out-goes, wall-goes}
 
 -- ---- the synchronisation
@@ -158,7 +158,7 @@ module _ (s : State) (st : Stands s) where
   c-in : c₀ < cells (s .box)
   c-in = first-in s (st .sound) (cells-some (s .box))
 
-  head-ok : Held (cells (s .box)) c₀ (listed s c₀) (head s)
+  pub head-ok : Held (cells (s .box)) c₀ (listed s c₀) (head s)
   head-ok = let q = st .sound .queues c₀ c-in in head-held (s .clock) (cells (s .box)) c₀ (listed s c₀) (queue s c₀) live (q .rising) (q .held) .0
 
   pub taken-syncs : one-if (headEvent s) + syncs (queue (taken s) 0) ≡ 1
