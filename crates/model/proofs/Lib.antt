@@ -25,3 +25,4 @@ pub mod Halts
 pub mod Roots
 pub mod Fresh
 pub mod Never
+pub mod Shown
