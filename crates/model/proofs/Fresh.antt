@@ -31,8 +31,7 @@ use Rattle.model.specs.Sound.{Sound}
 use Rattle.model.specs.Check.{Fits}
 use Rattle.model.proofs.Lists.{clash, eqb-sym, live-other, has-entered}
 use Rattle.model.proofs.Keeps.{on-test}
-use Rattle.model.proofs.Frame.{Goes, near-refl, goes-on, keeps-goes, enter-goes}
-use Rattle.model.proofs.Schedule.{of-sound}
+use Rattle.model.proofs.Frame.{Goes, near-refl, goes-on, keeps-goes, enter-goes, of-sound}
 use Rattle.halting.proofs.Laws.{then-sound}
 use Rattle.model.proofs.Placed.{Placed}
 use Rattle.model.proofs.Born.{born}

@@ -1,20 +1,22 @@
--- The theorems of demand 3 over the definitions of document 01, and what leads to them.
+-- The theorems of demand 3 over the definitions of document 01, and what leads to them: acts, a step, a run, a start, the checks; then what is claimed.
 pub mod Lists
+pub mod Inserts
 pub mod Queue
 pub mod Keeps
 pub mod Plans
 pub mod Frame
+pub mod Forgets
 pub mod Schedule
 pub mod Steps
-pub mod Runs
 pub mod Counts
+pub mod Runs
 pub mod Stands
 pub mod Reflect
 pub mod Whole
-pub mod Grid
 pub mod Quarters
 pub mod Kernels
 pub mod Few
+pub mod Grid
 pub mod Placed
 pub mod Born
 pub mod Starts

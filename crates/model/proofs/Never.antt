@@ -34,9 +34,9 @@ use Rattle.model.specs.Sound.{Named, Stands}
 use Rattle.model.specs.Check.{Fits, Fitted, standing, sized, halt, refusal, runAll}
 use Rattle.model.proofs.Lists.{clash, live-same, live-other}
 use Rattle.model.proofs.Queue.{and-l, and-r}
+use Rattle.model.proofs.Frame.{of-sound}
 use Rattle.model.proofs.Keeps.{on-test}
 use Rattle.model.proofs.Plans.{cells-some}
-use Rattle.model.proofs.Schedule.{of-sound}
 use Rattle.model.proofs.Steps.{first-some, head-ok}
 use Rattle.model.proofs.Stands.{stands}
 use Rattle.model.proofs.Starts.{first-good, empty-live}

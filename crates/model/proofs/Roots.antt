@@ -44,9 +44,9 @@ use Rattle.model.specs.Doing.{Finder, scheduleCollision, scheduleBy, bou
 use Rattle.model.specs.Start.{pairs}
 use Rattle.model.proofs.Lists.{clash, live-same, live-other}
 use Rattle.model.proofs.Queue.{of-T, not-of-T, and-l, and-r, fine-top, fine-real}
+use Rattle.model.proofs.Frame.{of-sound}
 use Rattle.model.proofs.Keeps.{on-test}
 use Rattle.model.proofs.Plans.{Late, late-collide, not-below}
-use Rattle.model.proofs.Schedule.{of-sound}
 
 -- ---- the heap: where no head is earlier than cell 0's, which is the root, an upshift leaves it there
 module _ (h : ℕ → Float) (late : (k : ℕ) → lt (h k) (h 0) ≡ false) where

@@ -37,8 +37,8 @@ use Rattle.model.proofs.Lists.{clash}
 use Rattle.model.proofs.Queue.{and-l, and-r}
 use Rattle.model.proofs.Keeps.{on-test, Apt}
 use Rattle.model.proofs.Plans.{cells-some}
-use Rattle.model.proofs.Frame.{Near, Keeps, Goes, near-refl, near-trans, keeps-refl, keeps-on, goes-on, keeps-goes, store-keeps, In, in-frame, in-cell, enter-goes, enter-in}
-use Rattle.model.proofs.Schedule.{of-sound, then-both, collide-keeps, boundaries-keeps}
+use Rattle.model.proofs.Frame.{Near, Keeps, Goes, near-refl, near-trans, keeps-refl, keeps-on, goes-on, keeps-goes, store-keeps, In, in-frame, in-cell, enter-goes, enter-in, of-sound}
+use Rattle.model.proofs.Schedule.{then-both, collide-keeps, boundaries-keeps}
 use Rattle.model.proofs.Steps.{Ends, insert-ends}
 use Rattle.model.proofs.Grid.{cells-max, cells-under}
 use Rattle.model.proofs.Born.{born}
