@@ -4,6 +4,7 @@ use mathlib.Core.Path.{_≡_, refl, sym, ap, _∙_}
 use mathlib.Core.Bool.{Bool, true, false, _&&_}
 use native.Mathlib.Omega.{arith}
 use native.Mathlib.Nat.{mod-lt, mod-self, mod-eq-of-lt, add-mod-right, mul-comm, mul-le-mul, div-lt-iff-lt-mul}
+use Rattle.halting.specs.Out.{pick}
 use Rattle.myvec.specs.declared.MyVec.{MyVec}
 use Rattle.myvec.specs.Vec.{vec}
 use Rattle.model.specs.declared.Domain.{Domain}
@@ -17,12 +18,19 @@ use Rattle.cell.specs.declared.CellAlong.{CellAlong}
 use Rattle.cell.specs.declared.Cell.{Cell}
 use Rattle.cell.specs.Cell.{gridOf, Laid, cellAlong, cellOf, IsCell, alongIn, acrossIn, indexIn, besideIn, edgeOf, positionOf}
 
--- ---- `a && b`
-pub both : (a b r : Bool) → a ≡ true → r ≡ b → r ≡ (a && b)
-both a b r e f = rw e f
+-- ---- what `a && b` answers: q, which is a, passed and r, which is b, is the answer; or r, which is a, failed
+pub both : (q a b r : Bool) → q ≡ a → q ≡ true → r ≡ b → r ≡ (a && b)
+both q a b r m e f = rw (sym m ∙ e) f
 
-pub neither : (a b : Bool) → a ≡ false → false ≡ (a && b)
-neither a b e = rw e
+pub neither : (a b r : Bool) → r ≡ a → r ≡ false → r ≡ (a && b)
+neither a b r m e = rw (sym m ∙ e) e
+
+-- ---- what `if t { x } else { y }` answers
+pub taken : {A : Type 0} (t : Bool) (x y r : A) → t ≡ true → r ≡ x → r ≡ pick t x y
+taken t x y r e f = rw e f
+
+pub left : {A : Type 0} (t : Bool) (x y r : A) → t ≡ false → r ≡ y → r ≡ pick t x y
+left t x y r e f = rw e f
 
 -- ---- what goes by the direction, in a direction that is not 0
 pub other : {A : Type 0} (f : ℕ → A) (v : A) (d : ℕ) → (d ≡ 0 → ⊥) → ((k : ℕ) → v ≡ f (suc k)) → v ≡ f d

@@ -9,7 +9,7 @@ ghost use Rattle.model.specs.Sizes as sizes;
 ghost use Rattle.model.specs.Grid.{cellsOf};
 ghost use Rattle.model.specs.Grid as model-grid;
 ghost use Rattle.model.specs.Periodic.{corrected};
-ghost use Rattle.model.specs.Periodic as periodic;
+ghost use Rattle.model.specs.Periodic as correction;
 ghost use Rattle.cell.specs.Cell.{gridOf, Laid, cellOf, cellAlong, acrossIn, indexIn, cellIn, besideIn, edgeOf, positionOf, alongIn, IsCell};
 use model::CellPosition;
 use model::Domain;
@@ -51,6 +51,17 @@ pub fn box_ok(domain: Domain) -> bool
     ensures { λ r. ⌜ r ≡ boxOk domain ⌝ }
 {
     within(9.0, 48.0, domain.lengths.x) && within(9.0, 48.0, domain.lengths.y)
+}
+
+// Whether a box is periodic in a direction.
+pub fn periodic(domain: Domain, dim: usize) -> bool
+    ensures { λ r. ⌜ r ≡ model-grid.periodic dim domain ⌝ }
+{
+    if dim == 0 {
+        domain.periodic0
+    } else {
+        domain.periodic1
+    }
 }
 
 // ---- the grid
@@ -131,7 +142,7 @@ impl Grid {
 
 // A difference of positions brought to the nearer side.
 fn nearer(dpos: f64, length: f64) -> f64
-    ensures { λ r. ⌜ r ≡ periodic.nearer length dpos ⌝ }
+    ensures { λ r. ⌜ r ≡ correction.nearer length dpos ⌝ }
 {
     if dpos < -length / 2.0 {
         return dpos + length;
@@ -248,7 +259,7 @@ impl Cell {
     // A difference of positions, corrected in each direction by the position of the cell.
     pub fn apart(self, domain: Domain, dpos: MyVec) -> MyVec
         requires { ⌜ IsCell domain self ⌝ }
-        ensures { λ r. ⌜ r ≡ periodic.apart domain (self .index) dpos ⌝ }
+        ensures { λ r. ⌜ r ≡ correction.apart domain (self .index) dpos ⌝ }
     {
         let x = self.x;
         let y = self.y;

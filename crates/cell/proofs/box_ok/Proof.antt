@@ -1,5 +1,4 @@
 -- `box_ok` answers whether both lengths are in range. Assumes nothing.
-use mathlib.Core.Path.{sym, _∙_}
 use borrow.Author.Needs.{needs}
 use Rattle.cell.proofs.Laws.{both, neither}
 use Rattle.cell.proofs.box_ok.Statement.{statement}
@@ -12,10 +11,10 @@ within-requires-2 : tie.Need-within-requires-2
 within-requires-2 c κs = search needs
 
 returns : tie.Need-returns
-returns c = both _ _ _ (sym (c .before .before .within .ensures) ∙ c .before .if1 .taken) (c .within2 .ensures)
+returns c = both _ _ _ _ (c .before .before .within .ensures) (c .before .if1 .taken) (c .within2 .ensures)
 
 returns-2 : tie.Need-returns-2
-returns-2 c = c .if1 .left ∙ neither _ _ (sym (c .before .within .ensures) ∙ c .if1 .left)
+returns-2 c = neither _ _ _ (c .before .within .ensures) (c .if1 .left)
 
 pub box-ok-spec : {M : Type 1} → statement M
 box-ok-spec = tie.close (tie.spec within-requires within-requires-2 returns returns-2)
