@@ -1,0 +1,2 @@
+// The acts: each done whole or refused, over the lent tables.
+pub mod heap;
