@@ -81,10 +81,10 @@ pub update-same : (t : List ℕ) (l : length t ≡ 512) (h : ℕ → Float) (n c
 update-same t l h n cell before after to ea es e =
     let at : ℕ = getD (drop 256 t) cell 0 in
     let w : shiftedTo h (take 256 t) n at (lt before (h cell)) ≡ at =
-        ap (λ (x : Float). shiftedTo h (take 256 t) n at (lt before x)) (sym ea)
-        ∙ ap (λ (k : ℕ). shiftedTo h (take 256 t) n k (lt before after)) (sym (lookup-at t l cell))
-        ∙ ap (λ (p : List ℕ). shiftedTo h p n (getD t (256 + cell) 0) (lt before after)) (sym (front-is t l))
-        ∙ sym es ∙ e ∙ lookup-at t l cell in
+    ap (λ (x : Float). shiftedTo h (take 256 t) n at (lt before x)) (sym ea)
+    ∙ ap (λ (k : ℕ). shiftedTo h (take 256 t) n k (lt before after)) (sym (lookup-at t l cell))
+    ∙ ap (λ (p : List ℕ). shiftedTo h p n (getD t (256 + cell) 0) (lt before after)) (sym (front-is t l))
+    ∙ sym es ∙ e ∙ lookup-at t l cell in
     kept t l n ∙ ap orderBytes (sym (update-stays h (loaded t n) cell before (h cell) w))
 
 -- ---- what holds a scheduler
