@@ -39,14 +39,7 @@ fn head_of(times: &[f64], held: &[u64], room: usize, number: u8) -> f64
 }
 
 // The head time at a heap index: f64::MAX past the cells in use. The heap is lent, and not copied.
-fn time_in(
-    heap: &[u8],
-    cells: usize,
-    times: &[f64],
-    held: &[u64],
-    room: usize,
-    at: usize,
-) -> f64
+fn time_in(heap: &[u8], cells: usize, times: &[f64], held: &[u64], room: usize, at: usize) -> f64
     requires { ⌜ (cells ≤ length (now heap)) × (room ≤ 256) ⌝ }
     ensures { λ r. ⌜ r ≡ timeIn (headIn (now (times .entry)) (now (held .entry)) room) (now (heap .entry)) cells at ⌝ }
 {
@@ -58,14 +51,7 @@ fn time_in(
 }
 
 // The child that p changes places with, or p where the shift ends.
-pub fn child(
-    heap: &[u8],
-    cells: usize,
-    times: &[f64],
-    held: &[u64],
-    room: usize,
-    p: usize,
-) -> usize
+pub fn child(heap: &[u8], cells: usize, times: &[f64], held: &[u64], room: usize, p: usize) -> usize
     requires { ⌜ (cells ≤ length (now heap)) × (p < 256) × (room ≤ 256) ⌝ }
     ensures { λ r. ⌜ r ≡ childIn (headIn (now (times .entry)) (now (held .entry)) room) (now (heap .entry)) cells p ⌝ }
 {

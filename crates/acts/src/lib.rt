@@ -1,0 +1,3 @@
+// The acts: each done whole or refused, over the lent tables.
+pub mod heap;
+pub mod queue;
