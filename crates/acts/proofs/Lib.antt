@@ -1,0 +1,2 @@
+-- The laws that callers of the acts cite.
+pub mod LinkLaws
