@@ -6,3 +6,5 @@ pub mod Queues
 pub mod Told
 pub mod Frame
 pub mod FromSound
+-- The laws that callers of the acts cite.
+pub mod LinkLaws

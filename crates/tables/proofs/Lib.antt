@@ -3,3 +3,4 @@ pub mod Runs
 -- The laws that other crates cite.
 pub mod RowLaws
 pub mod GrainLaws
+pub mod ListLaws
