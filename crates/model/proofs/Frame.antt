@@ -1,30 +1,40 @@
 -- What each act leaves as it was. `Near`: what every act leaves; `Frame`: the lists too. Assumes nothing.
-use Prim.Native.Nat.{ℕ, zero, suc, _+_, _-_, _≤_, _<_}
+use Prim.Native.Nat.{ℕ, suc, _+_, _≤_, _<_}
 use mathlib.Core.Path.{_≡_, refl, sym, ap, subst, _∙_}
 use mathlib.Core.List.{List, [], _∷_, _++_}
-use mathlib.Core.Bool.{Bool, true, false, not, _&&_, _||_, or-true, or-false}
+use mathlib.Core.Bool.{Bool, true, false, or-true}
 use native.Mathlib.Omega.{arith}
-use native.Mathlib.Decide.{decLe, ℕ-discrete}
+use native.Mathlib.Decide.{ℕ-discrete}
 use lib.Dec.{T, eqb, ltb, leb}
 use lib.ListN.{length, getD, set, drop, replicate, length-set}
-use lib.Ieee.{Float, binary64, le, lt, fits}
-use borrow.Author.Tests.{ltb-true, leb-false, eq-eqb}
+use lib.Ieee.{le}
+use borrow.Author.Tests.{leb-false, eq-eqb}
 use Rattle.model.specs.declared.Particle.{Particle}
 use Rattle.model.specs.declared.Place.{Place}
 use Rattle.model.specs.declared.Plan.{Plan}
 use Rattle.model.specs.declared.Plan.the-variants.{Nothing, Refused, Due}
 use Rattle.model.specs.declared.Event.{Event}
 use Rattle.model.specs.declared.Event.the-variants.{InterParticleCollision, MoveToNeighbour, MoveOutOfCell, WallReflection, Synchronisation}
-use Rattle.halting.specs.Out.{Out, out, next, then, each, pick}
+use Rattle.halting.specs.Out.{Out, out, eachOf, pick}
+use Rattle.halting.proofs.Laws.{then-sound}
 use Rattle.model.specs.Grid.{cells}
 use Rattle.model.specs.Events.{insertBy, keepBy, goneBy, names, eventOf, finePlace, placeOf, zeroP}
 use Rattle.model.specs.State.{Row, row, none, State, grain, home, listed, queue, liveAt, has, pushed, pulled, requeued, withGrains}
-use Rattle.model.specs.Acts.{fineGrain, store, insert, inserted, put, cancelled, cancel, enter, entered, leave, gone, queueRow}
-use Rattle.model.specs.Standing.{All, Sound, syncs, one-if}
+use Rattle.model.specs.Acts.{fineGrain, store, insert, inserted, put, cancelled, enter, entered, leave, gone, queueRow}
+use Rattle.model.specs.Standing.{All, syncs, one-if}
+use Rattle.model.specs.Sound.{Sound}
 use Rattle.model.proofs.Lists.{clash, live-same, live-other, length-snoc, length-but, has-entered}
 use Rattle.model.proofs.Queue.{kept-names}
 use Rattle.model.proofs.Keeps.{on-test, Apt, store-sound, insert-sound, cancelled-sound, enter-sound, leave-sound}
 use Rattle.model.proofs.Plans.{AptPlan}
+
+-- what an act keeps at each of a list, the loop keeps
+pub of-sound : {S : Type 0} (P : S → Type 0) (act : ℕ → S → Out S) (xs : List ℕ) → ((x : ℕ) (s : S) → has x xs ≡ true → P s → P ((act x s) .st)) → (s : S) → P s → P ((eachOf act xs s) .st)
+unfolding eachOf has
+of-sound P act [] k s p = p
+of-sound P act (x ∷ xs) k s p =
+    then-sound P (act x s) (eachOf act xs) (k x s (rw (eq-eqb x x refl)) p)
+    (λ u q. of-sound P act xs (λ y t h. k y t (rw h (or-true (eqb y x)))) u q)
 
 pub record Near (s u : State) : Type 0 where
   pub box : u .box ≡ s .box

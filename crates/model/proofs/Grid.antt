@@ -63,20 +63,20 @@ pub cells-max : (b : Domain) → boxOk b ≡ true → cells b ≤ 256
 cells-max b h = let m = across-max b h in let p : across 0 b * across 1 b ≤ 16 * 16 = mul-le-mul (m .0) (m .1) in p
 
 -- ---- the numbers of a direction
-or-case : (a b : Bool) (P : Type 0) → (a || b) ≡ true → (a ≡ true → P) → (b ≡ true → P) → P
+pub or-case : (a b : Bool) (P : Type 0) → (a || b) ≡ true → (a ≡ true → P) → (b ≡ true → P) → P
 or-case true b P e f g = f refl
 or-case false b P e f g = g e
 
 abbrev pub Under : ℕ → List ℕ → Type 0
 Under n l = (x : ℕ) → has x l ≡ true → x < n
 
-up-in : (i k x : ℕ) → has x (upFrom i k) ≡ true → (i ≤ x) × (x < i + k)
+pub up-in : (i k x : ℕ) → has x (upFrom i k) ≡ true → (i ≤ x) × (x < i + k)
 unfolding has upFrom
 up-in i zero x h = clash h
 up-in i (suc k) x h = or-case (eqb x i) (has x (upFrom (suc i) k)) ((i ≤ x) × (x < i + suc k)) h
     (λ e. let q = eqb-true x i e in (omega (arith, q), omega (arith, q))) (λ e. let w = up-in (suc i) k x e in (let a = w .0 in omega (arith, a), let a = w .1 in omega (arith, a)))
 
-under-append : (n : ℕ) (l m : List ℕ) → Under n l → Under n m → Under n (l ++ m)
+pub under-append : (n : ℕ) (l m : List ℕ) → Under n l → Under n m → Under n (l ++ m)
 unfolding has
 under-append n [] m a b x h = b x h
 under-append n (y ∷ ys) m a b x h = or-case (eqb x y) (has x (ys ++ m)) (x < n) h (λ e. a x (rw e)) (λ e. under-append n ys m (λ z q. a z (more (eqb z y) (has z ys) q)) b x e)
@@ -115,7 +115,7 @@ map-under b j (i ∷ is) J a x h =
     more true b e = refl
     more false b e = e
 
-rows-under : (b : Domain) (is js : List ℕ) → Under (across 0 b) is → Under (across 1 b) js → Under (cells b) (rows b is js)
+pub rows-under : (b : Domain) (is js : List ℕ) → Under (across 0 b) is → Under (across 1 b) js → Under (cells b) (rows b is js)
 unfolding has rows
 rows-under b is [] a c x h = clash h
 rows-under b is (j ∷ js) a c x h = under-append (cells b) (map (λ (i : ℕ). cellAt b i j) is) (rows b is js) (map-under b j is (c j (rw (borrow.Author.Tests.eq-eqb j j refl))) a) (rows-under b is js a (λ z q. c z (more (eqb z j) (has z js) q))) x h

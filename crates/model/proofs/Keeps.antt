@@ -30,7 +30,8 @@ use Rattle.model.specs.Grid.{cells}
 use Rattle.model.specs.Events.{insertBy, keepBy, goneBy, names, eventOf, headTime, headPlace, finePlace, zeroP}
 use Rattle.model.specs.State.{Row, row, none, State, zeroG, grain, home, listed, queue, heads, liveAt, has, pushed, pulled, requeued, withClock, withGrains}
 use Rattle.model.specs.Acts.{fineGrain, store, insert, inserted, cancelled, cancel, enter, entered, leave, gone, first, head, taken, queueRow}
-use Rattle.model.specs.Standing.{Rising, All, Named, Held, Queue, Once, Numbers, Side, Lists, Heap, Grain, Sound, syncs, one-if}
+use Rattle.model.specs.Standing.{Rising, All, Once, syncs, one-if}
+use Rattle.model.specs.Sound.{Named, Held, Queue, Numbers, Side, Lists, Heap, Grain, Sound}
 use Rattle.model.proofs.Lists.{clash, set-every, live-same, live-other, eqb-sym, has-entered, has-left, lists-enter, lists-leave}
 use Rattle.model.proofs.Queue.{T-of, of-T, not-of-T, and-l, and-r, fine-top, fine-finite, fine-real, rising-from, all-to, all-both, all-keep, kept-names, queue-insert, queue-cancel}
 

@@ -1,14 +1,31 @@
--- The theorems of demand 3 over the definitions of document 01, and what leads to them.
+-- The theorems of demand 3 over the definitions of document 01, and what leads to them: acts, a step, a run, a start, the checks; then what is claimed.
 pub mod Lists
+pub mod Inserts
 pub mod Queue
 pub mod Keeps
 pub mod Plans
 pub mod Frame
+pub mod Forgets
 pub mod Schedule
 pub mod Steps
+pub mod Counts
 pub mod Runs
+pub mod Stands
 pub mod Reflect
 pub mod Whole
+pub mod Quarters
+pub mod Kernels
+pub mod Few
 pub mod Grid
+pub mod Placed
+pub mod Born
 pub mod Starts
 pub mod Starred
+pub mod Reached
+pub mod Demand3
+pub mod Performs
+pub mod Halts
+pub mod Roots
+pub mod Fresh
+pub mod Never
+pub mod Shown

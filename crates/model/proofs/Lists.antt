@@ -11,7 +11,8 @@ use lib.Seq.{getD-set-same, getD-set-other}
 use borrow.Author.Tests.{eqb-true, eqb-false, eq-eqb, ne-eqb}
 use Rattle.halting.specs.Out.{pick}
 use Rattle.model.specs.State.{Row, row, none, liveAt, has, but, pushed, pulled}
-use Rattle.model.specs.Standing.{Once, Numbers, Side, Lists}
+use Rattle.model.specs.Standing.{Once}
+use Rattle.model.specs.Sound.{Numbers, Side, Lists}
 
 pub clash {ℓ} : {A : Type ℓ} → false ≡ true → A
 clash e = absurd (true≢false (sym e))

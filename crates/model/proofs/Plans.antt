@@ -35,7 +35,8 @@ use Rattle.model.specs.Stepping.{newPos, due}
 use Rattle.model.specs.State.{has}
 use Rattle.model.specs.Moves.{later, toNeighbour, outOfCell, shut, sideLow, aside, moveDt, gap}
 use Rattle.model.specs.Walls.{wall, noWall, wallVal}
-use Rattle.model.specs.Standing.{Named, one-if}
+use Rattle.model.specs.Standing.{one-if}
+use Rattle.model.specs.Sound.{Named}
 use Rattle.model.proofs.Lists.{clash}
 use Rattle.model.proofs.Queue.{T-of, of-T}
 use Rattle.model.proofs.Keeps.{on-test, Apt}
@@ -63,6 +64,31 @@ shifted-in zero b c k h = grid-in ((index 0 b c + k) % across 0 b) (index 1 b c)
         div-lt-iff-lt-mul {k = across 0 b} {x = c} {y = across 1 b} z .1 (rw (mul-comm (across 1 b) (across 0 b)) h)
 shifted-in (suc d) b c k h = grid-in (index 0 b c) ((index 1 b c + k) % across 1 b) (across 0 b) (across 1 b) (mod-lt c (let w = across-min 0 b in omega arith)) (mod-lt (index 1 b c + k) (let w = across-min 1 b in omega arith))
 
+-- ---- dt is not below 0
+pub not-below : (dt : Float) → le dt fzero ≡ false → lt dt fzero ≡ false
+not-below dt h = by (lt dt fzero) refl
+  where
+    by : (b : Bool) → lt dt fzero ≡ b → lt dt fzero ≡ false
+    by true e = clash (sym h ∙ of-T (le dt fzero) (lt→le dt fzero (T-of (lt dt fzero) e)))
+    by false e = e
+
+-- ---- a collision's dt is not below 0
+abbrev pub Late : Contact → Type 0
+Late contact.Never = Unit {0}
+Late (contact.After dt) = lt dt fzero ≡ false
+Late contact.Refused = Unit {0}
+
+on-hit : (b : Bool) (x y : Contact) → (b ≡ true → Late x) → (b ≡ false → Late y) → Late (pick b x y)
+on-hit true x y p q = p refl
+on-hit false x y p q = q refl
+
+late-after : (a b : Float) (r : Root) → Late (afterRoot a b r)
+late-after a b root.Refused = tt
+late-after a b (root.Value s) = on-hit (lt _ fzero) contact.Never (contact.After _) (λ h. tt) (λ h. h)
+
+pub late-collide : (x v : MyVec) → Late (collide x v)
+late-collide x v = on-hit (lt _ _) contact.Never _ (λ h. tt) (λ h. on-hit (le _ _) contact.Never _ (λ h. tt) (λ h. on-hit (lt _ _) contact.Never _ (λ h. tt) (λ h. on-hit (lt _ _) contact.Never _ (λ h. tt) (λ h. late-after _ _ (rootOf _)))))
+
 -- ---- an event dt after the clock, dt not below 0
 abbrev pub AptPlan : ℕ → ℕ → List ℕ → Float → Plan → Type 0
 AptPlan n c l t Nothing = Unit {0}
@@ -81,33 +107,9 @@ module _ (n c : ℕ) (l : List ℕ) (t : Float) (F : T (finite t)) (f : T (fits 
   due-apt dt (WallReflection p x v w) h m z = (record { kind = (omega arith, omega arith); fit = add-fits binary64 t dt; named = m; ahead = ahead dt h }, refl)
   due-apt dt Synchronisation h m z = absurd (omega (arith, z))
 
-  not-below : (dt : Float) → le dt fzero ≡ false → lt dt fzero ≡ false
-  not-below dt h = by (lt dt fzero) refl
-    where
-      by : (b : Bool) → lt dt fzero ≡ b → lt dt fzero ≡ false
-      by true e = clash (sym h ∙ of-T (le dt fzero) (lt→le dt fzero (T-of (lt dt fzero) e)))
-      by false e = e
-
   later-apt : (dt : Float) (e : Event) → Named n c l e → one-if e ≡ 0 → AptPlan n c l t (later t dt e)
   unfolding later
   later-apt dt e m z = on-test (AptPlan n c l t) (le dt fzero) Nothing (due t dt e) (λ h. tt) (λ h. due-apt dt e (not-below dt h) m z)
-
-  -- ---- a collision's dt is not below 0
-  abbrev Late : Contact → Type 0
-  Late contact.Never = Unit {0}
-  Late (contact.After dt) = lt dt fzero ≡ false
-  Late contact.Refused = Unit {0}
-
-  on-hit : (b : Bool) (x y : Contact) → (b ≡ true → Late x) → (b ≡ false → Late y) → Late (pick b x y)
-  on-hit true x y p q = p refl
-  on-hit false x y p q = q refl
-
-  late-after : (a b : Float) (r : Root) → Late (afterRoot a b r)
-  late-after a b root.Refused = tt
-  late-after a b (root.Value s) = on-hit (lt _ fzero) contact.Never (contact.After _) (λ h. tt) (λ h. h)
-
-  late-collide : (x v : MyVec) → Late (collide x v)
-  late-collide x v = on-hit (lt _ _) contact.Never _ (λ h. tt) (λ h. on-hit (le _ _) contact.Never _ (λ h. tt) (λ h. on-hit (lt _ _) contact.Never _ (λ h. tt) (λ h. on-hit (lt _ _) contact.Never _ (λ h. tt) (λ h. late-after _ _ (rootOf _)))))
 
   hit-apt : (h : Contact) (e : Float → Event) → Late h → ((dt : Float) → Named n c l (e dt) × (one-if (e dt) ≡ 0)) → AptPlan n c l t (planned h t e)
   hit-apt contact.Never e p m = tt

@@ -15,7 +15,8 @@ use Rattle.order.proofs.Order.{le-trans, le-total, lt-left, lt→le}
 use Rattle.order.proofs.Compare.{lt-asym, lt-of-not-le}
 use Rattle.model.specs.Events.{insertBy, keepBy, goneBy, names, eventOf, headTime, finePlace, zeroP}
 use Rattle.model.specs.State.{Row, row}
-use Rattle.model.specs.Standing.{Rising, All, Held, Queue, syncs, one-if}
+use Rattle.model.specs.Standing.{Rising, All, syncs, one-if}
+use Rattle.model.specs.Sound.{Held, Queue}
 use Rattle.model.proofs.Lists.{clash}
 
 pub T-of : (b : Bool) → b ≡ true → T b

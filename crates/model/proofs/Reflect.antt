@@ -1,6 +1,6 @@
 -- The test of the standing facts passes exactly if they stand. Assumes nothing.
-use Prim.Native.Nat.{ℕ, zero, suc, _+_, _≤_, _<_}
-use mathlib.Core.Path.{_≡_, refl, sym, ap, subst, _∙_}
+use Prim.Native.Nat.{ℕ, _+_, _≤_, _<_}
+use mathlib.Core.Path.{_≡_, refl, sym, _∙_}
 use mathlib.Core.List.{List, [], _∷_}
 use mathlib.Core.Bool.{Bool, true, false, not, _&&_, _||_}
 use native.Mathlib.Omega.{arith}
@@ -9,7 +9,7 @@ use lib.Dec.{T, eqb, leb, ltb}
 use lib.ListN.{length, getD}
 use lib.Ieee.{Float, binary64, le, lt, fits}
 use lib.Ieee.Scale.{finite}
-use borrow.Author.Tests.{ltb-true, leb-true, eqb-true, eqb-false, lt-ltb, le-leb, eq-eqb, ne-eqb, not-true}
+use borrow.Author.Tests.{ltb-true, leb-true, eqb-true, lt-ltb, le-leb, eq-eqb, ne-eqb, not-true}
 use Rattle.scheduler.specs.declared.Scheduler.{Scheduler}
 use Rattle.model.specs.declared.Place.{Place}
 use Rattle.model.specs.declared.Event.{Event}
@@ -18,13 +18,15 @@ use Rattle.model.specs.Check as check
 use Rattle.halting.specs.Every.{every}
 use Rattle.halting.proofs.Tests.{every-true, true-every}
 use Rattle.scheduler.specs.Heap.{timeAt, parent}
-use Rattle.scheduler.specs.Standing.{Inverse, Ordered}
+use Rattle.scheduler.specs.Standing.{Ordered}
 use Rattle.model.specs.Grid.{cells}
 use Rattle.model.specs.Events.{eventOf, finePlace}
-use Rattle.model.specs.State.{Row, row, none, State, grain, home, listed, queue, heads, liveAt, has}
+use Rattle.model.specs.State.{Row, none, State, grain, home, listed, queue, heads, has}
 use Rattle.model.specs.Acts.{fineGrain}
 use Rattle.model.specs.Sizes.{boxOk}
-use Rattle.model.specs.Standing.{Rising, All, Named, Held, Queue, Once, Numbers, Side, Lists, Heap, Grain, Sound, Standing, syncs}
+use Rattle.model.proofs.Stands as stands
+use Rattle.model.specs.Standing.{Standing, Rising, All, Once, syncs}
+use Rattle.model.specs.Sound.{Named, Held, Queue, Numbers, Side, Lists, Heap, Grain, Sound, Stands}
 use Rattle.model.specs.Check.{Fitted, standing, sound}
 use Rattle.model.proofs.Lists.{clash}
 use Rattle.model.proofs.Queue.{T-of, of-T, and-l, and-r}
@@ -216,10 +218,13 @@ says-sound s f =
     (λ h. record { box = h .0 .0; room = h .0 .1 .0 .1; few = h .0 .1 .0 .0; clock = h .0 .1 .1; fit = f .clock; grains = h .1 .0; lists = h .1 .1 .0; long = h .1 .1 .1 .0 .0; queues = h .1 .1 .1 .0 .1; heap = h .1 .1 .1 .1 })
     (λ q. ((q .box, ((q .few, q .room), q .clock)), (q .grains, (q .lists, ((q .long, q .queues), q .heap)))))
 
--- THE TEST PASSES EXACTLY IF THE FACTS STAND
-pub says-standing : (s : State) → Fitted s → Says (standing s) (Standing s)
+pub says-stands : (s : State) → Fitted s → Says (standing s) (Stands s)
 unfolding standing
-says-standing s f =
+says-stands s f =
     says-to (says-and (says-sound s f) (says-and (says-eq (s .mark) 0) (says-and (says-every (λ g. leb 1 (length (home s g))) (λ g. 1 ≤ length (home s g)) (length (s .grains)) (λ g h. says-le 1 (length (home s g)))) (says-eq (syncs (queue s 0)) 1))))
     (λ h. record { sound = h .0; free = h .1 .0; housed = h .1 .1 .0; sync = h .1 .1 .1 })
     (λ q. (q .sound, (q .free, (q .housed, q .sync))))
+
+-- THE TEST PASSES EXACTLY IF 01's STANDING FACTS HOLD
+pub says-standing : (s : State) → Fitted s → Says (standing s) (Standing s)
+says-standing s f = says-to (says-stands s f) (stands.standing s) (stands.stands s f)

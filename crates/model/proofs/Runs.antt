@@ -12,7 +12,7 @@ use Rattle.order.proofs.Clock.{finite-no-nan}
 use Rattle.model.specs.State.{State}
 use Rattle.model.specs.Doing.{Stepped, done, halted, Moved, step, Whole}
 use Rattle.model.specs.Run.{How, spent, Ran, ends, onward, runFrom, plus, goOn, continue, refused}
-use Rattle.model.specs.Standing.{Sound, Standing}
+use Rattle.model.specs.Sound.{Sound, Stands}
 use Rattle.model.proofs.Steps.{step-sound, step-clock, step-stands}
 
 not-spent : {A : Type 0} (h : How) → h ≡ spent → (h ≡ spent → ⊥) → A
@@ -43,17 +43,17 @@ count rate (suc b) c d s = onward-plus c ((step rate s) .how) ((step rate s) .st
 -- ---- what a run keeps
 module _ (rate : Float) (later : lt rate fzero ≡ false) where
   -- where the run is not refused, all stands at its end
-  abbrev Stands : How → State → Type 0
-  Stands How.synchronised s = Standing s
-  Stands spent s = Standing s
-  Stands (refused r) s = Unit {0}
+  abbrev Unless : How → State → Type 0
+  Unless How.synchronised s = Stands s
+  Unless spent s = Stands s
+  Unless (refused r) s = Unit {0}
 
-  onward-stands : (h : Stepped) (s : State) (d : ℕ) (f : ℕ → State → Ran) → (Whole h → Standing s) → ((e : ℕ) (u : State) → Standing u → Stands ((f e u) .how) ((f e u) .state)) → Stands ((onward h s d f) .how) ((onward h s d f) .state)
+  onward-stands : (h : Stepped) (s : State) (d : ℕ) (f : ℕ → State → Ran) → (Whole h → Stands s) → ((e : ℕ) (u : State) → Stands u → Unless ((f e u) .how) ((f e u) .state)) → Unless ((onward h s d f) .how) ((onward h s d f) .state)
   onward-stands done s d f p k = k (suc d) s (p tt)
   onward-stands Stepped.synchronised s d f p k = p tt
   onward-stands (halted r) s d f p k = tt
 
-  pub run-stands : (b d : ℕ) (s : State) → Standing s → Stands ((runFrom rate b d s) .how) ((runFrom rate b d s) .state)
+  pub run-stands : (b d : ℕ) (s : State) → Stands s → Unless ((runFrom rate b d s) .how) ((runFrom rate b d s) .state)
   unfolding runFrom
   run-stands zero d s st = st
   run-stands (suc b) d s st = onward-stands ((step rate s) .how) ((step rate s) .state) d (runFrom rate b) (step-stands rate later s st) (run-stands b)
@@ -63,13 +63,13 @@ module _ (rate : Float) (later : lt rate fzero ≡ false) where
     pub sound : Sound s
     pub clock : T (le t (s .clock))
 
-  onward-on : (t : Float) (h : Stepped) (s : State) (d : ℕ) (f : ℕ → State → Ran) → Onward t s → (Whole h → Standing s)
-      → ((e : ℕ) (u : State) → Standing u → Onward t u → Onward t ((f e u) .state)) → Onward t ((onward h s d f) .state)
+  onward-on : (t : Float) (h : Stepped) (s : State) (d : ℕ) (f : ℕ → State → Ran) → Onward t s → (Whole h → Stands s)
+      → ((e : ℕ) (u : State) → Stands u → Onward t u → Onward t ((f e u) .state)) → Onward t ((onward h s d f) .state)
   onward-on t done s d f o p k = k (suc d) s (p tt) o
   onward-on t Stepped.synchronised s d f o p k = o
   onward-on t (halted r) s d f o p k = o
 
-  run-on : (t : Float) (b d : ℕ) (s : State) → Standing s → Onward t s → Onward t ((runFrom rate b d s) .state)
+  run-on : (t : Float) (b d : ℕ) (s : State) → Stands s → Onward t s → Onward t ((runFrom rate b d s) .state)
   unfolding runFrom
   run-on t zero d s st o = o
   run-on t (suc b) d s st o =
@@ -77,5 +77,5 @@ module _ (rate : Float) (later : lt rate fzero ≡ false) where
       (record { sound = step-sound rate later s st; clock = le-trans t (s .clock) (((step rate s) .state) .clock) (o .clock) (step-clock rate later s st) })
       (step-stands rate later s st) (λ e u x y. run-on t b e u x y)
 
-  pub run-clock : (b d : ℕ) (s : State) → Standing s → Onward (s .clock) ((runFrom rate b d s) .state)
+  pub run-clock : (b d : ℕ) (s : State) → Stands s → Onward (s .clock) ((runFrom rate b d s) .state)
   run-clock b d s st = run-on (s .clock) b d s st (record { sound = st .sound; clock = le-refl (s .clock) (finite-no-nan (s .clock) (st .sound .clock)) })

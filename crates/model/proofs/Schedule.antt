@@ -1,47 +1,34 @@
 -- schedule_events and the five executions keep `Sound`, done or refused. Assumes nothing.
-use Prim.Native.Nat.{ℕ, zero, suc, _+_, _-_, _≤_, _<_}
-use mathlib.Core.Path.{_≡_, refl, sym, ap, subst, _∙_}
-use mathlib.Core.List.{List, [], _∷_, _++_}
-use mathlib.Core.Bool.{Bool, true, false, not, _&&_, _||_, or-true, or-false}
+use Prim.Native.Nat.{ℕ, zero, suc, _<_}
+use mathlib.Core.Path.{_≡_, refl, sym, _∙_}
+use mathlib.Core.List.{List, [], _∷_}
+use mathlib.Core.Bool.{Bool, true, false, _||_, or-true}
 use native.Mathlib.Omega.{arith}
 use lib.Dec.{T, eqb}
-use lib.ListN.{length, getD}
-use lib.Ieee.{Float, binary64, add, le, lt, fits, isNan, ofBits}
-use lib.Ieee.Fits.{add-fits}
-use borrow.Author.Tests.{eqb-true, eq-eqb}
+use lib.ListN.{length}
+use lib.Ieee.{le}
+use borrow.Author.Tests.{eqb-true}
 use Rattle.myvec.specs.declared.MyVec.{MyVec}
 use Rattle.model.specs.declared.Particle.{Particle}
-use Rattle.model.specs.declared.Place.{Place}
-use Rattle.model.specs.declared.Event.{Event}
-use Rattle.model.specs.declared.Event.the-variants.{InterParticleCollision, MoveToNeighbour, MoveOutOfCell, WallReflection, Synchronisation}
-use Rattle.model.specs.Doing as event
-use Rattle.halting.specs.Out.{Out, out, next, then, each, pick, eachOf}
+use Rattle.halting.specs.Out.{Out, next, then, each, eachOf}
 use Rattle.halting.proofs.Laws.{then-sound, each-sound}
-use Rattle.order.specs.Numbers.{fzero}
 use Rattle.order.proofs.Order.{le-refl}
-use Rattle.order.proofs.Clock.{finite-no-nan, clock-on}
+use Rattle.order.proofs.Clock.{finite-no-nan}
 use Rattle.model.specs.Grid.{cells}
-use Rattle.model.specs.State.{State, Row, grain, home, listed, queue, has}
-use Rattle.model.specs.Acts.{store, insert, put, cancelled, cancel, enter, leave}
+use Rattle.model.specs.State.{State, grain, home, listed, has}
+use Rattle.model.specs.Acts.{store, cancelled, enter}
 use Rattle.model.specs.Collision.{collision}
 use Rattle.model.specs.Moves.{toNeighbour, outOfCell}
 use Rattle.model.specs.Walls.{wall}
-use Rattle.model.specs.Doing.{others, stepGrain, scheduleCollision, Finder, scheduleBy, boundaries, scheduleWith, scheduleEvents, landed, again, forget, doCollision, doNeighbour, doOut, doWall, doSync, syncAt, execute}
-use Rattle.model.specs.Stepping.{stepped, grainOf}
-use Rattle.model.specs.Standing.{Sound, Named, one-if}
+use Rattle.model.specs.Doing.{others, stepGrain, scheduleCollision, Finder, scheduleBy, boundaries, scheduleWith, scheduleEvents, landed, again, forget, doCollision, doNeighbour, doOut, doWall}
+use Rattle.model.specs.Stepping.{stepped}
+use Rattle.model.specs.Sound.{Sound}
 use Rattle.model.proofs.Lists.{clash}
-use Rattle.model.proofs.Keeps.{on-test, Apt, insert-sound}
 use Rattle.model.proofs.Plans.{AptPlan, collision-apt, toNeighbour-apt, outOfCell-apt, wall-apt}
-use Rattle.model.proofs.Frame.{Near, Frame, Keeps, Goes, near-refl, near-trans, frame-refl, frame-trans, keeps-refl, keeps-on, goes-on, keeps-goes, store-keeps, put-keeps, cancelled-keeps, cancelled-free, In, in-frame, in-home, in-cell, enter-goes, enter-in, leave-goes}
+use Rattle.model.proofs.Frame.{Keeps, Goes, keeps-refl, keeps-on, goes-on, keeps-goes, store-keeps, put-keeps, cancelled-keeps, cancelled-free, In, in-frame, in-home, in-cell, enter-goes, enter-in, leave-goes, of-sound}
+use Rattle.model.proofs.Forgets.{forget-keeps}
 
--- ---- loops over a list, and an act whose second part needs the first to be done
-pub of-sound : {S : Type 0} (P : S → Type 0) (act : ℕ → S → Out S) (xs : List ℕ) → ((x : ℕ) (s : S) → has x xs ≡ true → P s → P ((act x s) .st)) → (s : S) → P s → P ((eachOf act xs s) .st)
-unfolding eachOf has
-of-sound P act [] k s p = p
-of-sound P act (x ∷ xs) k s p =
-    then-sound P (act x s) (eachOf act xs) (k x s (rw (eq-eqb x x refl)) p)
-    (λ u q. of-sound P act xs (λ y t h. k y t (rw h (or-true (eqb y x)))) u q)
-
+-- ---- an act whose second part needs the first to be done
 next-both : {S : Type 0} (P Q : S → Type 0) (r : ℕ) (s : S) (k : S → Out S) → P s → (r ≡ 0 → Q s) → ((u : S) → P u → Q u → P ((k u) .st)) → P ((next r s k) .st)
 next-both P Q zero s k p q g = g s p (q refl)
 next-both P Q (suc r) s k p q g = p
@@ -111,12 +98,6 @@ schedule-keeps p c s sound i =
     scheduleWith-keeps p c (others p (listed s c)) s sound i (λ q h. let w = has-others p q (listed s c) h in (in-cell q c s sound (i .cell) (w .0), w .1))
 
 -- ---- in all cells of a grain
-pub forget-keeps : (p : ℕ) (s : State) → Sound s → p < length (s .grains) → Keeps s ((forget p s) .st)
-unfolding forget
-forget-keeps p s sound P =
-    of-sound (Keeps s) (λ c. cancel p c) (home s p)
-    (λ c u h k. keeps-on s u _ k (cancelled-keeps u p c (k .sound) ((in-frame p c s u (k .frame) (in-home p c s sound P h)) .cell))) s (keeps-refl s sound)
-
 pub again-keeps : (p : ℕ) (s : State) → Sound s → p < length (s .grains) → Keeps s ((again p s) .st)
 unfolding again
 again-keeps p s sound P =

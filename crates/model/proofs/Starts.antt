@@ -1,46 +1,48 @@
--- A start that is accepted and does not halt gives the standing facts, where from_p_to_c gives each grain a cell. Assumes nothing.
-use Prim.Native.Nat.{ℕ, zero, suc, _+_, _-_, _≤_, _<_}
+-- A start that is accepted and does not halt gives the standing facts. Assumes nothing.
+use Prim.Native.Nat.{ℕ, zero, suc, _+_, _≤_, _<_}
 use mathlib.Core.Path.{_≡_, refl, sym, ap, subst, _∙_}
-use mathlib.Core.List.{List, [], _∷_, _++_}
-use mathlib.Core.Bool.{Bool, true, false, not, _&&_, _||_, or-true}
+use mathlib.Core.List.{List, [], _∷_}
+use mathlib.Core.Bool.{Bool, true, false, _&&_, or-true}
 use native.Mathlib.Omega.{arith}
 use native.Mathlib.Decide.{decLe, ℕ-discrete}
 use native.Mathlib.Nat.{add-suc, add-zero, suc-add}
 use lib.Dec.{T, eqb, leb}
 use lib.ListN.{length, getD, replicate, length-replicate, getD-replicate, List·getD-eq-default}
-use lib.Ieee.{Float, binary64, ofBits, le, lt, fits, isNan}
+use lib.Ieee.{Float, binary64, ofBits, le, fits}
 use lib.Ieee.Scale.{finite}
-use borrow.Author.Tests.{eq-eqb, eqb-true, eqb-false, ne-eqb, leb-true}
+use borrow.Author.Tests.{eq-eqb, eqb-true, ne-eqb, leb-true}
 use Rattle.scheduler.specs.declared.Scheduler.{Scheduler}
 use Rattle.model.specs.declared.Domain.{Domain}
 use Rattle.model.specs.declared.Particle.{Particle}
-use Rattle.model.specs.declared.Place.{Place}
-use Rattle.halting.specs.Out.{Out, out, next, then, each, pick, eachOf}
+use Rattle.halting.specs.Out.{Out, out, next, then, each, eachOf}
 use Rattle.halting.proofs.Laws.{then-sound, each-sound, then-keeps}
 use Rattle.order.specs.Numbers.{fzero, last}
 use Rattle.scheduler.specs.Heap.{timeAt, parent, start as startHeap}
-use Rattle.scheduler.specs.Standing.{Inverse, Ordered}
+use Rattle.scheduler.specs.Standing.{Ordered}
 use Rattle.order.proofs.Compare.{lt-irrefl}
 use Rattle.scheduler.proofs.Laws.{time-in, time-out}
 use Rattle.scheduler.proofs.Inverse.{start-inverse}
 use Rattle.model.specs.Grid.{cells}
-use Rattle.model.specs.Events.{headTime, zeroP, eventOf}
+use Rattle.model.specs.Events.{headTime, zeroP}
 use Rattle.model.specs.FromPToC.{cellsOfGrain}
-use Rattle.model.specs.State.{Row, row, none, State, zeroG, grain, home, listed, queue, heads, liveAt, has, marked}
+use Rattle.model.specs.State.{Row, none, State, zeroG, grain, home, listed, queue, heads, liveAt, has, marked}
 use Rattle.model.specs.Acts.{fineGrain, store, insert, enter}
 use Rattle.model.specs.Doing.{scheduleCollision, boundaries, syncAt}
 use Rattle.model.specs.Stepping.{grainOf}
 use Rattle.model.specs.Sizes.{boxOk, countsOk, grainOk, firstBad}
-use Rattle.model.specs.Start.{Begun, empty, clear, goesIn, pairs, syncIn, initCell, begin, refused, started, startedAt, start}
-use Rattle.model.specs.Standing.{All, Once, Numbers, Side, Lists, Queue, Heap, Grain, Sound, Standing, syncs, one-if}
+use Rattle.model.specs.Start.{Begun, empty, clear, goesIn, pairs, initCell, begin, refused, started, startedAt, start}
+use Rattle.model.specs.Standing.{Once, syncs}
+use Rattle.model.specs.Sound.{Numbers, Side, Sound, Stands}
 use Rattle.model.proofs.Lists.{clash}
 use Rattle.model.proofs.Queue.{and-l, and-r}
-use Rattle.model.proofs.Keeps.{on-test, Apt, insert-sound}
+use Rattle.model.proofs.Keeps.{on-test, Apt}
 use Rattle.model.proofs.Plans.{cells-some}
-use Rattle.model.proofs.Frame.{Near, Frame, Keeps, Goes, near-refl, near-trans, keeps-refl, keeps-on, goes-on, keeps-goes, store-keeps, In, in-frame, in-cell, enter-goes, enter-in}
-use Rattle.model.proofs.Schedule.{of-sound, then-both, same-clock, collide-keeps, boundaries-keeps}
+use Rattle.model.proofs.Frame.{Near, Keeps, Goes, near-refl, near-trans, keeps-refl, keeps-on, goes-on, keeps-goes, store-keeps, In, in-frame, in-cell, enter-goes, enter-in, of-sound}
+use Rattle.model.proofs.Schedule.{then-both, collide-keeps, boundaries-keeps}
 use Rattle.model.proofs.Steps.{Ends, insert-ends}
 use Rattle.model.proofs.Grid.{cells-max, cells-under}
+use Rattle.model.proofs.Born.{born}
+use Rattle.model.specs.Check.{Fits}
 
 -- ---- the cleared state is sound
 abbrev emptyN : ℕ → Row ℕ
@@ -60,7 +62,7 @@ empty-side : (m n k : ℕ) → Side m n k (replicate m (emptyN k))
 empty-side m n k = record { long = length-replicate m (emptyN k); each = λ i I. rw (getD-replicate m i (emptyN k) none I) (empty-numbers n k) }
 
 module _ (m : ℕ) {A : Type 0} (k : ℕ) (z : A) where
-  empty-live : (i : ℕ) → liveAt (replicate m (empty k z)) i ≡ []
+  pub empty-live : (i : ℕ) → liveAt (replicate m (empty k z)) i ≡ []
   empty-live i = elim (decLe m i) [
     | yes o ↦ ap (λ (r : Row A). r .live) (List·getD-eq-default (replicate m (empty k z)) none (let e = length-replicate m (empty k z) in omega (arith, e)))
     | no h ↦ ap (λ (r : Row A). r .live) (getD-replicate m i (empty k z) none (omega arith))
@@ -141,15 +143,15 @@ module _ (b : Domain) (room : ℕ) (gs : List Particle) (box : boxOk b ≡ true)
   abbrev at : ℕ → Particle
   at i = getD gs i zeroG
 
-  clear-box : s₀ .box ≡ b
+  pub clear-box : s₀ .box ≡ b
   unfolding clear
   clear-box = refl
 
-  clear-clock : s₀ .clock ≡ fzero
+  pub clear-clock : s₀ .clock ≡ fzero
   unfolding clear
   clear-clock = refl
 
-  clear-few : length (s₀ .grains) ≡ length gs
+  pub clear-few : length (s₀ .grains) ≡ length gs
   unfolding clear
   clear-few = length-replicate (length gs) zeroG
 
@@ -162,12 +164,12 @@ module _ (b : Domain) (room : ℕ) (gs : List Particle) (box : boxOk b ≡ true)
       goes-on u w _ k (enter-goes w i c (k .sound) (rw l I) (rw e (C c h))))
       u (record { sound = g .sound; near = near-refl u })
 
-  stored : (i : ℕ) (u : State) → Goes s₀ u → i < length gs → Keeps u ((store i (grainOf (at i .pos) (at i .vel) fzero (at i .val)) u) .st)
+  pub stored : (i : ℕ) (u : State) → Goes s₀ u → i < length gs → Keeps u ((store i (grainOf (at i .pos) (at i .vel) fzero (at i .val)) u) .st)
   stored i u g I =
       let l : length (u .grains) ≡ length gs = g .near .few ∙ clear-few in
       store-keeps u i (grainOf (at i .pos) (at i .vel) fzero (at i .val)) (g .sound) (rw l I) (rw (g .near .clock ∙ clear-clock) zero-le)
 
-  goesIn-goes : (i : ℕ) (u : State) → i < length gs → Goes s₀ u → Goes s₀ ((goesIn gs i u) .st)
+  pub goesIn-goes : (i : ℕ) (u : State) → i < length gs → Goes s₀ u → Goes s₀ ((goesIn gs i u) .st)
   unfolding goesIn
   goesIn-goes i u I g =
       then-sound (Goes s₀) (store i (grainOf (at i .pos) (at i .vel) fzero (at i .val)) u) _ (goes-on s₀ u _ g (keeps-goes u _ (stored i u g I)))
@@ -233,7 +235,7 @@ module _ (b : Domain) (room : ℕ) (gs : List Particle) (box : boxOk b ≡ true)
       (length gs) 0 s₀ (omega arith) (record { goes = record { sound = sound; near = near-refl s₀ }; some = λ g G. absurd (omega arith) }) z)
 
 -- ---- init_events
-different : (p q : ℕ) (l : List ℕ) → has p l ≡ false → has q l ≡ true → eqb p q ≡ false
+pub different : (p q : ℕ) (l : List ℕ) → has p l ≡ false → has q l ≡ true → eqb p q ≡ false
 different p q l a h = elim (ℕ-discrete p q) [
   | yes e ↦ clash (sym a ∙ ap (λ (x : ℕ). has x l) e ∙ h)
   | no d ↦ ne-eqb p q d
@@ -308,7 +310,7 @@ init-ends (suc m) s sound e q h =
 
 -- A START THAT IS ACCEPTED AND DOES NOT HALT GIVES THE STANDING FACTS
 module _ (b : Domain) (room : ℕ) (gs : List Particle) (box : boxOk b ≡ true) (r : 16 ≤ room) (r′ : room ≤ 256) (few : length gs ≤ 256) where
-  cleared : Sound (clear b room (length gs))
+  pub cleared : Sound (clear b room (length gs))
   cleared = clear-sound b room (length gs) box r r′ few
 
   clear-syncs : syncs (queue (clear b room (length gs)) 0) ≡ 0
@@ -319,7 +321,7 @@ module _ (b : Domain) (room : ℕ) (gs : List Particle) (box : boxOk b ≡ true)
   unfolding clear
   clear-mark = refl
 
-  inits : (u : State) → Inside b room gs box (length gs) u → (each initCell (cells b) 0 u) .num ≡ 0 → Standing ((each initCell (cells b) 0 u) .st)
+  inits : (u : State) → Inside b room gs box (length gs) u → (each initCell (cells b) 0 u) .num ≡ 0 → Stands ((each initCell (cells b) 0 u) .st)
   inits u p z =
       let n = p .goes .near in
       let e = init-ends (cells b) u (p .goes .sound) (n .clock ∙ clear-clock b room gs box) (sym (ap cells (n .box ∙ clear-box b room gs box))) (cells-some b) in
@@ -330,9 +332,9 @@ module _ (b : Domain) (room : ℕ) (gs : List Particle) (box : boxOk b ≡ true)
         sync = e .calm z ∙ rw (n .calm ∙ clear-syncs);
       }
 
-  pub begin-stands : Reaches b room gs box → (begin b room gs) .num ≡ 0 → Standing ((begin b room gs) .st)
+  pub begin-stands : Reaches b room gs box → (begin b room gs) .num ≡ 0 → Stands ((begin b room gs) .st)
   unfolding begin
-  begin-stands some = then-keeps (Inside b room gs box (length gs)) Standing (each (goesIn gs) (length gs) 0 (clear b room (length gs))) (λ s. each initCell (cells b) 0 s) (all-inside b room gs box some cleared) inits
+  begin-stands some = then-keeps (Inside b room gs box (length gs)) Stands (each (goesIn gs) (length gs) 0 (clear b room (length gs))) (λ s. each initCell (cells b) 0 s) (all-inside b room gs box some cleared) inits
 
   -- halted or not, it is sound
   pub begin-sound : Sound ((begin b room gs) .st)
@@ -352,10 +354,10 @@ module _ (b : Domain) (room : ℕ) (gs : List Particle) (box : boxOk b ≡ true)
 marked-sound : (r : ℕ) (u : State) → Sound u → Sound (marked r u)
 marked-sound r u h = record { box = h .box; room = h .room; few = h .few; clock = h .clock; fit = h .fit; grains = h .grains; lists = h .lists; long = h .long; queues = h .queues; heap = h .heap }
 
-marked-stands : (r : ℕ) (u : State) → r ≡ 0 → Standing u → Standing (marked r u)
+marked-stands : (r : ℕ) (u : State) → r ≡ 0 → Stands u → Stands (marked r u)
 marked-stands r u e st = record { sound = marked-sound r u (st .sound); free = e; housed = st .housed; sync = st .sync }
 
-first-good : (b : Domain) (gs : List Particle) → firstBad b gs ≡ length gs → (i : ℕ) → i < length gs → grainOk b (getD gs i zeroG) ≡ true
+pub first-good : (b : Domain) (gs : List Particle) → firstBad b gs ≡ length gs → (i : ℕ) → i < length gs → grainOk b (getD gs i zeroG) ≡ true
 unfolding firstBad
 first-good b [] e i h = absurd (omega arith)
 first-good b (p ∷ ps) e i h = by (grainOk b p) refl i h (first-good b ps)
@@ -368,15 +370,12 @@ first-good b (p ∷ ps) e i h = by (grainOk b p) refl i h (first-good b ps)
 -- sound if it began; standing if it did not halt
 abbrev pub WellBegun : Begun → Type 0
 WellBegun (refused r i) = Unit {0}
-WellBegun (started s) = Sound s × (s .mark ≡ 0 → Standing s)
+WellBegun (started s) = Sound s × (s .mark ≡ 0 → Stands s)
 
--- what is open: an accepted position reaches a cell
-abbrev pub Placed : Domain → Type 0
-Placed b = (p : Particle) → grainOk b p ≡ true → 1 ≤ length (cellsOfGrain b (p .pos))
-
-pub start-stands : (b : Domain) (room : ℕ) (gs : List Particle) → (boxOk b ≡ true → Placed b) → WellBegun (start b room gs)
+-- whatever it is given: the lengths are 64-bit floats, as every owned float is
+pub start-stands : (b : Domain) (room : ℕ) (gs : List Particle) → Fits b → WellBegun (start b room gs)
 unfolding start
-start-stands b room gs placed =
+start-stands b room gs f =
     on-test WellBegun (boxOk b) _ (refused 1 0)
     (λ box. on-test WellBegun (countsOk room (length gs)) _ (refused 2 0)
     (λ c.
@@ -387,7 +386,7 @@ start-stands b room gs placed =
     on-test WellBegun (eqb (firstBad b gs) (length gs)) (startedAt (begin b room gs)) (refused 4 (firstBad b gs))
     (λ g. (
       marked-sound ((begin b room gs) .num) ((begin b room gs) .st) (begin-sound b room gs box lo hi few),
-      λ z. marked-stands ((begin b room gs) .num) ((begin b room gs) .st) z (begin-stands b room gs box lo hi few (λ i I. placed box (getD gs i zeroG) (first-good b gs (eqb-true _ _ g) i I)) z),
+      λ z. marked-stands ((begin b room gs) .num) ((begin b room gs) .st) z (begin-stands b room gs box lo hi few (λ i I. born b (getD gs i zeroG) f box (first-good b gs (eqb-true _ _ g) i I) .some) z),
     ))
     (λ g. tt))
     (λ c. tt))

@@ -1,34 +1,35 @@
 -- A step keeps the standing facts if it does not halt, and `Sound` if it does; the clock does not go back. Assumes nothing.
-use Prim.Native.Nat.{ℕ, zero, suc, _+_, _-_, _≤_, _<_}
+use Prim.Native.Nat.{ℕ, zero, suc, _+_, _≤_, _<_}
 use mathlib.Core.Path.{_≡_, refl, sym, ap, subst, _∙_}
-use mathlib.Core.List.{List, [], _∷_, _++_}
-use mathlib.Core.Bool.{Bool, true, false, not}
+use mathlib.Core.List.{List, [], _∷_}
+use mathlib.Core.Bool.{Bool, false, not}
 use native.Mathlib.Omega.{arith}
 use native.Mathlib.Decide.{ℕ-discrete}
 use lib.Dec.{T, ltb}
-use lib.ListN.{length, getD, set, drop}
-use lib.Ieee.{Float, binary64, add, le, lt, fits, isNan, ofBits}
+use lib.ListN.{length, set, drop}
+use lib.Ieee.{Float, binary64, add, le, lt, ofBits}
 use lib.Ieee.Fits.{add-fits}
 use Rattle.model.specs.declared.Place.{Place}
 use Rattle.model.specs.declared.Event.{Event}
 use Rattle.model.specs.declared.Event.the-variants.{InterParticleCollision, MoveToNeighbour, MoveOutOfCell, WallReflection, Synchronisation}
-use Rattle.halting.specs.Out.{Out, out, next, then, each, pick}
-use Rattle.halting.proofs.Laws.{then-sound, each-sound}
+use Rattle.halting.specs.Out.{Out, out, next, each, pick}
+use Rattle.halting.proofs.Laws.{each-sound}
 use Rattle.order.specs.Numbers.{fzero, last}
-use Rattle.order.proofs.Order.{le-lt-trans, lt-irrefl, le-refl}
-use Rattle.order.proofs.Clock.{clock-on, finite-no-nan}
+use Rattle.order.proofs.Order.{le-lt-trans, lt-irrefl}
+use Rattle.order.proofs.Clock.{clock-on}
 use Rattle.model.specs.Grid.{cells}
 use Rattle.model.specs.Events.{eventOf, headTime, headPlace, finePlace, insertBy, zeroP}
-use Rattle.model.specs.State.{State, Row, row, grain, home, listed, queue, has, liveAt, requeued, marked}
+use Rattle.model.specs.State.{State, Row, row, grain, home, listed, queue, liveAt, requeued}
 use Rattle.model.specs.Acts.{insert, inserted, first, head, taken, queueRow}
-use Rattle.model.specs.Doing.{stepGrain, doSync, syncAt, execute, Stepped, done, halted, Moved, wasSync, finish, headEvent, event, step, Whole, synchronised}
+use Rattle.model.specs.Doing.{stepGrain, doSync, syncAt, execute, finish, headEvent, event, step, Whole}
 use Rattle.model.specs.Stepping.{grainOf}
-use Rattle.model.specs.Standing.{Sound, Standing, Named, Held, All, Rising, syncs, one-if}
-use Rattle.model.proofs.Lists.{clash, live-same, live-other}
+use Rattle.model.specs.Standing.{All, syncs, one-if}
+use Rattle.model.specs.Sound.{Sound, Stands, Named, Held}
+use Rattle.model.proofs.Lists.{live-same, live-other}
 use Rattle.model.proofs.Queue.{fine-top}
 use Rattle.model.proofs.Keeps.{on-test, Apt, insert-sound, first-in, root-first, taken-sound, taken-clock, head-held}
 use Rattle.model.proofs.Plans.{cells-some}
-use Rattle.model.proofs.Frame.{Near, Frame, Keeps, Goes, near-refl, near-trans, keeps-refl, keeps-on, keeps-goes, syncs-insert, In, in-cell}
+use Rattle.model.proofs.Frame.{Keeps, Goes, keeps-refl, keeps-on, keeps-goes, syncs-insert, In, in-cell}
 use Rattle.model.proofs.Schedule.{step-keeps, collision-goes, neighbour-goes, out-goes, wall-goes}
 
 -- ---- the synchronisation
@@ -128,7 +129,7 @@ some-of : (l : List Place) → T (lt (headTime l) last) → 0 < length l
 some-of [] h = absurd (lt-irrefl last h)
 some-of (x ∷ xs) h = omega arith
 
-pub first-some : (s : State) → Standing s → 0 < length (queue s (first s))
+pub first-some : (s : State) → Stands s → 0 < length (queue s (first s))
 first-some s st =
     let N = cells-some (s .box) in
     some-of (queue s (first s)) (le-lt-trans (headTime (queue s (first s))) (headTime (queue s 0)) last (root-first s (st .sound) N 0 N)
@@ -147,7 +148,7 @@ only-there n c l (MoveOutOfCell p x k) m d = refl
 only-there n c l (WallReflection p x v w) m d = refl
 only-there n c l Synchronisation m d = absurd (d (m .0))
 
-module _ (s : State) (st : Standing s) where
+module _ (s : State) (st : Stands s) where
   abbrev c₀ : ℕ
   c₀ = first s
 
@@ -157,7 +158,7 @@ module _ (s : State) (st : Standing s) where
   c-in : c₀ < cells (s .box)
   c-in = first-in s (st .sound) (cells-some (s .box))
 
-  head-ok : Held (cells (s .box)) c₀ (listed s c₀) (head s)
+  pub head-ok : Held (cells (s .box)) c₀ (listed s c₀) (head s)
   head-ok = let q = st .sound .queues c₀ c-in in head-held (s .clock) (cells (s .box)) c₀ (listed s c₀) (queue s c₀) live (q .rising) (q .held) .0
 
   pub taken-syncs : one-if (headEvent s) + syncs (queue (taken s) 0) ≡ 1
@@ -176,7 +177,7 @@ module _ (s : State) (st : Standing s) where
       r = row (drop 1 (queue s c₀)) (zeroP ∷ (queueRow s c₀) .spare)
 
 -- ---- a step
-module _ (rate : Float) (later : lt rate fzero ≡ false) (s : State) (st : Standing s) where
+module _ (rate : Float) (later : lt rate fzero ≡ false) (s : State) (st : Stands s) where
   pub event-ends : Ends (one-if (headEvent s)) (taken s) (event rate s)
   unfolding event
   event-ends =
@@ -215,7 +216,7 @@ module _ (rate : Float) (later : lt rate fzero ≡ false) (s : State) (st : Stan
   unfolding taken requeued
   taken-home g = refl
 
-  whole-stands : (event rate s) .num ≡ 0 → Standing ((event rate s) .st)
+  whole-stands : (event rate s) .num ≡ 0 → Stands ((event rate s) .st)
   whole-stands z =
       let e = event-ends in
       record {
@@ -225,10 +226,10 @@ module _ (rate : Float) (later : lt rate fzero ≡ false) (s : State) (st : Stan
         sync = e .calm z ∙ taken-syncs s st;
       }
 
-  finish-stands : (r : ℕ) (u : State) (e : Event) → (r ≡ 0 → Standing u) → Whole ((finish r u e) .how) → Standing ((finish r u e) .state)
+  finish-stands : (r : ℕ) (u : State) (e : Event) → (r ≡ 0 → Stands u) → Whole ((finish r u e) .how) → Stands ((finish r u e) .state)
   finish-stands zero u e h w = h refl
   finish-stands (suc r) u e h w = absurd w
 
-  pub step-stands : Whole ((step rate s) .how) → Standing ((step rate s) .state)
+  pub step-stands : Whole ((step rate s) .how) → Stands ((step rate s) .state)
   unfolding step
   step-stands = finish-stands ((event rate s) .num) ((event rate s) .st) (headEvent s) whole-stands

@@ -1,48 +1,34 @@
 -- The public run, behind its checks: a run of j + k is a run of j and, if that was spent, a run of k. Assumes nothing.
-use Prim.Native.Nat.{ℕ, zero, suc, _+_, _*_, _≤_, _<_}
-use mathlib.Core.Path.{_≡_, refl, sym, ap, subst, _∙_}
-use mathlib.Core.List.{List, [], _∷_}
-use mathlib.Core.Bool.{Bool, true, false, not, _&&_}
+use Prim.Native.Nat.{ℕ, _+_, _*_, _≤_}
+use mathlib.Core.Path.{_≡_, refl, sym, ap, _∙_}
+use mathlib.Core.Bool.{Bool, true, false}
 use native.Mathlib.Omega.{arith}
-use native.Mathlib.Decide.{decLe}
 use native.Mathlib.Nat.{add-zero, mul-le-mul}
-use lib.Dec.{T, leb}
-use lib.ListN.{length, getD, List·getD-eq-default}
-use lib.Ieee.{Float, binary64, ofBits, le, lt, fits}
-use borrow.Author.Tests.{le-leb, lt-leb}
+use lib.Dec.{T}
+use lib.Ieee.{Float, binary64, ofBits, le, lt}
+use borrow.Author.Tests.{le-leb}
 use Rattle.model.specs.declared.Domain.{Domain}
-use Rattle.model.specs.declared.Place.{Place}
 use Rattle.halting.specs.Out.{pick}
 use Rattle.order.specs.Numbers.{fzero}
 use Rattle.order.proofs.Order.{le-lt-trans}
 use Rattle.model.specs.Grid.{across, cells}
-use Rattle.model.specs.State.{Row, none, State, queue, listed}
-use Rattle.model.specs.Run.{How, spent, Ran, runFrom, plus, goOn, continue, refused}
-use Rattle.model.specs.Standing.{All, Held, Sound, Standing}
-use Rattle.model.specs.Check.{counts, standing, Fitted, sized, halt, refusal, runAll, followBy, followed}
+use Rattle.model.specs.State.{State}
+use Rattle.model.specs.Run.{How, spent, Ran, runFrom, plus, goOn, refused}
+use Rattle.model.specs.Sound.{Sound, Stands}
+use Rattle.model.specs.Check.{standing, Fitted, sized, halt, refusal, runAll, followBy, followed}
 use Rattle.model.specs.Sizes.{rated}
-use Rattle.model.proofs.Lists.{clash}
-use Rattle.model.proofs.Queue.{T-of, of-T, and-l, all-to}
+use Rattle.model.proofs.Queue.{T-of, and-l}
 use Rattle.model.proofs.Plans.{across-min}
-use Rattle.model.proofs.Reflect.{Says, says-standing}
+use Rattle.model.proofs.Reflect.{says-stands}
+use Rattle.model.proofs.Stands.{sound-fitted}
 use Rattle.model.proofs.Runs.{split, count, run-stands}
 
 -- what stands, passes each check
-pub sound-fitted : (s : State) → Sound s → Fitted s
-sound-fitted s h = record {
-  clock = h .fit;
-  times = λ c. elim (decLe (cells (s .box)) c) [
-    | yes o ↦ subst (λ (r : Row Place). All (λ e. T (fits binary64 (e .time))) (r .live)) (sym (List·getD-eq-default (s .queues) none (omega (arith, h .long)))) tt
-    | no i ↦ all-to (Held (cells (s .box)) c (listed s c)) (λ e. T (fits binary64 (e .time))) (queue s c) (λ e x. x .fit) (h .queues c (omega arith) .held)
-  ];
-}
-
 nine-cells : (b : Domain) → 9 ≤ cells b
 nine-cells b = let p : 3 * 3 ≤ across 0 b * across 1 b = mul-le-mul (across-min 0 b) (across-min 1 b) in p
 
-stands-sized : (s : State) → Standing s → sized s ≡ true
-stands-sized s st =
-    let h = st .sound in
+pub sound-sized : (s : State) → Sound s → sized s ≡ true
+sound-sized s h =
     let w = nine-cells (s .box) in
     let n : 9 ≤ s .sched .cells = omega (arith, h .heap .cells) in
     rw (le-leb _ _ (h .few), le-leb _ _ (h .room .0), le-leb _ _ (h .room .1), le-leb _ _ n, le-leb _ _ (h .heap .inverse .room))
@@ -61,9 +47,9 @@ rated-later rate h = by (lt rate fzero) refl
     by false e = e
 
 -- at standing facts a run is its steps
-pub runs : (rate : Float) (b : ℕ) (s : State) → rated rate ≡ true → Standing s → runAll rate b s ≡ runFrom rate b 0 s
+pub runs : (rate : Float) (b : ℕ) (s : State) → rated rate ≡ true → Stands s → runAll rate b s ≡ runFrom rate b 0 s
 unfolding runAll
-runs rate b s r st = rw (stands-sized s st, free-halt (s .mark) (st .free), r, says-standing s (sound-fitted s (st .sound)) .holds st)
+runs rate b s r st = rw (sound-sized s (st .sound), free-halt (s .mark) (st .free), r, says-stands s (sound-fitted s (st .sound)) .holds st)
 
 -- a spent run passed them; one that ended otherwise ends so with any greater budget
 abbrev gate : Bool → Bool → Bool → Bool → State → Ran → Ran
@@ -105,8 +91,8 @@ module _ (rate : Float) (j k : ℕ) (s : State) (fitted : Fitted s) where
       g : (rated rate ≡ true) × (standing s ≡ true)
       g = unfold runAll in gate-spent (sized s) (halt (s .mark)) (rated rate) (standing s) s (runFrom rate j 0 s) e
 
-      st : Standing s
-      st = says-standing s fitted .means (g .1)
+      st : Stands s
+      st = says-stands s fitted .means (g .1)
 
       r : Ran
       r = runFrom rate j 0 s
@@ -117,12 +103,12 @@ module _ (rate : Float) (j k : ℕ) (s : State) (fitted : Fitted s) where
       e′ : r .how ≡ spent
       e′ = ap (λ (q : Ran). q .how) (sym x) ∙ e
 
-      by : (h : How) → (runFrom rate j 0 s) .how ≡ h → h ≡ spent → Standing ((runFrom rate j 0 s) .state)
+      by : (h : How) → (runFrom rate j 0 s) .how ≡ h → h ≡ spent → Stands ((runFrom rate j 0 s) .state)
       by How.synchronised p q = absurd (let z : _≡_ {A = ℕ} 0 1 = cc in omega arith)
       by spent p q = rw p at (run-stands rate (rated-later rate (g .0)) j 0 s st)
       by (refused m) p q = refused-not m q
 
-      stands′ : Standing (r .state)
+      stands′ : Stands (r .state)
       stands′ = by (r .how) refl e′
 
   after-ended : ((runAll rate j s) .how ≡ spent → ⊥) → runAll rate (j + k) s ≡ runAll rate j s

@@ -12,11 +12,12 @@ use Rattle.halting.specs.Every.{every}
 use Rattle.order.specs.Numbers.{fzero}
 use Rattle.scheduler.specs.declared.Scheduler.{Scheduler}
 use Rattle.scheduler.specs.Heap.{timeAt, parent}
+use Rattle.model.specs.declared.Domain.{Domain}
 use Rattle.model.specs.declared.Place.{Place}
 use Rattle.model.specs.declared.Event.{Event}
 use Rattle.model.specs.declared.Event.the-variants.{InterParticleCollision, MoveToNeighbour, MoveOutOfCell, WallReflection, Synchronisation}
 use Rattle.model.specs.Sizes.{memberRoom, homeRoom, boxOk, countsOk, rated}
-use Rattle.model.specs.Grid.{cells}
+use Rattle.model.specs.Grid.{lengthOf, cells}
 use Rattle.model.specs.Events.{eventOf, finePlace}
 use Rattle.model.specs.State.{Row, none, State, grain, home, listed, queue, heads, has}
 use Rattle.model.specs.Acts.{fineGrain}
@@ -93,10 +94,14 @@ sound s = (boxOk (s .box) && (counts s && finite (s .clock))) && (grains s && (l
 unfoldable pub standing : State → Bool
 standing s = sound s && (eqb (s .mark) 0 && (every (λ g. leb 1 (length (home s g))) (length (s .grains)) 0 && eqb (syncs (queue s 0)) 1))
 
--- what every table of floats gives: times are 64-bit floats
+-- what every owned float gives, so that every caller has it: times and lengths are 64-bit floats
 pub record Fitted (s : State) : Type 0 where
   pub clock : T (fits binary64 (s .clock))
   pub times : (c : ℕ) → All (λ e. T (fits binary64 (e .time))) (queue s c)
+
+pub record Fits (b : Domain) : Type 0 where
+  pub first : T (fits binary64 (lengthOf 0 b))
+  pub second : T (fits binary64 (lengthOf 1 b))
 
 -- ---- the run: 2, the mark, 3, 10
 abbrev pub sized : State → Bool

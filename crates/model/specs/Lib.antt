@@ -14,5 +14,7 @@ pub mod Doing
 pub mod Run
 pub mod Start
 pub mod Standing
+pub mod Sound
 pub mod Check
+pub mod Reached
 pub mod Reports

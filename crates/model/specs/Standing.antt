@@ -1,95 +1,38 @@
--- 01, "Standing facts". `Sound`: what every act keeps, done or refused. `Standing`: those, and what holds between events besides.
--- Assumes nothing: these are definitions.
+-- 01, "Standing facts, tested by each unhalted run": all of them, in its words and order. Assumes nothing: these are definitions.
 use Prim.Native.Nat.{ℕ, _+_, _≤_, _<_}
 use mathlib.Core.Path.{_≡_}
 use mathlib.Core.List.{List, [], _∷_}
 use mathlib.Core.Bool.{true, false}
 use lib.Dec.{T, eqb}
 use lib.ListN.{length, getD}
-use lib.Ieee.{Float, binary64, le, fits}
+use lib.Ieee.{Float, le}
 use lib.Ieee.Scale.{finite}
-use Rattle.scheduler.specs.declared.Scheduler.{Scheduler}
 use Rattle.scheduler.specs.Standing.{Inverse, Ordered}
-use Rattle.model.specs.declared.Particle.{Particle}
 use Rattle.model.specs.declared.Place.{Place}
 use Rattle.model.specs.declared.Event.{Event}
 use Rattle.model.specs.declared.Event.the-variants.{InterParticleCollision, MoveToNeighbour, MoveOutOfCell, WallReflection, Synchronisation}
 use Rattle.model.specs.Sizes.{boxOk, memberRoom, homeRoom}
 use Rattle.model.specs.Grid.{cells}
 use Rattle.model.specs.Events.{eventOf, finePlace}
-use Rattle.model.specs.State.{Row, none, State, grain, home, listed, queue, heads, liveAt, has}
+use Rattle.model.specs.State.{Row, none, State, grain, home, listed, queue, heads, has}
 use Rattle.model.specs.Acts.{fineGrain}
+use lib.Ieee.{lt}
+use Rattle.order.specs.Numbers.{last}
 
--- ---- one queue: in time order from `t` on, and each event fine
-abbrev pub Rising : Float → List Place → Type 0
-Rising t [] = Unit {0}
-Rising t (x ∷ xs) = T (le t (x .time)) × Rising (x .time) xs
-
+-- ---- lists
 abbrev pub All : {A : Type 0} → (A → Type 0) → List A → Type 0
 All P [] = Unit {0}
 All P (x ∷ xs) = P x × All P xs
 
--- of n cells, in cell c, which lists the grains l: an event names only grains that its cell lists, two different ones in a collision,
--- a cell in range, its own cell in a leaving; a synchronisation is in cell 0
-abbrev pub Named : ℕ → ℕ → List ℕ → Event → Type 0
-Named n c l (InterParticleCollision p q x y v w k) = (has p l ≡ true) × (has q l ≡ true) × (eqb p q ≡ false)
-Named n c l (MoveToNeighbour p x k) = (has p l ≡ true) × (k < n)
-Named n c l (MoveOutOfCell p x k) = (has p l ≡ true) × (k ≡ c)
-Named n c l (WallReflection p x v w) = (has p l ≡ true) × Unit {0}
-Named n c l Synchronisation = (c ≡ 0) × Unit {0}
-
-pub record Held (n c : ℕ) (l : List ℕ) (e : Place) : Type 0 where
-  pub kind : (1 ≤ e .kind) × (e .kind ≤ 5)
-  pub fine : finePlace e ≡ true
-  pub fit : T (fits binary64 (e .time))
-  pub named : Named n c l (eventOf (e .kind) e)
-
-pub record Queue (t : Float) (room n c : ℕ) (l : List ℕ) (r : Row Place) : Type 0 where
-  pub full : length (r .live) + length (r .spare) ≡ room
-  pub rising : Rising t (r .live)
-  pub held : All (Held n c l) (r .live)
-
--- ---- lists of numbers: once each, below n, in k places
+-- no number twice
 abbrev pub Once : List ℕ → Type 0
 Once [] = Unit {0}
 Once (x ∷ xs) = (has x xs ≡ false) × Once xs
 
-pub record Numbers (n k : ℕ) (r : Row ℕ) : Type 0 where
-  pub full : length (r .live) + length (r .spare) ≡ k
-  pub below : (x : ℕ) → has x (r .live) ≡ true → x < n
-  pub once : Once (r .live)
-
--- m rows of them
-pub record Side (m n k : ℕ) (rs : List (Row ℕ)) : Type 0 where
-  pub long : length rs ≡ m
-  pub each : (i : ℕ) → i < m → Numbers n k (getD rs i none)
-
--- cells and grains list each other
-pub record Lists (g n : ℕ) (hs ms : List (Row ℕ)) : Type 0 where
-  pub homes : Side g n homeRoom hs
-  pub members : Side n g memberRoom ms
-  pub mutual′ : (i c : ℕ) → i < g → c < n → has c (liveAt hs i) ≡ has i (liveAt ms c)
-
-pub record Heap (n : ℕ) (qs : List (Row Place)) (h : Scheduler) : Type 0 where
-  pub cells : h .cells ≡ n
-  pub inverse : Inverse h
-  pub ordered : Ordered (heads qs) h
-
-pub record Grain (t : Float) (p : Particle) : Type 0 where
-  pub fine : fineGrain p ≡ true
-  pub past : T (le (p .time) t)
-
-pub record Sound (s : State) : Type 0 where
-  pub box : boxOk (s .box) ≡ true
-  pub room : (16 ≤ s .room) × (s .room ≤ 256)
-  pub few : length (s .grains) ≤ 256
-  pub clock : T (finite (s .clock))
-  pub fit : T (fits binary64 (s .clock))
-  pub grains : (g : ℕ) → g < length (s .grains) → Grain (s .clock) (grain s g)
-  pub lists : Lists (length (s .grains)) (cells (s .box)) (s .homes) (s .members)
-  pub long : length (s .queues) ≡ cells (s .box)
-  pub queues : (c : ℕ) → c < cells (s .box) → Queue (s .clock) (s .room) (cells (s .box)) c (listed s c) (getD (s .queues) c none)
-  pub heap : Heap (cells (s .box)) (s .queues) (s .sched)
+-- in time order, the first at least t
+abbrev pub Rising : Float → List Place → Type 0
+Rising t [] = Unit {0}
+Rising t (x ∷ xs) = T (le t (x .time)) × Rising (x .time) xs
 
 -- synchronisations in a list
 abbrev pub one-if : Event → ℕ
@@ -103,8 +46,74 @@ unfoldable pub syncs : List Place → ℕ
 syncs [] = 0
 syncs (x ∷ xs) = one-if (eventOf (x .kind) x) + syncs xs
 
+-- ---- one event of cell c, which lists the grains l
+-- the cell that a neighbour event enters is one of n
+abbrev pub InRange : ℕ → Event → Type 0
+InRange n (InterParticleCollision p q x y v w k) = Unit {0}
+InRange n (MoveToNeighbour p x k) = k < n
+InRange n (MoveOutOfCell p x k) = Unit {0}
+InRange n (WallReflection p x v w) = Unit {0}
+InRange n Synchronisation = Unit {0}
+
+-- it names only grains that its cell lists, two different ones in a collision, and a leaving event belongs to the cell that holds it
+abbrev pub OfCell : ℕ → List ℕ → Event → Type 0
+OfCell c l (InterParticleCollision p q x y v w k) = (has p l ≡ true) × (has q l ≡ true) × (eqb p q ≡ false)
+OfCell c l (MoveToNeighbour p x k) = has p l ≡ true
+OfCell c l (MoveOutOfCell p x k) = (has p l ≡ true) × (k ≡ c)
+OfCell c l (WallReflection p x v w) = has p l ≡ true
+OfCell c l Synchronisation = Unit {0}
+
+-- ---- of all cells, of all grains, of all events
+abbrev pub EachCell : State → (ℕ → Type 0) → Type 0
+EachCell s P = (c : ℕ) → c < cells (s .box) → P c
+
+abbrev pub EachGrain : State → (ℕ → Type 0) → Type 0
+EachGrain s P = (g : ℕ) → g < length (s .grains) → P g
+
+abbrev pub EachEvent : State → (ℕ → Place → Type 0) → Type 0
+EachEvent s P = EachCell s (λ c. All (P c) (queue s c))
+
+-- as many places as it has, in use or beyond
+abbrev pub Places : {A : Type 0} → ℕ → Row A → Type 0
+Places k r = length (r .live) + length (r .spare) ≡ k
+
 pub record Standing (s : State) : Type 0 where
-  pub sound : Sound s
-  pub free : s .mark ≡ 0
-  pub housed : (g : ℕ) → g < length (s .grains) → 1 ≤ length (home s g)
-  pub sync : syncs (queue s 0) ≡ 1
+  -- "box lengths, list counts and indices in range": 9 to 48; grains at most 256, room 16 to 256, no list with more than its places;
+  pub box-lengths : boxOk (s .box) ≡ true
+  pub grain-count : length (s .grains) ≤ 256
+  pub room-count : (16 ≤ s .room) × (s .room ≤ 256)
+  pub homes-each : length (s .homes) ≡ length (s .grains)
+  pub home-counts : EachGrain s (λ g. Places homeRoom (getD (s .homes) g none))
+  pub member-counts : EachCell s (λ c. Places memberRoom (getD (s .members) c none))
+  pub event-counts : EachCell s (λ c. Places (s .room) (getD (s .queues) c none))
+  -- a listed cell is one of the box, a listed grain one of the grains, a kind one of the five; the mark is 0, for a run that is not halted
+  pub cell-indices : EachGrain s (λ g. (c : ℕ) → has c (home s g) ≡ true → c < cells (s .box))
+  pub grain-indices : EachCell s (λ c. (g : ℕ) → has g (listed s c) ≡ true → g < length (s .grains))
+  pub kinds : EachEvent s (λ c e. (1 ≤ e .kind) × (e .kind ≤ 5))
+  pub event-indices : EachEvent s (λ c e. InRange (cells (s .box)) (eventOf (e .kind) e))
+  pub mark : s .mark ≡ 0
+  -- "stored numbers finite"
+  pub clock-finite : T (finite (s .clock))
+  pub grains-finite : EachGrain s (λ g. fineGrain (grain s g) ≡ true)
+  pub events-finite : EachEvent s (λ c e. finePlace e ≡ true)
+  -- "cell data as the box gives it": bounds, neighbours and positions are computed from the box; as many cells as it gives have lists and places in the heap
+  pub cell-data : (s .sched .cells ≡ cells (s .box)) × (length (s .members) ≡ cells (s .box)) × (length (s .queues) ≡ cells (s .box))
+  -- "each event list in time order, every time at least the clock and below f64::MAX"
+  pub time-order : EachCell s (λ c. Rising (s .clock) (queue s c))
+  pub times-below : EachEvent s (λ c e. T (lt (e .time) last))
+  -- "each grain's time at most the clock"
+  pub grain-times : EachGrain s (λ g. T (le ((grain s g) .time) (s .clock)))
+  -- "heap and lookups inverse"
+  pub inverse : Inverse (s .sched)
+  -- "no child's head earlier than its parent's"
+  pub heap-order : Ordered (heads (s .queues)) (s .sched)
+  -- "one synchronisation event, in cell 0"
+  pub one-synchronisation : syncs (queue s 0) ≡ 1
+  pub nowhere-else : EachCell s (λ c. 0 < c → syncs (queue s c) ≡ 0)
+  -- "cells and grains list each other, once each"
+  pub each-other : EachGrain s (λ g. EachCell s (λ c. has c (home s g) ≡ has g (listed s c)))
+  pub once-each : EachGrain s (λ g. Once (home s g)) × EachCell s (λ c. Once (listed s c))
+  -- "each grain in some cell"
+  pub some-cell : EachGrain s (λ g. 1 ≤ length (home s g))
+  -- "an event names only grains its cell lists, two different ones in a collision, and a leaving event belongs to the cell that holds it"
+  pub events-named : EachEvent s (λ c e. OfCell c (listed s c) (eventOf (e .kind) e))

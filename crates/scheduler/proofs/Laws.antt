@@ -11,7 +11,7 @@ use lib.Dec.{ltb, leb, eqb}
 use lib.Ieee.{Float, binary64, ofBits, lt, le}
 use borrow.Author.Tests.{lt-ltb, le-ltb, eq-eqb, ne-eqb, eqb-true, eqb-false}
 use Rattle.scheduler.specs.declared.Scheduler.{Scheduler}
-use Rattle.scheduler.specs.Heap.{timeIn, timeAt, swapAt, pick, childIn, childOf, down, downshifted, parent, parentOf, up, upshifted, Fit}
+use Rattle.scheduler.specs.Heap.{timeIn, timeAt, swapAt, pick, childIn, childOf, down, downshifted, parent, parentIn, parentOf, up, upshifted, Fit}
 use Rattle.order.specs.Numbers.{last}
 
 -- below the length the default is not read
@@ -142,10 +142,6 @@ downshifted-goes h s p in′ n =
     ∙ down-fuel h (s .cells - p - 1) (s′ .cells - q) s′ q (further h s p (s .cells - p - 1) (omega arith) n) (omega arith))
 
 -- ---- the upshift
-pub upshifted-zero : (h : ℕ → Float) (s : Scheduler) (c : ℕ) → c ≡ 0 → upshifted h s c ≡ s
-unfolding upshifted up
-upshifted-zero h s c e = rw e
-
 pub up-stays : (h : ℕ → Float) (k : ℕ) (s : Scheduler) (c : ℕ) → parentOf h s c ≡ c → up h k s c ≡ s
 unfolding up
 up-stays h zero s c e = refl
@@ -155,35 +151,41 @@ pub up-goes : (h : ℕ → Float) (k : ℕ) (s : Scheduler) (c : ℕ) → (paren
 unfolding up
 up-goes h k s c n = simp (ne-eqb (parentOf h s c) c n)
 
--- the parent's time where the index is in use and its own time is earlier
-pub parent-out : (h : ℕ → Float) (s : Scheduler) (c : ℕ) → s .cells ≤ c → parentOf h s c ≡ c
-unfolding parentOf
-parent-out h s c o = simp (le-ltb c (s .cells) o)
+-- the parent where the index is in use and its own time is earlier
+module _ (h : ℕ → Float) (heap : List ℕ) (n c : ℕ) where
+  pub parent-out : n ≤ c → parentIn h heap n c ≡ c
+  unfolding parentIn
+  parent-out o = simp (le-ltb c n o)
 
-pub parent-late : (h : ℕ → Float) (s : Scheduler) (c : ℕ) → c < s .cells → lt (timeAt h s c) (timeAt h s (parent c)) ≡ false → parentOf h s c ≡ c
-unfolding parentOf
-parent-late h s c i e = simp (lt-ltb c (s .cells) i, e)
+  pub parent-late : c < n → lt (timeIn h heap n c) (timeIn h heap n (parent c)) ≡ false → parentIn h heap n c ≡ c
+  unfolding parentIn
+  parent-late i e = simp (lt-ltb c n i, e)
 
-pub parent-early : (h : ℕ → Float) (s : Scheduler) (c : ℕ) → c < s .cells → lt (timeAt h s c) (timeAt h s (parent c)) ≡ true → parentOf h s c ≡ parent c
-unfolding parentOf
-parent-early h s c i e = simp (lt-ltb c (s .cells) i, e)
+  pub parent-early : c < n → lt (timeIn h heap n c) (timeIn h heap n (parent c)) ≡ true → parentIn h heap n c ≡ parent c
+  unfolding parentIn
+  parent-early i e = simp (lt-ltb c n i, e)
+
+  -- the root's parent is itself
+  pub parent-root : c ≡ 0 → parentIn h heap n c ≡ c
+  unfolding parentIn
+  parent-root z = go (ltb c n && lt (timeIn h heap n c) (timeIn h heap n (parent c)))
+    where
+      go : (b : Bool) → cond b (parent c) c ≡ c
+      go true = omega arith
+      go false = refl
 
 pub parent-elim : (h : ℕ → Float) (s : Scheduler) (c : ℕ) (P : ℕ → Type 0)
     → (c < s .cells → lt (timeAt h s c) (timeAt h s (parent c)) ≡ true → P (parent c))
     → ((c < s .cells → lt (timeAt h s c) (timeAt h s (parent c)) ≡ false) → P c)
     → P (parentOf h s c)
 parent-elim h s c P a b = elim (decLe (s .cells) c) [
-  | yes o ↦ rw (parent-out h s c o) (b (λ i. absurd (omega arith)))
+  | yes o ↦ rw (parent-out h (s .heap) (s .cells) c o) (b (λ i. absurd (omega arith)))
   | no n ↦ by (lt (timeAt h s c) (timeAt h s (parent c))) refl (omega arith)
 ]
   where
     by : (x : Bool) → lt (timeAt h s c) (timeAt h s (parent c)) ≡ x → c < s .cells → P (parentOf h s c)
-    by true e i = rw (parent-early h s c i e) (a i e)
-    by false e i = rw (parent-late h s c i e) (b (λ _. e))
-
--- the root's parent is itself
-at-zero : (h : ℕ → Float) (s : Scheduler) (c : ℕ) → c ≡ 0 → parentOf h s c ≡ c
-at-zero h s c z = parent-elim h s c (λ q. q ≡ c) (λ i e. omega arith) (λ e. refl)
+    by true e i = rw (parent-early h (s .heap) (s .cells) c i e) (a i e)
+    by false e i = rw (parent-late h (s .heap) (s .cells) c i e) (b (λ _. e))
 
 -- an index's parent is nearer the root, or itself
 nearer : (h : ℕ → Float) (s : Scheduler) (c k : ℕ) → c ≤ suc k → (parentOf h s c ≡ c → ⊥) → parentOf h s c ≤ k
@@ -191,8 +193,8 @@ nearer h s c k a = parent-elim h s c (λ q. (q ≡ c → ⊥) → q ≤ k) (λ i
 
 -- any number of steps does that is no less than the index
 pub up-fuel : (h : ℕ → Float) (k j : ℕ) (s : Scheduler) (c : ℕ) → c ≤ k → c ≤ j → up h k s c ≡ up h j s c
-up-fuel h zero j s c a b = up-stays h zero s c (at-zero h s c (omega arith)) ∙ sym (up-stays h j s c (at-zero h s c (omega arith)))
-up-fuel h (suc k) zero s c a b = up-stays h (suc k) s c (at-zero h s c (omega arith)) ∙ sym (up-stays h zero s c (at-zero h s c (omega arith)))
+up-fuel h zero j s c a b = up-stays h zero s c (parent-root h (s .heap) (s .cells) c (omega arith)) ∙ sym (up-stays h j s c (parent-root h (s .heap) (s .cells) c (omega arith)))
+up-fuel h (suc k) zero s c a b = up-stays h (suc k) s c (parent-root h (s .heap) (s .cells) c (omega arith)) ∙ sym (up-stays h zero s c (parent-root h (s .heap) (s .cells) c (omega arith)))
 up-fuel h (suc k) (suc j) s c a b = elim (ℕ-discrete (parentOf h s c) c) [
   | yes e ↦ up-stays h (suc k) s c e ∙ sym (up-stays h (suc j) s c e)
   | no n ↦ up-goes h k s c n ∙ up-fuel h k j (swapAt s c (parentOf h s c)) (parentOf h s c) (nearer h s c k a n) (nearer h s c j b n) ∙ sym (up-goes h j s c n)
@@ -202,14 +204,17 @@ pub upshifted-stays : (h : ℕ → Float) (s : Scheduler) (c : ℕ) → parentOf
 unfolding upshifted
 upshifted-stays h s c e = up-stays h c s c e
 
-pub upshifted-goes : (h : ℕ → Float) (s : Scheduler) (c : ℕ) → 0 < c → c < s .cells → lt (timeAt h s c) (timeAt h s (parent c)) ≡ true
-    → upshifted h s c ≡ upshifted h (swapAt s c (parent c)) (parent c)
+-- an index that changes places with its parent is in use, and its parent is nearer the root
+pub parent-before : (h : ℕ → Float) (s : Scheduler) (c : ℕ) → (parentOf h s c ≡ c → ⊥) → (c < s .cells) × (parentOf h s c < c)
+parent-before h s c =
+    parent-elim h s c (λ q. (q ≡ c → ⊥) → (c < s .cells) × (q < c)) (λ i e n. (i, omega arith)) (λ e n. absurd (n refl))
+
+pub upshifted-goes : (h : ℕ → Float) (s : Scheduler) (c : ℕ) → (parentOf h s c ≡ c → ⊥) → upshifted h s c ≡ upshifted h (swapAt s c (parentOf h s c)) (parentOf h s c)
 unfolding upshifted
-upshifted-goes h s c pos′ in′ e =
-    let q : parentOf h s c ≡ parent c = parent-early h s c in′ e in
-    let n : parentOf h s c ≡ c → ⊥ = λ w. omega arith in
+upshifted-goes h s c n =
+    let q = parentOf h s c in
+    let b = parent-before h s c n in
     let z : c ≡ suc (c - 1) = omega arith in
     ap (λ (k : ℕ). up h k s c) z
     ∙ up-goes h (c - 1) s c n
-    ∙ ap (λ (x : ℕ). up h (c - 1) (swapAt s c x) x) q
-    ∙ up-fuel h (c - 1) (parent c) (swapAt s c (parent c)) (parent c) (omega arith) (omega arith)
+    ∙ up-fuel h (c - 1) q (swapAt s c q) q (omega arith) (omega arith)

@@ -53,8 +53,11 @@ abbrev pub parent : ℕ → ℕ
 parent c = (c - 1) / 2
 
 -- the parent that c changes places with, or c itself
-unfoldable pub parentOf : (ℕ → Float) → Scheduler → ℕ → ℕ
-parentOf h s c = cond (ltb c (s .cells) && lt (timeAt h s c) (timeAt h s (parent c))) (parent c) c
+unfoldable pub parentIn : (ℕ → Float) → List ℕ → ℕ → ℕ → ℕ
+parentIn h heap n c = cond (ltb c n && lt (timeIn h heap n c) (timeIn h heap n (parent c))) (parent c) c
+
+abbrev pub parentOf : (ℕ → Float) → Scheduler → ℕ → ℕ
+parentOf h s c = parentIn h (s .heap) (s .cells) c
 
 -- an upshift of at most k steps, and of as many as the index
 unfoldable pub up : (ℕ → Float) → ℕ → Scheduler → ℕ → Scheduler

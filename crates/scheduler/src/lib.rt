@@ -1,7 +1,8 @@
 // The scheduler: a minimum heap of cell numbers by head time, with its inverse.
 ghost use mathlib.Core.Path.{_≡_};
 ghost use Prim.Native.Nat.{_≤_, _<_};
-ghost use Rattle.scheduler.specs.Heap.{headIn, timeIn, swapAt, pick, childIn, downshifted, parentOf, upshifted, updated, start, Fit};
+ghost use lib.ListN.{length};
+ghost use Rattle.scheduler.specs.Heap.{headIn, timeIn, swapAt, pick, childIn, downshifted, parentIn, upshifted, updated, start, Fit};
 
 const LAST: f64 = 1.7976931348623157e308;
 
@@ -37,16 +38,9 @@ fn head_of(times: &[f64], held: &[u64], room: usize, number: u8) -> f64
     head_time(times, held, room, number as usize)
 }
 
-// The head time at a heap index: f64::MAX past the cells in use. The array is lent, and not copied.
-fn time_in(
-    heap: &[u8; 256],
-    cells: usize,
-    times: &[f64],
-    held: &[u64],
-    room: usize,
-    at: usize,
-) -> f64
-    requires { ⌜ (cells ≤ 256) × (room ≤ 256) ⌝ }
+// The head time at a heap index: f64::MAX past the cells in use. The heap is lent, and not copied.
+fn time_in(heap: &[u8], cells: usize, times: &[f64], held: &[u64], room: usize, at: usize) -> f64
+    requires { ⌜ (cells ≤ length (now heap)) × (room ≤ 256) ⌝ }
     ensures { λ r. ⌜ r ≡ timeIn (headIn (now (times .entry)) (now (held .entry)) room) (now (heap .entry)) cells at ⌝ }
 {
     if cells <= at {
@@ -57,15 +51,8 @@ fn time_in(
 }
 
 // The child that p changes places with, or p where the shift ends.
-fn child(
-    heap: &[u8; 256],
-    cells: usize,
-    times: &[f64],
-    held: &[u64],
-    room: usize,
-    p: usize,
-) -> usize
-    requires { ⌜ (cells ≤ 256) × (p < 256) × (room ≤ 256) ⌝ }
+pub fn child(heap: &[u8], cells: usize, times: &[f64], held: &[u64], room: usize, p: usize) -> usize
+    requires { ⌜ (cells ≤ length (now heap)) × (p < 256) × (room ≤ 256) ⌝ }
     ensures { λ r. ⌜ r ≡ childIn (headIn (now (times .entry)) (now (held .entry)) room) (now (heap .entry)) cells p ⌝ }
 {
     let l = 2 * p + 1;
@@ -87,6 +74,30 @@ fn pick_child(tp: f64, tl: f64, tr: f64, p: usize, l: usize, r: usize) -> usize
     } else {
         p
     }
+}
+
+// The parent that c changes places with, or c where the shift ends.
+pub fn parent(
+    heap: &[u8],
+    cells: usize,
+    times: &[f64],
+    held: &[u64],
+    room: usize,
+    c: usize,
+) -> usize
+    requires { ⌜ (cells ≤ length (now heap)) × (room ≤ 256) ⌝ }
+    ensures { λ r. ⌜ r ≡ parentIn (headIn (now (times .entry)) (now (held .entry)) room) (now (heap .entry)) cells c ⌝ }
+{
+    if cells <= c {
+        return c;
+    }
+    if c == 0 {
+        return c;
+    }
+    let p = (c - 1) / 2;
+    let tc = time_in(heap, cells, times, held, room, c);
+    let tp = time_in(heap, cells, times, held, room, p);
+    if tc < tp { p } else { c }
 }
 
 impl Scheduler {
@@ -148,20 +159,12 @@ impl Scheduler {
         requires { ⌜ (self .cells ≤ 256) × (room ≤ 256) ⌝ }
         ensures { λ r. ⌜ r ≡ upshifted (headIn (now (times .entry)) (now (held .entry)) room) self c ⌝ }
     {
-        if c == 0 {
-            return self;
-        }
         let n = self.cells;
-        if n <= c {
+        let p = parent(&self.heap, n, times, held, room, c);
+        if p == c {
             return self;
         }
-        let p = (c - 1) / 2;
-        let tc = time_in(&self.heap, n, times, held, room, c);
-        let tp = time_in(&self.heap, n, times, held, room, p);
-        if tc < tp {
-            return self.swapped(c, p).upshift(times, held, room, p);
-        }
-        self
+        self.swapped(c, p).upshift(times, held, room, p)
     }
 
     // The cell's head went from before to after: it finds its place again.

@@ -1,3 +1,4 @@
--- What each place of the lent tables is (Layout), and what it means that tables hold a state (Holds).
+-- What each place of the lent tables is (Layout), what it means that tables hold a state (Holds), and what the leaves on rows of numbers ask (Rows).
 pub mod Layout
 pub mod Holds
+pub mod Rows

@@ -1,4 +1,5 @@
 use Rattle.scheduler.specs.Heap.{childIn}
+use native.Mathlib.Omega.{arith}
 use borrow.Author.Needs.{needs}
 use Rattle.scheduler.proofs.child.Statement.{statement}
 use Rattle.scheduler.proofs.child.Tie as tie
@@ -7,39 +8,30 @@ use Rattle.scheduler.proofs.child.Lts as lts
 use Rattle.scheduler.proofs.pick_child.Reads as pick-child-reads
 use Rattle.scheduler.proofs.time_in.Reads as time-in-reads
 
--- src/lib.rt:39:13
 mul-l : tie.Need-mul-l
 mul-l c = search needs
 
--- src/lib.rt:39:13
 add-l : tie.Need-add-l
 add-l c = search needs
 
--- src/lib.rt:40:13
 mul-r : tie.Need-mul-r
 mul-r c = search needs
 
--- src/lib.rt:40:13
 add-r : tie.Need-add-r
 add-r c = search needs
 
--- src/lib.rt:41:9
 time-in-requires : tie.Need-time-in-requires
 time-in-requires c κs = search needs
 
--- src/lib.rt:42:9
 time-in-requires-2 : tie.Need-time-in-requires-2
 time-in-requires-2 c κs = search needs
 
--- src/lib.rt:43:9
 time-in-requires-3 : tie.Need-time-in-requires-3
 time-in-requires-3 c κs = search needs
 
--- src/lib.rt:44:5
 pick-child-requires : tie.Need-pick-child-requires
 pick-child-requires c κs = search needs
 
--- src/lib.rt:35:1
 returns : tie.Need-returns
 unfolding childIn
 returns c = cc

@@ -1,0 +1,53 @@
+-- Where `Queued` comes from: a sound state whose queues and heap the tables hold. Assumes nothing.
+use mathlib.Core.Path.{_≡_, refl, sym, ap, _∙_, subst}
+use Prim.Native.Nat.{ℕ, zero, suc, _+_, _≤_, _<_}
+use native.Mathlib.Omega.{arith}
+use mathlib.Core.List.{List, [], _∷_, _++_}
+use mathlib.Core.Bool.{false}
+use lib.ListN.{length, getD, length-append}
+use lib.Ieee.{Float, lt}
+use Rattle.chunks.specs.Flat.{flat, Every}
+use Rattle.order.specs.Numbers.{last}
+use Rattle.model.specs.declared.Place.{Place}
+use Rattle.model.specs.State.{Row, none, State, listed}
+use Rattle.model.specs.Grid.{cells}
+use Rattle.model.specs.Standing.{Sound, Held, Queue, All}
+use Rattle.tables.specs.declared.Sizes.{Sizes}
+use Rattle.tables.specs.Layout.{queueNums, queueReals, orderBytes}
+use Rattle.tables.specs.Holds.{Good, Ranged, Tabled, Heaped, Queued}
+use Rattle.acts.proofs.Rows.{fine-top}
+
+every-of : {A : Type 0} (P : A → Type 0) (d : A) (xs : List A) → ((c : ℕ) → c < length xs → P (getD xs c d)) → Every P xs
+every-of P d [] f = tt
+every-of P d (x ∷ xs) f = (f 0 (omega arith), every-of P d xs (λ c h. f (suc c) (omega (arith, h))))
+
+tops-of : (n c : ℕ) (m : List ℕ) (l : List Place) → All (Held n c m) l → Every (λ (p : Place). lt last (p .time) ≡ false) l
+tops-of n c m [] a = tt
+tops-of n c m (x ∷ l) a = (fine-top x (a .0 .fine), tops-of n c m l (a .1))
+
+good-of : (n c : ℕ) (m : List ℕ) {t : Float} {room : ℕ} (r : Row Place) → Queue t room n c m r → Good room r
+good-of n c m r q = record { full = length-append (r .live) (r .spare) ∙ q .full; tops = tops-of n c m (r .live) (q .held) }
+
+module _ {z : Sizes} (s : State) (k : Sound s) (eg : length (s .grains) ≡ z .grains) (ec : cells (s .box) ≡ z .cells) (er : s .room ≡ z .room) where
+  pub sound-ranged : Ranged z
+  sound-ranged = record {
+    grains-most = omega (arith, k .few);
+    cells-most = omega (arith, k .heap .cells, k .heap .inverse .room);
+    room-some = omega (arith, k .room .0);
+    room-most = omega (arith, k .room .1);
+  }
+
+  pub sound-held : {nums : List ℕ} {reals : List Float} {order : List ℕ} → nums ≡ flat queueNums (s .queues) → reals ≡ flat queueReals (s .queues) → order ≡ orderBytes (s .sched)
+      → Queued z nums reals order s
+  sound-held en ef eo = record {
+    ranged = sound-ranged;
+    tables = record {
+      queue-is = en;
+      events-is = ef;
+      many = k .long ∙ ec;
+      good = every-of (Good (z .room)) none (s .queues)
+          (λ c h. subst (λ (n : ℕ). Good n (getD (s .queues) c none)) er (good-of (cells (s .box)) c (listed s c) (getD (s .queues) c none) (k .queues c (omega (arith, k .long)))));
+    };
+    heap = record { is = eo; heap-long = k .heap .inverse .heap-long; lookups-long = k .heap .inverse .lookups-long; cells-is = k .heap .cells ∙ ec };
+    room-is = er;
+  }

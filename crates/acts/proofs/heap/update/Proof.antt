@@ -1,0 +1,85 @@
+use Rattle.acts.proofs.Loaded.{front-is, front-long, update-same}
+use Rattle.acts.specs.Queues.{loaded}
+use Rattle.tables.specs.Layout.{orderBytes}
+use Rattle.scheduler.specs.Heap.{headIn, updated, Fit}
+use Rattle.scheduler.specs.declared.Scheduler.{Scheduler}
+use lib.Ieee.{Float}
+use lib.ListN.{length}
+use Prim.Native.Nat.{_+_}
+use mathlib.Core.Path.{_≡_, sym, ap, subst, _∙_}
+use native.Mathlib.Omega.{arith}
+use borrow.Author.Needs.{needs}
+use Rattle.acts.proofs.heap.update.Statement.{statement}
+use Rattle.acts.proofs.heap.update.Tie as tie
+use Rattle.acts.proofs.heap.update.Reads as reads
+use Rattle.acts.proofs.heap.update.Lts as lts
+use Rattle.acts.proofs.heap.load.Reads as load-reads
+use Rattle.acts.proofs.heap.shifted_to.Reads as shifted-to-reads
+use Rattle.acts.proofs.heap.store.Reads as store-reads
+use Rattle.scheduler.proofs.Scheduler.update.Reads as update-reads
+use Rattle.scheduler.proofs.head_time.Reads as head-time-reads
+
+head-time-requires : tie.Need-head-time-requires
+head-time-requires c κs = search needs
+
+add-i : tie.Need-add-i
+add-i c = search needs
+
+slice-read-at : tie.Need-slice-read-at
+slice-read-at c = search needs
+
+cast-at : tie.Need-cast-at
+cast-at c = let a = c .before .before .before .before .before .args in omega (arith, c .slice-known2 .given (256 + a .cell))
+
+sub-shifted-to : tie.Need-sub-shifted-to
+sub-shifted-to c = search needs
+
+part-shifted-to-start : tie.Need-part-shifted-to-start
+part-shifted-to-start c = search needs
+
+part-shifted-to-end : tie.Need-part-shifted-to-end
+part-shifted-to-end c = search needs
+
+shifted-to-requires : tie.Need-shifted-to-requires
+shifted-to-requires c κs = let b = c .before .before .before .before .before .before .before in let a = b .args in let t = a .order .now in let h = headIn (a .events .now) (a .queue .now) (a .z .room) in let f = b .pre .1 .room in (omega (arith, ap length (front-is t (b .pre .0)), front-long t (b .pre .0)), omega (arith, c .before .before .slice-known2 .given (256 + a .cell)), b .pre .3)
+
+same-length : tie.Need-same-length
+same-length c = search needs
+
+returns : tie.Need-returns
+returns c = let b = c .before .before .before .before .before .before .before .before .before in let a = b .args in let t = a .order .now in let h = headIn (a .events .now) (a .queue .now) (a .z .room) in update-same t (b .pre .0) h (a .z .cells) (a .cell) (a .before) (c .before .before .before .before .before .head-time .result) (c .before .shifted-to .result) (c .before .before .before .before .before .head-time .ensures) (c .before .shifted-to .ensures) (c .if1 .taken)
+
+load-requires : tie.Need-load-requires
+load-requires c κs = search needs
+
+update-requires : tie.Need-update-requires
+update-requires c κs = let b = c .before .before .before .before .before .before .before .before .before .before .before .before in let a = b .args in let t = a .order .now in let h = headIn (a .events .now) (a .queue .now) (a .z .room) in (subst (Fit h) (sym (c .before .load .ensures)) (b .pre .1), b .pre .2, b .pre .3)
+
+store-requires : tie.Need-store-requires
+store-requires c κs = search needs
+
+same-length-2 : tie.Need-same-length-2
+same-length-2 c = search needs
+
+returns-2 : tie.Need-returns-2
+returns-2 c = let b = c .before .before .before .before .before .before .before .before .before .before .before .before .before .before .before .before in let a = b .args in let t = a .order .now in let h = headIn (a .events .now) (a .queue .now) (a .z .room) in let s = loaded t (a .z .cells) in c .before .before .store .ensures ∙ ap orderBytes (c .before .before .before .update .ensures ∙ ap (λ (x : Scheduler). updated h x (a .cell) (a .before) (c .before .before .before .before .before .before .before .before .before .before .before .before .head-time .result)) (c .before .before .before .before .before .load .ensures) ∙ ap (λ (x : Float). updated h s (a .cell) (a .before) x) (c .before .before .before .before .before .before .before .before .before .before .before .before .head-time .ensures))
+
+pub update-spec : {M : Type 1} → statement M
+update-spec =
+    tie.close
+    (tie.spec
+    head-time-requires
+    add-i
+    slice-read-at
+    cast-at
+    sub-shifted-to
+    part-shifted-to-start
+    part-shifted-to-end
+    shifted-to-requires
+    same-length
+    returns
+    load-requires
+    update-requires
+    store-requires
+    same-length-2
+    returns-2)

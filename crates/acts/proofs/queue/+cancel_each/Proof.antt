@@ -1,0 +1,94 @@
+use Rattle.acts.proofs.Told.{each-none, each-stop, each-on, every-tail, tail-less}
+use Rattle.model.specs.Acts.{cancel, cancelled}
+use lib.ListN.{length, getD}
+use mathlib.Core.Path.{_≡_, refl, sym, ap, _∙_}
+use native.Mathlib.Omega.{arith}
+use borrow.Author.Needs.{needs}
+use Prim.Native.Nat.{ℕ, _<_}
+use borrow.Fn.Kinds.{In}
+use borrow.Fn.PlainCycle.{Measures, is, falls, and}
+use Rattle.acts.proofs.queue.cancel_each.Reads as cancel-each
+use Rattle.acts.proofs.queue.cancel_each.Kinds as cancel-each-kinds
+use Rattle.acts.proofs.queue.+cancel_each.Lts-cancel_each as cancel-each-lts
+use Rattle.acts.proofs.queue.cancel.Reads as cancel-reads
+use Rattle.acts.proofs.queue.+cancel_each.{statement}
+use Rattle.acts.proofs.queue.+cancel_each.Tie.{close}
+
+abbrev μ-cancel-each : Measures 4 cancel-each-kinds.ps ℕ
+μ-cancel-each κs a = length (a .1 .1 .1 .1 .0 .now)
+
+abbrev cancel-each-at : ℕ → In 4 cancel-each-kinds.ps
+cancel-each-at t =
+    and 4 cancel-each-kinds.ps (is 4 cancel-each-kinds.ps μ-cancel-each t) cancel-each.Pre
+
+abbrev cancel-each-below : ℕ → In 4 cancel-each-kinds.ps
+cancel-each-below t =
+    and 4 cancel-each-kinds.ps (falls 4 cancel-each-kinds.ps _<_ μ-cancel-each t) cancel-each.Pre
+
+abbrev Rd : ℕ → cancel-each-lts.Claims
+Rd t = (cancel-reads.Asked, cancel-reads.Learnt, cancel-each-below t, cancel-each.Post)
+
+cancel-each-returns : (t : ℕ) → cancel-each-lts.Need-returns (Rd t) (cancel-each-at t) cancel-each.Post
+cancel-each-returns t c = let b = c .before .before .before .before .before in let a = b .args in λ s q. each-none (λ n. cancel (a .g) n) s (a .list .now) (c .if1 .taken) q
+
+cancel-each-shared-slice-read-cancel : (t : ℕ) → cancel-each-lts.Need-shared-slice-read-cancel (Rd t) (cancel-each-at t) cancel-each.Post
+cancel-each-shared-slice-read-cancel t c = search needs
+
+cancel-each-cancel-requires : (t : ℕ) → cancel-each-lts.Need-cancel-requires (Rd t) (cancel-each-at t) cancel-each.Post
+cancel-each-cancel-requires t c κs = let b = c .before .before .before .before .before .before .before .before .before in let a = b .args in (b .pre .1 .0, every-tail (λ n. n < a .z .cells) (a .list .now) (b .pre .1 .1) (c .before .before .before .before .if1 .left) .0)
+
+cancel-each-same-length : (t : ℕ) → cancel-each-lts.Need-same-length (Rd t) (cancel-each-at t) cancel-each.Post
+cancel-each-same-length t c = c .before .before .before .before .before .before .before .cancel .kept .0
+
+cancel-each-same-length-2 : (t : ℕ) → cancel-each-lts.Need-same-length-2 (Rd t) (cancel-each-at t) cancel-each.Post
+cancel-each-same-length-2 t c = c .before .before .before .before .before .before .before .cancel .kept .1 .0
+
+cancel-each-same-length-3 : (t : ℕ) → cancel-each-lts.Need-same-length-3 (Rd t) (cancel-each-at t) cancel-each.Post
+cancel-each-same-length-3 t c = c .before .before .before .before .before .before .before .cancel .kept .1 .1 .0
+
+cancel-each-returns-2 : (t : ℕ) → cancel-each-lts.Need-returns-2 (Rd t) (cancel-each-at t) cancel-each.Post
+cancel-each-returns-2 t c = let b = c .before .before .before .before .before .before .before .before .before .before .before .before .before .before .before .before .before in let a = b .args in λ s q. each-stop (λ n. cancel (a .g) n) s (a .list .now) (c .before .before .before .before .before .before .before .before .before .before .before .before .if1 .left) (c .before .before .before .before .before .before .before .cancel .ensures s q) (c .if2 .taken)
+
+cancel-each-sub-cancel-each : (t : ℕ) → cancel-each-lts.Need-sub-cancel-each (Rd t) (cancel-each-at t) cancel-each.Post
+cancel-each-sub-cancel-each t c = search needs
+
+cancel-each-part-cancel-each-start : (t : ℕ) → cancel-each-lts.Need-part-cancel-each-start (Rd t) (cancel-each-at t) cancel-each.Post
+cancel-each-part-cancel-each-start t c = search needs
+
+cancel-each-part-cancel-each-end : (t : ℕ) → cancel-each-lts.Need-part-cancel-each-end (Rd t) (cancel-each-at t) cancel-each.Post
+cancel-each-part-cancel-each-end t c = search needs
+
+cancel-each-cancel-each-requires : (t : ℕ) → cancel-each-lts.Need-cancel-each-requires (Rd t) (cancel-each-at t) cancel-each.Post
+cancel-each-cancel-each-requires t c κs = let b = c .before .before .before .before .before .before .before .before .before .before .before .before .before .before .before .before .before .before .before .before .before in let a = b .args in let o = b .pre .1 .0 in (omega (arith, tail-less (a .list .now) (c .before .before .before .before .before .before .before .before .before .before .before .before .before .before .before .before .if1 .left), b .pre .0), ((cancelled (a .g) (getD (a .list .now) 0 0) (o .0), c .before .before .before .before .before .before .before .before .before .before .before .cancel .ensures (o .0) (o .1) .1), every-tail (λ n. n < a .z .cells) (a .list .now) (b .pre .1 .1) (c .before .before .before .before .before .before .before .before .before .before .before .before .before .before .before .before .if1 .left) .1))
+
+cancel-each-same-length-4 : (t : ℕ) → cancel-each-lts.Need-same-length-4 (Rd t) (cancel-each-at t) cancel-each.Post
+cancel-each-same-length-4 t c = c .before .before .before .before .before .before .cancel-each .kept .0 ∙ c .before .before .before .before .before .before .before .before .before .before .before .before .before .before .before .before .before .before .cancel .kept .0
+
+cancel-each-same-length-5 : (t : ℕ) → cancel-each-lts.Need-same-length-5 (Rd t) (cancel-each-at t) cancel-each.Post
+cancel-each-same-length-5 t c = c .before .before .before .before .before .before .cancel-each .kept .1 .0 ∙ c .before .before .before .before .before .before .before .before .before .before .before .before .before .before .before .before .before .before .cancel .kept .1 .0
+
+cancel-each-same-length-6 : (t : ℕ) → cancel-each-lts.Need-same-length-6 (Rd t) (cancel-each-at t) cancel-each.Post
+cancel-each-same-length-6 t c = c .before .before .before .before .before .before .cancel-each .kept .1 .1 .0 ∙ c .before .before .before .before .before .before .before .before .before .before .before .before .before .before .before .before .before .before .cancel .kept .1 .1 .0
+
+cancel-each-returns-3 : (t : ℕ) → cancel-each-lts.Need-returns-3 (Rd t) (cancel-each-at t) cancel-each.Post
+cancel-each-returns-3 t c = let b = c .before .before .before .before .before .before .before .before .before .before .before .before .before .before .before .before .before .before .before .before .before .before .before .before .before .before .before .before in let a = b .args in λ s q. each-on (λ n. cancel (a .g) n) s (a .list .now) (c .before .before .before .before .before .before .before .before .before .before .before .before .before .before .before .before .before .before .before .before .before .before .before .if1 .left) (c .before .before .before .before .before .before .before .before .before .before .before .before .before .before .before .before .before .before .cancel .ensures s q) (c .before .before .before .before .before .before .before .before .before .before .before .if2 .left) (c .before .before .before .before .before .before .cancel-each .ensures (cancelled (a .g) (getD (a .list .now) 0 0) s) (c .before .before .before .before .before .before .before .before .before .before .before .before .before .before .before .before .before .before .cancel .ensures s q .1))
+
+pub +cancel-each-spec : {M : Type 1} → statement M
++cancel-each-spec = close μ-cancel-each λ t. cancel-each-lts.spec (Rd t)
+    (cancel-each-at t)
+    cancel-each.Post
+    (cancel-each-returns t)
+    (cancel-each-shared-slice-read-cancel t)
+    (cancel-each-cancel-requires t)
+    (cancel-each-same-length t)
+    (cancel-each-same-length-2 t)
+    (cancel-each-same-length-3 t)
+    (cancel-each-returns-2 t)
+    (cancel-each-sub-cancel-each t)
+    (cancel-each-part-cancel-each-start t)
+    (cancel-each-part-cancel-each-end t)
+    (cancel-each-cancel-each-requires t)
+    (cancel-each-same-length-4 t)
+    (cancel-each-same-length-5 t)
+    (cancel-each-same-length-6 t)
+    (cancel-each-returns-3 t)

@@ -1,0 +1,63 @@
+use Rattle.model.specs.declared.Place.{Place}
+use Rattle.tables.specs.Holds.{Queued, Told}
+use Rattle.model.specs.Acts.{put, insert}
+use Rattle.model.specs.State.{State}
+use Rattle.model.specs.declared.Plan.{Plan}
+use mathlib.Core.Path.{_≡_, refl, sym, ap, _∙_, subst}
+use native.Mathlib.Omega.{arith}
+use borrow.Author.Needs.{needs}
+use Rattle.acts.proofs.queue.put.Statement.{statement}
+use Rattle.acts.proofs.queue.put.Tie as tie
+use Rattle.acts.proofs.queue.put.Reads as reads
+use Rattle.acts.proofs.queue.put.Lts as lts
+use Rattle.acts.proofs.queue.insert.Reads as insert-reads
+use Rattle.tables.proofs.places.place_of.Reads as place-of-reads
+
+enum-told : tie.Need-enum-told
+enum-told c = search needs
+
+enum-known-plan : tie.Need-enum-known-plan
+enum-known-plan c = search needs
+
+place-of-requires : tie.Need-place-of-requires
+place-of-requires c κs = search needs
+
+insert-requires : tie.Need-insert-requires
+insert-requires c κs = search needs
+
+enum-told-2 : tie.Need-enum-told-2
+enum-told-2 c = search needs
+
+returns : tie.Need-returns
+returns c = let a = c .before .before .before .before .before .args in subst (λ (p : Plan). (s : State) → Queued (a .z) (a .queue .now) (a .events .now) (a .order .now) s → Told (a .z) (a .queue .now) (a .events .now) (a .order .now) 0 (put (a .cell) p s)) (sym (c .enum-told .given .1)) (λ s q. (refl, q))
+
+same-length : tie.Need-same-length
+same-length c = search needs
+
+same-length-2 : tie.Need-same-length-2
+same-length-2 c = search needs
+
+same-length-3 : tie.Need-same-length-3
+same-length-3 c = search needs
+
+returns-2 : tie.Need-returns-2
+returns-2 c = let a = c .before .before .before .before .before .before .before .before .before .before .before .before .before .before .before .before .before .args in λ s q. subst (λ (p : Plan). Told (a .z) (c .before .before .before .before .before .before .insert .last .0) (c .before .before .before .before .before .before .insert .last .1 .0) (c .before .before .before .before .before .before .insert .last .1 .1 .0) (c .before .before .before .before .before .before .insert .result) (put (a .cell) p s)) (sym (c .before .before .before .before .before .before .before .before .before .before .before .before .plan .given .1)) (subst (λ (x : Place). Told (a .z) (c .before .before .before .before .before .before .insert .last .0) (c .before .before .before .before .before .before .insert .last .1 .0) (c .before .before .before .before .before .before .insert .last .1 .1 .0) (c .before .before .before .before .before .before .insert .result) (insert (a .cell) x s)) (c .before .before .before .before .before .before .before .place-of .ensures) (c .before .before .before .before .before .before .insert .ensures s q))
+
+returns-3 : tie.Need-returns-3
+returns-3 c = let a = c .before .before .before .before .before .args in subst (λ (p : Plan). (s : State) → Queued (a .z) (a .queue .now) (a .events .now) (a .order .now) s → Told (a .z) (a .queue .now) (a .events .now) (a .order .now) 5 (put (a .cell) p s)) (sym (c .enum-told2 .given .1)) (λ s q. (refl, q))
+
+pub put-spec : {M : Type 1} → statement M
+put-spec =
+    tie.close
+    (tie.spec
+    enum-told
+    enum-known-plan
+    place-of-requires
+    insert-requires
+    enum-told-2
+    returns
+    same-length
+    same-length-2
+    same-length-3
+    returns-2
+    returns-3)

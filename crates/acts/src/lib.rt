@@ -1,0 +1,4 @@
+// The acts, one function for each, over the lent tables: the heap in its table (heap), the queues of events (queue), entering and leaving a cell (links).
+pub mod heap;
+pub mod links;
+pub mod queue;

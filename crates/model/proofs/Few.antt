@@ -1,0 +1,202 @@
+-- Inside the box a grain touches at most two cells of a direction (`few-inside`): the kernel's span of [x - 1/2, x + 1/2] has at most two. Assumes nothing.
+use mathlib.Core.Path.{_≡_, refl, sym, ap, _∙_, subst}
+use mathlib.Core.Logic.{inl, inr}
+use mathlib.Core.List.{List, [], _∷_}
+use Prim.Native.Nat.{ℕ, zero, suc, _+_, _-_, _*_, _≤_, _<_}
+use native.Mathlib.Nat.{le-of-eq, le-trans, mul-pos, mul-one, mul-comm, mul-assoc, mul-left-comm, mul-le-mul-right, le-of-mul-le-mul-right, add-mul, lt-irrefl, add-suc, suc-add, add-zero, suc-mul, le-of-lt}
+use native.Mathlib.Omega.{arith}
+use mathlib.Core.Bool.{Bool, true, false, not, _&&_}
+use lib.Dec.{T, leb, leb→le, nleb→lt, lit<}
+use lib.Ieee.{Float, binary64, round, add, sub, div, le, ofBits, toUnsigned}
+use lib.Ieee.Fits.{and-l, and-r}
+use lib.Ieee.Order.{round-mono}
+use lib.Ieee.Positive.{num, den, positive, den-pos, through}
+use Rattle.order.proofs.Order as O
+use Rattle.order.proofs.Cut.{cut-mono}
+use Rattle.order.specs.Numbers.{one, half, two, fortyeight}
+use Rattle.model.specs.FromPToC.{width, firstCell, endCell}
+use Rattle.order.proofs.Mono.{plain, positive-plain, le→fr, div-is, add-mono, sub-mono, div-mono, num-pos}
+use Rattle.model.proofs.Quarters.{cnt, Facts, passed, tested, nth, positive-no-nan, quarter}
+use Rattle.model.proofs.Kernels.{cut, max-cut-ge, min-cut-le, cut-count, cnt-is, quotient-plain, one-plain, half-plain, fortyeight-plain}
+
+half-self : T (le half half)
+unfolding ofBits le
+half-self = tt
+
+-- ---- fractions: A/P ≤ (i+5)/4, i/4 ≤ a/p, a/p < (k+1) c/d, 2 ≤ c/d: then A/P ≤ (k + 15/8) c/d
+far-enough : (A P a p c d i k : ℕ) → 0 < p → A * 4 ≤ (i + 5) * P → i * p ≤ a * 4 → a * d ≤ suc k * (c * p) → 2 * d ≤ c → A * d * 8 ≤ (8 * k + 15) * (c * P)
+far-enough A P a p c d i k D f1 f2 f3 f4 =
+    let t1 = A * (d * p) in
+    let t2 = i * (P * (d * p)) in
+    let t3 = P * (d * p) in
+    let t4 = a * (d * P) in
+    let t5 = k * (c * (p * P)) in
+    let t6 = c * (p * P) in
+    let g1 : 4 * t1 ≤ t2 + 5 * t3 = le-trans (le-of-eq (simp (mul-assoc, mul-comm))) (le-trans (mul-le-mul-right (d * p) f1) (le-of-eq (mul-assoc (i + 5) P (d * p) ∙ add-mul i 5 (P * (d * p))))) in
+    let g2 : t2 ≤ 4 * t4 = le-trans (le-of-eq (simp (mul-assoc, mul-comm, mul-left-comm))) (le-trans (mul-le-mul-right (P * d) f2) (le-of-eq (simp (mul-assoc, mul-comm, mul-left-comm)))) in
+    let s6 : suc k * t6 ≡ t5 + t6 = suc-mul k t6 in
+    let g3 : t4 ≤ t5 + t6 = le-trans (le-of-eq (simp (mul-assoc, mul-comm, mul-left-comm))) (le-trans (mul-le-mul-right P f3) (le-of-eq (mul-assoc (suc k) (c * p) P ∙ ap (λ (z : ℕ). suc k * z) (mul-assoc c p P) ∙ s6))) in
+    let g4 : 2 * t3 ≤ t6 = le-trans (le-of-eq (simp (mul-assoc, mul-comm, mul-left-comm))) (le-trans (mul-le-mul-right (p * P) f4) (le-of-eq refl)) in
+    let l : A * d * 8 * p ≡ 8 * t1 = simp (mul-assoc, mul-comm, mul-left-comm) in
+    let r1 : (8 * k + 15) * (c * P) * p ≡ (8 * k + 15) * t6 = mul-assoc (8 * k + 15) (c * P) p ∙ ap (λ (z : ℕ). (8 * k + 15) * z) (mul-assoc c P p ∙ ap (λ (z : ℕ). c * z) (mul-comm P p)) in
+    let r2 : (8 * k + 15) * t6 ≡ 8 * t5 + 15 * t6 = add-mul (8 * k) 15 t6 ∙ ap (λ (z : ℕ). z + 15 * t6) (mul-assoc 8 k t6) in
+    le-of-mul-le-mul-right {k = p} (omega arith) D
+
+-- ---- k + 15/8, plus 1, is cut to k + 2: k up to 24
+abbrev eighths : ℕ → Float
+eighths k = round binary64 false (8 * k + 15) 8
+
+abbrev capped : ℕ → Bool
+capped k = plain (eighths k) && leb (cut (add binary64 (eighths k) one)) (suc (suc k))
+
+abbrev caps : ℕ → Bool
+caps zero = true
+caps (suc k) = capped k && caps k
+
+caps-checked : T (caps 25)
+unfolding round add ofBits toUnsigned
+caps-checked = tt
+
+caps-at : (m k : ℕ) → T (caps m) → k < m → T (capped k)
+caps-at zero k t h = absurd (no k h)
+  where
+    no : (k : ℕ) → k < 0 → ⊥
+    no k h = omega arith
+caps-at (suc m) k t h = go (leb m k) refl (λ (l : k < m). caps-at m k (and-r (capped m) (caps m) t) l)
+  where
+    go : (b : Bool) → leb m k ≡ b → (k < m → T (capped k)) → T (capped k)
+    go true e again = let q : m ≤ k = leb→le m k (subst T (sym e) tt) in let s : k ≡ m = omega arith in subst (λ (z : ℕ). T (capped z)) (sym s) (and-l (capped m) (caps m) t)
+    go false e again = again (nleb→lt m k (subst (λ (b : Bool). T (not b)) (sym e) tt))
+
+twentyfour : cut (div binary64 fortyeight two) ≡ 24
+unfolding ofBits div toUnsigned
+twentyfour = refl
+
+two-positive : T (positive two)
+unfolding ofBits
+two-positive = tt
+
+two-wide : (w : Float) → T (positive w) → T (le two w) → 2 * den w ≤ num w
+unfolding ofBits
+two-wide w p h = le-trans (le→fr two w tt (positive-plain w p) h) (le-of-eq (mul-one (num w)))
+
+-- ---- the kernel's span of two ends that are at most 5/4 apart
+module _ (l : Float) (n : ℕ) (F : Facts l n) (m k : Float) (pm : T (plain m)) (pk : T (plain k)) (m48 : T (le m fortyeight)) (k48 : T (le k fortyeight)) (i : ℕ)
+    (hk : num k * 4 ≤ (i + 5) * den k) (hm : i * den m ≤ num m * 4) where
+  abbrev w : Float
+  w = width l n
+
+  abbrev z : Float
+  z = div binary64 m w
+
+  abbrev y : Float
+  y = div binary64 k w
+
+  low : cut z ≤ 24
+  low = le-trans (cut-mono 64 z (div binary64 fortyeight two) (div-mono binary64 m fortyeight w two pm fortyeight-plain (F .wide-positive) two-positive m48 (F .two-up))) (le-of-eq twentyfour)
+
+  -- m is below the next cell's edge
+  below : num m * den w < suc (cut z) * (num w * den m)
+  below = go (leb (suc (cut z) * (num w * den m)) (num m * den w)) refl
+    where
+      over : suc (cut z) * (num w * den m) ≤ num m * den w → suc (cut z) ≤ cut z
+      over h =
+          le-trans (le-of-eq (sym (cut-count (suc (cut z)) (omega (arith, low)))))
+          (cut-mono 64 (cnt (suc (cut z))) z
+          (subst (λ (v : Float). T (le v z)) (sym (cnt-is (suc (cut z))))
+          (subst (λ (v : Float). T (le (round binary64 false (suc (cut z)) 1) v)) (sym (div-is binary64 m w pm (F .wide-positive)))
+          (round-mono binary64 (suc (cut z)) 1 (num m * den w) (num w * den m) (lit< tt) (mul-pos (num-pos w (F .wide-positive)) (den-pos m)) (le-trans h (le-of-eq (sym (mul-one (num m * den w)))))))))
+
+      go : (b : Bool) → leb (suc (cut z) * (num w * den m)) (num m * den w) ≡ b → num m * den w < suc (cut z) * (num w * den m)
+      go true e = absurd (lt-irrefl (cut z) (over (leb→le (suc (cut z) * (num w * den m)) (num m * den w) (subst T (sym e) tt))))
+      go false e = nleb→lt (suc (cut z) * (num w * den m)) (num m * den w) (subst (λ (b : Bool). T (not b)) (sym e) tt)
+
+  y-le : T (le y (eighths (cut z)))
+  y-le =
+      subst (λ (v : Float). T (le v (eighths (cut z)))) (sym (div-is binary64 k w pk (F .wide-positive)))
+      (round-mono binary64 (num k * den w) (num w * den k) (8 * cut z + 15) 8 (mul-pos (num-pos w (F .wide-positive)) (den-pos k)) (lit< tt)
+      (far-enough (num k) (den k) (num m) (den m) (num w) (den w) i (cut z) (den-pos m) hk hm (le-of-lt below) (two-wide w (F .wide-positive) (F .two-up))))
+
+  pub few : endCell l n k ≤ suc (suc (firstCell l n m))
+  few =
+      let c : T (capped (cut z)) = caps-at 25 (cut z) caps-checked (omega (arith, low)) in
+      let pe : T (plain (eighths (cut z))) = and-l (plain (eighths (cut z))) (leb (cut (add binary64 (eighths (cut z)) one)) (suc (suc (cut z)))) c in
+      let u : cut (add binary64 (eighths (cut z)) one) ≤ suc (suc (cut z)) = leb→le (cut (add binary64 (eighths (cut z)) one)) (suc (suc (cut z))) (and-r (plain (eighths (cut z))) (leb (cut (add binary64 (eighths (cut z)) one)) (suc (suc (cut z)))) c) in
+      let v : cut (add binary64 y one) ≤ cut (add binary64 (eighths (cut z)) one) = cut-mono 64 (add binary64 y one) (add binary64 (eighths (cut z)) one) (add-mono binary64 y (eighths (cut z)) one (quotient-plain l n F k pk k48) pe one-plain y-le) in
+      let a : endCell l n k ≤ cut (add binary64 y one) = min-cut-le (add binary64 y one) (cnt n) in
+      let b : cut z ≤ firstCell l n m = max-cut-ge z in
+      last _ _ _ _ (cut z) a v u b
+    where
+      last : (h p q lo c : ℕ) → h ≤ p → p ≤ q → q ≤ suc (suc c) → c ≤ lo → h ≤ suc (suc lo)
+      last h p q lo c a b d e = omega arith
+
+-- ---- the two ends of a grain are at most 5/4 apart: by quarters of a position, 1/2 to 48
+abbrev ends2 : Float → Float → ℕ → List Bool
+ends2 a b j =
+    positive a
+    ∷ positive b
+    ∷ le half a
+    ∷ plain (add binary64 b half)
+    ∷ plain (sub binary64 a half)
+    ∷ leb (num (add binary64 b half) * 4) ((j - 2 + 5) * den (add binary64 b half))
+    ∷ leb ((j - 2) * den (sub binary64 a half)) (num (sub binary64 a half) * 4)
+    ∷ []
+
+abbrev row2 : ℕ → Bool
+row2 j = tested (ends2 (quarter j) (quarter (suc j)) j)
+
+abbrev rows2 : ℕ → ℕ → Bool
+rows2 zero j = true
+rows2 (suc c) j = row2 j && rows2 c (suc j)
+
+checked2 : T (rows2 190 2)
+unfolding round add sub le ofBits
+checked2 = tt
+
+pub record Near (x : Float) : Type 0 where
+  pub i : ℕ
+  pub high : num (add binary64 x half) * 4 ≤ (i + 5) * den (add binary64 x half)
+  pub deep : i * den (sub binary64 x half) ≤ num (sub binary64 x half) * 4
+
+module _ (x : Float) (px : T (plain x)) (hx : T (le half x)) (M : T (plain (add binary64 x half))) (N : T (plain (sub binary64 x half))) (x48 : T (le x (quarter 192))) where
+  at2 : (j : ℕ) → T (row2 j) → T (le (quarter j) x) → T (le x (quarter (suc j))) → Near x
+  at2 j r ha hb =
+      let a = quarter j in
+      let b = quarter (suc j) in
+      let e : (k : ℕ) → T (nth (ends2 a b j) k) = passed (ends2 a b j) r in
+      let u = add binary64 b half in
+      let v = sub binary64 a half in
+      record {
+        i = j - 2;
+        high = through (num (add binary64 x half)) (num u) (j - 2 + 5) (den (add binary64 x half)) (den u) 4 (den-pos u)
+            (le→fr (add binary64 x half) u M (e 3) (add-mono binary64 x b half px (positive-plain b (e 1)) half-plain hb))
+            (leb→le (num u * 4) ((j - 2 + 5) * den u) (e 5));
+        deep = through (j - 2) (num v) (num (sub binary64 x half)) 4 (den v) (den (sub binary64 x half)) (den-pos v)
+            (leb→le ((j - 2) * den v) (num v * 4) (e 6))
+            (le→fr v (sub binary64 x half) (e 4) N (sub-mono binary64 a x half half (positive-plain a (e 0)) px half-plain half-plain (e 2) hx ha half-self));
+      }
+
+  next2 : (j : ℕ) (b : Bool) → le x (quarter (suc j)) ≡ b → T (row2 j) → T (le (quarter j) x) → (T (le (quarter (suc j)) x) → Near x) → Near x
+  next2 j true h r a again = at2 j r a (subst T (sym h) tt)
+  next2 j false h r a again = again (elim (O.le-total x (quarter (suc j)) (O.le-left x (quarter 192) x48) (positive-no-nan (quarter (suc j)) (passed (ends2 (quarter j) (quarter (suc j)) j) r 1))) [ inl t ↦ absurd (subst T h t) | inr t ↦ t ])
+
+  walk2 : (c j : ℕ) → j + suc c ≡ 192 → T (rows2 (suc c) j) → T (le (quarter j) x) → Near x
+  walk2 zero j e r a = at2 j (and-l (row2 j) true r) a (subst (λ (k : ℕ). T (le x (quarter k))) (sym e ∙ add-suc j 0 ∙ ap suc (add-zero j)) x48)
+  walk2 (suc c) j e r a = next2 j (le x (quarter (suc j))) refl (and-l (row2 j) (rows2 (suc c) (suc j)) r) a (walk2 c (suc j) (suc-add j (suc c) ∙ sym (add-suc j (suc c)) ∙ e) (and-r (row2 j) (rows2 (suc c) (suc j)) r))
+
+half-quarter : quarter 2 ≡ half
+unfolding round ofBits
+half-quarter = refl
+
+top-quarter : quarter 192 ≡ fortyeight
+unfolding round ofBits
+top-quarter = refl
+
+pub near : (x : Float) → T (plain x) → T (le half x) → T (le x fortyeight) → T (plain (add binary64 x half)) → T (plain (sub binary64 x half)) → Near x
+near x px hx x48 M N = walk2 x px hx M N (subst (λ (z : Float). T (le x z)) (sym top-quarter) x48) 189 2 refl checked2 (subst (λ (z : Float). T (le z x)) (sym half-quarter) hx)
+
+-- inside the box: at most two cells
+pub few-inside : (l : Float) (n : ℕ) (F : Facts l n) (x : Float) → T (plain x) → T (le half x) → T (le x fortyeight) → T (plain (add binary64 x half)) → T (plain (sub binary64 x half))
+    → T (le (sub binary64 x half) fortyeight) → T (le (add binary64 x half) fortyeight)
+    → endCell l n (add binary64 x half) ≤ suc (suc (firstCell l n (sub binary64 x half)))
+few-inside l n F x px hx x48 M N m48 k48 = let q = near x px hx x48 M N in few l n F (sub binary64 x half) (add binary64 x half) N M m48 k48 (q .i) (q .high) (q .deep)

@@ -1,0 +1,134 @@
+-- CANCELLED IN ALL ITS CELLS: after a grain's events are cancelled no pending event of any cell names it. Assumes nothing.
+use Prim.Native.Nat.{ℕ, _<_}
+use mathlib.Core.Path.{_≡_, refl, sym, ap, subst, _∙_}
+use mathlib.Core.List.{List, [], _∷_, _++_}
+use mathlib.Core.Bool.{Bool, true, false, or-true}
+use native.Mathlib.Omega.{arith}
+use native.Mathlib.Decide.{ℕ-discrete}
+use lib.Dec.{eqb}
+use lib.ListN.{length, replicate}
+use borrow.Author.Tests.{eqb-true, eq-eqb}
+use Rattle.halting.specs.Out.{eachOf}
+use Rattle.model.specs.declared.Place.{Place}
+use Rattle.model.specs.declared.Event.{Event}
+use Rattle.model.specs.declared.Event.the-variants.{InterParticleCollision, MoveToNeighbour, MoveOutOfCell, WallReflection, Synchronisation}
+use Rattle.model.specs.Grid.{cells}
+use Rattle.model.specs.Events.{keepBy, goneBy, names, eventOf, zeroP}
+use Rattle.model.specs.State.{State, Row, row, home, listed, queue, has, requeued}
+use Rattle.model.specs.Acts.{cancelled, cancel, queueRow}
+use Rattle.model.specs.Doing.{forget}
+use Rattle.model.specs.Sound.{Sound, Named, Held}
+use Rattle.model.specs.Standing.{All}
+use Rattle.model.proofs.Lists.{clash, live-same, live-other}
+use Rattle.model.proofs.Queue.{all-to, all-keep}
+use Rattle.model.proofs.Frame.{Keeps, keeps-refl, keeps-on, cancelled-keeps, cancelled-free, in-frame, in-home, of-sound}
+
+-- no event of cell c names p
+abbrev pub Free : ℕ → ℕ → State → Type 0
+Free p c s = All (λ e. names (eventOf (e .kind) e) p ≡ false) (queue s c)
+
+-- a cancelling adds no event
+stays-free : (p k c : ℕ) (s : State) → Sound s → k < cells (s .box) → Free p c s → Free p c (cancelled p k s)
+stays-free p k c s sound K f = elim (ℕ-discrete c k) [
+  | yes e ↦ subst (λ (j : ℕ). Free p j (cancelled p k s)) (sym e) (cancelled-free s p k sound K)
+  | no d ↦ unfold cancelled requeued in subst (λ (l : List Place). All (λ e. names (eventOf (e .kind) e) p ≡ false) l) (sym (live-other (s .queues) k c (row (keepBy p (queue s k)) (replicate (goneBy p (queue s k)) zeroP ++ (queueRow s k) .spare)) d)) f
+]
+
+module _ (p c : ℕ) where
+  free-loop : (xs : List ℕ) (s : State) → Sound s → ((x : ℕ) → has x xs ≡ true → x < cells (s .box)) → Free p c s → Free p c ((eachOf (λ k. cancel p k) xs s) .st)
+  unfolding eachOf has
+  free-loop [] s sound h f = f
+  free-loop (x ∷ xs) s sound h f =
+      let X = h x (rw (eq-eqb x x refl)) in
+      let k = cancelled-keeps s p x sound X in
+      free-loop xs (cancelled p x s) (k .sound) (λ y q. rw (k .frame .near .box) (h y (rw q (or-true (eqb y x))))) (stays-free p x c s sound X f)
+
+  free-reached : (xs : List ℕ) (s : State) → Sound s → ((x : ℕ) → has x xs ≡ true → x < cells (s .box)) → has c xs ≡ true → Free p c ((eachOf (λ k. cancel p k) xs s) .st)
+  unfolding eachOf has
+  free-reached [] s sound h q = clash q
+  free-reached (x ∷ xs) s sound h q = by (eqb c x) refl (free-reached xs (cancelled p x s) (k .sound) below)
+    where
+      X : x < cells (s .box)
+      X = h x (rw (eq-eqb x x refl))
+
+      k : Keeps s (cancelled p x s)
+      k = cancelled-keeps s p x sound (h x (rw (eq-eqb x x refl)))
+
+      below : (y : ℕ) → has y xs ≡ true → y < cells ((cancelled p x s) .box)
+      below y q = rw (k .frame .near .box) (h y (rw q (or-true (eqb y x))))
+
+      by : (b : Bool) → eqb c x ≡ b → (has c xs ≡ true → Free p c ((eachOf (λ k. cancel p k) xs (cancelled p x s)) .st)) → Free p c ((eachOf (λ k. cancel p k) xs (cancelled p x s)) .st)
+      by true e ih = free-loop xs (cancelled p x s) (k .sound) below (subst (λ (j : ℕ). Free p j (cancelled p x s)) (sym (eqb-true c x e)) (cancelled-free s p x sound X))
+      by false e ih = ih (rw e at q)
+
+-- an event names only grains that its cell lists
+module _ (l : List ℕ) (p : ℕ) (no′ : has p l ≡ false) where
+  other : (q : ℕ) → has q l ≡ true → eqb q p ≡ false
+  other q h = by (eqb q p) refl
+    where
+      by : (b : Bool) → eqb q p ≡ b → eqb q p ≡ false
+      by true e = clash (sym no′ ∙ ap (λ (x : ℕ). has x l) (sym (eqb-true q p e)) ∙ h)
+      by false e = e
+
+  unnamed : (n c : ℕ) (e : Event) → Named n c l e → names e p ≡ false
+  unnamed n c (InterParticleCollision i j x y v w k) h = rw (other i (h .0), other j (h .1))
+  unnamed n c (MoveToNeighbour i x k) h = other i (h .0)
+  unnamed n c (MoveOutOfCell i x k) h = other i (h .0)
+  unnamed n c (WallReflection i x v w) h = other i (h .0)
+  unnamed n c Synchronisation h = refl
+
+-- AFTER THE CANCELLING IN ALL ITS CELLS, NO PENDING EVENT NAMES THE GRAIN
+pub forget-free : (p : ℕ) (s : State) → Sound s → p < length (s .grains) → (c : ℕ) → c < cells (s .box) → Free p c ((forget p s) .st)
+unfolding forget
+forget-free p s sound P c C = by (has c (home s p)) refl
+  where
+    below : (x : ℕ) → has x (home s p) ≡ true → x < cells (s .box)
+    below = sound .lists .homes .each p P .below
+
+    by : (b : Bool) → has c (home s p) ≡ b → Free p c ((eachOf (λ k. cancel p k) (home s p) s) .st)
+    by true e = free-reached p c (home s p) s sound below e
+    by false e =
+        free-loop p c (home s p) s sound below
+        (all-to (Held (cells (s .box)) c (listed s c)) (λ e. names (eventOf (e .kind) e) p ≡ false) (queue s c)
+        (λ x h. unnamed (listed s c) p (sym (sound .lists .mutual′ p c P C) ∙ e) (cells (s .box)) c (eventOf (x .kind) x) (h .named)) (sound .queues c C .held))
+
+-- it keeps the lists, and what is sound
+pub forget-keeps : (p : ℕ) (s : State) → Sound s → p < length (s .grains) → Keeps s ((forget p s) .st)
+unfolding forget
+forget-keeps p s sound P =
+    of-sound (Keeps s) (λ c. cancel p c) (home s p)
+    (λ c u h k. keeps-on s u _ k (cancelled-keeps u p c (k .sound) ((in-frame p c s u (k .frame) (in-home p c s sound P h)) .cell))) s (keeps-refl s sound)
+
+-- ---- two grains, one after the other
+keeps-free : (p q k c : ℕ) (s : State) → Sound s → k < cells (s .box) → Free p c s → Free p c (cancelled q k s)
+keeps-free p q k c s sound K f = elim (ℕ-discrete c k) [
+  | yes e ↦ unfold cancelled requeued in subst (λ (j : ℕ). Free p j (requeued k r s)) (sym e)
+      (subst (λ (l : List Place). All (λ e. names (eventOf (e .kind) e) p ≡ false) l) (sym (live-same (s .queues) k r (omega (arith, sound .long))))
+      (all-keep (λ e. names (eventOf (e .kind) e) p ≡ false) q (queue s k) (subst (λ (j : ℕ). Free p j s) e f)))
+  | no d ↦ unfold cancelled requeued in subst (λ (l : List Place). All (λ e. names (eventOf (e .kind) e) p ≡ false) l) (sym (live-other (s .queues) k c r d)) f
+]
+  where
+    r : Row Place
+    r = row (keepBy q (queue s k)) (replicate (goneBy q (queue s k)) zeroP ++ (queueRow s k) .spare)
+
+keeps-loop : (p q c : ℕ) (xs : List ℕ) (s : State) → Sound s → ((x : ℕ) → has x xs ≡ true → x < cells (s .box)) → Free p c s → Free p c ((eachOf (λ k. cancel q k) xs s) .st)
+unfolding eachOf has
+keeps-loop p q c [] s sound h f = f
+keeps-loop p q c (x ∷ xs) s sound h f =
+    let X = h x (rw (eq-eqb x x refl)) in
+    let k = cancelled-keeps s q x sound X in
+    keeps-loop p q c xs (cancelled q x s) (k .sound) (λ y w. rw (k .frame .near .box) (h y (rw w (or-true (eqb y x))))) (keeps-free p q x c s sound X f)
+
+forget-stays : (p q c : ℕ) (s : State) → Sound s → q < length (s .grains) → Free p c s → Free p c ((forget q s) .st)
+unfolding forget
+forget-stays p q c s sound Q f = keeps-loop p q c (home s q) s sound (sound .lists .homes .each q Q .below) f
+
+-- what a collision schedules is scheduled where no pending event names either grain
+pub both-free : (p q : ℕ) (s : State) → Sound s → p < length (s .grains) → q < length (s .grains) → (c : ℕ) → c < cells (s .box)
+    → Free p c ((forget q ((forget p s) .st)) .st) × Free q c ((forget q ((forget p s) .st)) .st)
+both-free p q s sound P Q c C =
+    let k = forget-keeps p s sound P in
+    let u = (forget p s) .st in
+    let Q′ : q < length (u .grains) = rw (k .frame .near .few) Q in
+    let C′ : c < cells (u .box) = rw (k .frame .near .box) C in
+    (forget-stays p q c u (k .sound) Q′ (forget-free p s sound P c C), forget-free q u (k .sound) Q′ c C′)

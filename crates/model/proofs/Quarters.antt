@@ -1,0 +1,237 @@
+-- A box length from 9 to 48 and its cells, as from_p_to_c needs them: computed at 156 rows of a quarter of a length each, and carried to tested
+-- length between two quarters by the order of sums, differences and quotients. Assumes nothing.
+use mathlib.Core.Path.{_≡_, refl, sym, ap, _∙_, subst}
+use mathlib.Core.Logic.{_⊎_, inl, inr}
+use mathlib.Core.List.{List, [], _∷_}
+use Prim.Native.Nat.{ℕ, zero, suc, _+_, _≤_, max}
+use native.Mathlib.Nat.{le-trans, add-suc, suc-add, eq-or-lt-of-le, add-zero}
+use native.Mathlib.Omega.{arith}
+use mathlib.Core.Bool.{Bool, true, false, not, _&&_}
+use lib.IntN.{pos}
+use lib.Dec.{T, leb, leb→le}
+use lib.Ieee.{Float, nan, inf, fin, binary64, round, add, sub, div, lt, le, isNan, ofInt, ofBits, toUnsigned}
+use lib.Ieee.Fits.{and-l, and-r}
+use lib.Ieee.Positive.{positive, between}
+use Rattle.order.proofs.Order as O
+use Rattle.order.proofs.Cut.{cut-mono}
+use Rattle.order.specs.Numbers.{one, half, two, three, nine, fortyeight}
+use Rattle.model.specs.FromPToC.{width}
+use Rattle.model.specs.Grid.{cellsOf}
+use Rattle.order.proofs.Mono.{plain, positive-plain, add-mono, sub-mono, div-mono}
+
+abbrev pub four : Float
+four = ofBits binary64 0x4010_0000_0000_0000
+
+abbrev pub cnt : ℕ → Float
+cnt n = ofInt binary64 (pos n)
+
+-- a number of quarters
+abbrev pub quarter : ℕ → Float
+quarter k = round binary64 false k 4
+
+-- ---- lists of tests
+abbrev pub tested : List Bool → Bool
+tested [] = true
+tested (b ∷ bs) = b && tested bs
+
+abbrev pub nth : List Bool → ℕ → Bool
+nth [] i = true
+nth (b ∷ bs) zero = b
+nth (b ∷ bs) (suc i) = nth bs i
+
+pub passed : (bs : List Bool) → T (tested bs) → (i : ℕ) → T (nth bs i)
+passed [] t i = tt
+passed (b ∷ bs) t zero = and-l b (tested bs) t
+passed (b ∷ bs) t (suc i) = passed bs (and-r b (tested bs) t) i
+
+-- ---- the tests at one row: lengths from a to b, n cells
+abbrev tests : Float → Float → ℕ → List Bool
+tests a b n =
+    leb 3 n
+    ∷ leb n 16
+    ∷ positive (cnt n)
+    ∷ le two (width a n)
+    ∷ le (width b n) four
+    ∷ lt (div binary64 (sub binary64 b half) (width a n)) (cnt n)
+    ∷ positive (width a n)
+    ∷ positive (width b n)
+    ∷ leb n (suc (toUnsigned 64 (div binary64 (sub binary64 (sub binary64 a half) half) (width b n))))
+    ∷ []
+
+abbrev ends : Float → Float → List Bool
+ends a b =
+    positive a
+    ∷ positive b
+    ∷ plain (sub binary64 b half)
+    ∷ plain (add binary64 b half)
+    ∷ le half a
+    ∷ le half b
+    ∷ le a (add binary64 b half)
+    ∷ le (sub binary64 (add binary64 b half) a) one
+    ∷ leb (cellsOf b) (suc (cellsOf a))
+    ∷ tested (tests a b (cellsOf a))
+    ∷ tested (tests a b (cellsOf b))
+    ∷ plain (sub binary64 a half)
+    ∷ le half (sub binary64 a half)
+    ∷ plain (sub binary64 (sub binary64 a half) half)
+    ∷ le (add binary64 (sub binary64 a half) half) a
+    ∷ le (sub binary64 (sub binary64 a half) half) (sub binary64 a half)
+    ∷ []
+
+abbrev row : ℕ → Bool
+row k = tested (ends (quarter k) (quarter (suc k)))
+
+-- c rows from k on
+abbrev rows : ℕ → ℕ → Bool
+rows zero k = true
+rows (suc c) k = row k && rows c (suc k)
+
+checked : T (rows 156 36)
+unfolding round add sub div lt le toUnsigned ofInt ofBits
+checked = tt
+
+-- ---- what a length and its cells keep
+pub record Facts (l : Float) (n : ℕ) : Type 0 where
+  pub three-up : 3 ≤ n
+  pub sixteen-down : n ≤ 16
+  pub count-positive : T (positive (cnt n))
+  pub length-positive : T (positive l)
+  pub length-half : T (le half l)
+  pub wide-positive : T (positive (width l n))
+  pub two-up : T (le two (width l n))
+  pub four-down : T (le (width l n) four)
+  -- what lies half a unit below the length or lower is in the last cell or below it
+  pub top : (m : Float) → T (plain m) → T (le m (sub binary64 l half)) → T (lt (div binary64 m (width l n)) (cnt n))
+  -- what a position adds past the end is at most one
+  pub over : (m : Float) → T (plain m) → T (le l m) → T (le m (add binary64 l half)) → T (le (sub binary64 m l) one)
+  -- a length not above this one, and what lies one unit below it is in the last cell
+  pub low : Float
+  pub low-plain : T (plain low)
+  pub low-half : T (le half low)
+  pub low-le : T (le low l)
+  pub inner-plain : T (plain (sub binary64 low half))
+  pub inner-half : T (le half (sub binary64 low half))
+  pub deep-plain : T (plain (sub binary64 (sub binary64 low half) half))
+  pub back : T (le (add binary64 (sub binary64 low half) half) low)
+  pub down : T (le (sub binary64 (sub binary64 low half) half) (sub binary64 low half))
+  pub last : (m : Float) → T (plain m) → T (le (sub binary64 (sub binary64 low half) half) m) → n ≤ suc (toUnsigned 64 (div binary64 m (width l n)))
+
+half-plain : T (plain half)
+unfolding ofBits
+half-plain = tt
+
+three-positive : T (positive three)
+unfolding ofBits
+three-positive = tt
+
+nine-positive : T (positive nine)
+unfolding ofBits
+nine-positive = tt
+
+fortyeight-positive : T (positive fortyeight)
+unfolding ofBits
+fortyeight-positive = tt
+
+pub positive-no-nan : (x : Float) → T (positive x) → T (not (isNan x))
+positive-no-nan nan p = absurd p
+positive-no-nan (inf s) p = absurd p
+positive-no-nan (fin s m e) p = unfold isNan in tt
+
+three-no-nan : T (le three three)
+three-no-nan = O.le-refl three (positive-no-nan three three-positive)
+
+half-le : T (le half half)
+unfolding ofBits le
+half-le = tt
+
+max-mono : (a b : ℕ) → a ≤ b → max 3 a ≤ max 3 b
+max-mono a b h = omega arith
+
+pub more : (n c d : ℕ) → n ≤ suc c → c ≤ d → n ≤ suc d
+more n c d h k = omega arith
+
+cells-mono : (a b : Float) → T (positive a) → T (positive b) → T (le a b) → cellsOf a ≤ cellsOf b
+cells-mono a b p q h = max-mono _ _ (cut-mono 64 _ _ (div-mono binary64 a b three three (positive-plain a p) (positive-plain b q) three-positive three-positive h three-no-nan))
+
+module _ (l : Float) (a b : Float) (E : T (tested (ends a b))) (ha : T (le a l)) (hb : T (le l b)) where
+  e : (i : ℕ) → T (nth (ends a b) i)
+  e = passed (ends a b) E
+
+  pl : T (positive l)
+  pl = between a l b (e 0) (e 1) ha hb
+
+  nan-free : (x : Float) → T (positive x) → T (le x x)
+  nan-free x p = O.le-refl x (positive-no-nan x p)
+
+  with : (n : ℕ) → T (tested (tests a b n)) → Facts l n
+  with n G =
+      let t : (i : ℕ) → T (nth (tests a b n) i) = passed (tests a b n) G in
+      let self : T (le (cnt n) (cnt n)) = nan-free (cnt n) (t 2) in
+      let wa : T (le (width a n) (width l n)) = div-mono binary64 a l (cnt n) (cnt n) (positive-plain a (e 0)) (positive-plain l pl) (t 2) (t 2) ha self in
+      let wb : T (le (width l n) (width b n)) = div-mono binary64 l b (cnt n) (cnt n) (positive-plain l pl) (positive-plain b (e 1)) (t 2) (t 2) hb self in
+      let pw : T (positive (width l n)) = between (width a n) (width l n) (width b n) (t 6) (t 7) wa wb in
+      let hl : T (le half l) = O.le-trans half a l (e 4) ha in
+      let ls : T (le (sub binary64 l half) (sub binary64 b half)) = sub-mono binary64 l b half half (positive-plain l pl) (positive-plain b (e 1)) half-plain half-plain hl (e 5) hb half-le in
+      record {
+        three-up = leb→le 3 n (t 0);
+        sixteen-down = leb→le n 16 (t 1);
+        count-positive = t 2;
+        length-positive = pl;
+        length-half = hl;
+        wide-positive = pw;
+        two-up = O.le-trans two (width a n) (width l n) (t 3) wa;
+        four-down = O.le-trans (width l n) (width b n) four wb (t 4);
+        top = λ (m : Float) (p : T (plain m)) (h : T (le m (sub binary64 l half))).
+            O.le-lt-trans (div binary64 m (width l n)) (div binary64 (sub binary64 b half) (width a n)) (cnt n)
+            (div-mono binary64 m (sub binary64 b half) (width l n) (width a n) p (e 2) pw (t 6) (O.le-trans m (sub binary64 l half) (sub binary64 b half) h ls) wa)
+            (t 5);
+        over = λ (m : Float) (p : T (plain m)) (h : T (le l m)) (k : T (le m (add binary64 l half))).
+            O.le-trans (sub binary64 m l) (sub binary64 (add binary64 b half) a) one
+            (sub-mono binary64 m (add binary64 b half) l a p (e 3) (positive-plain l pl) (positive-plain a (e 0)) h (e 6)
+            (O.le-trans m (add binary64 l half) (add binary64 b half) k (add-mono binary64 l b half (positive-plain l pl) (positive-plain b (e 1)) half-plain hb)) ha)
+            (e 7);
+        low = a;
+        low-plain = positive-plain a (e 0);
+        low-half = e 4;
+        low-le = ha;
+        inner-plain = e 11;
+        inner-half = e 12;
+        deep-plain = e 13;
+        back = e 14;
+        down = e 15;
+        last = λ (m : Float) (p : T (plain m)) (h : T (le (sub binary64 (sub binary64 a half) half) m)).
+            more n _ _ (leb→le n (suc (toUnsigned 64 (div binary64 (sub binary64 (sub binary64 a half) half) (width b n)))) (t 8))
+            (cut-mono 64 _ _ (div-mono binary64 (sub binary64 (sub binary64 a half) half) m (width b n) (width l n) (e 13) p (t 7) pw h wb));
+      }
+
+  one-of : (c d n : ℕ) → c ≤ n → n ≤ d → d ≤ suc c → (n ≡ c) ⊎ (n ≡ d)
+  one-of c d n h k j = elim (eq-or-lt-of-le h) [ inl p ↦ inl (sym p) | inr p ↦ inr (omega arith) ]
+
+  at-row : Facts l (cellsOf l)
+  at-row = elim (one-of (cellsOf a) (cellsOf b) (cellsOf l) (cells-mono a l (e 0) pl ha) (cells-mono l b pl (e 1) hb) (leb→le (cellsOf b) (suc (cellsOf a)) (e 8))) [
+    | inl p ↦ with (cellsOf l) (subst (λ (n : ℕ). T (tested (tests a b n))) (sym p) (e 9))
+    | inr p ↦ with (cellsOf l) (subst (λ (n : ℕ). T (tested (tests a b n))) (sym p) (e 10))
+  ]
+
+-- ---- tested length
+nan-of : (x y : Float) → le x y ≡ false → T (not (isNan x)) → T (not (isNan y)) → T (le y x)
+nan-of x y h p q = elim (O.le-total x y p q) [ inl t ↦ absurd (subst T h t) | inr t ↦ t ]
+
+step : (l : Float) (k : ℕ) (b : Bool) → le l (quarter (suc k)) ≡ b → T (not (isNan l)) → T (row k) → T (le (quarter k) l) → (T (le (quarter (suc k)) l) → Facts l (cellsOf l)) → Facts l (cellsOf l)
+step l k true h p r a next = at-row l (quarter k) (quarter (suc k)) r a (subst T (sym h) tt)
+step l k false h p r a next = next (nan-of l (quarter (suc k)) h p (positive-no-nan (quarter (suc k)) (passed (ends (quarter k) (quarter (suc k))) r 1)))
+
+walk : (l : Float) → T (le l (quarter 192)) → (c k : ℕ) → k + suc c ≡ 192 → T (rows (suc c) k) → T (le (quarter k) l) → Facts l (cellsOf l)
+walk l top zero k e r a = at-row l (quarter k) (quarter (suc k)) (and-l (row k) true r) a (subst (λ (j : ℕ). T (le l (quarter j))) (sym e ∙ add-suc k 0 ∙ ap suc (add-zero k)) top)
+walk l top (suc c) k e r a = step l k (le l (quarter (suc k))) refl (O.le-left l (quarter 192) top) (and-l (row k) (rows (suc c) (suc k)) r) a (walk l top c (suc k) (suc-add k (suc c) ∙ sym (add-suc k (suc c)) ∙ e) (and-r (row k) (rows (suc c) (suc k)) r))
+
+low-end : quarter 36 ≡ nine
+unfolding round ofBits
+low-end = refl
+
+high-end : quarter 192 ≡ fortyeight
+unfolding round ofBits
+high-end = refl
+
+pub facts : (l : Float) → T (le nine l) → T (le l fortyeight) → Facts l (cellsOf l)
+facts l h k = walk l (subst (λ (z : Float). T (le l z)) (sym high-end) k) 155 36 refl checked (subst (λ (z : Float). T (le z l)) (sym low-end) h)

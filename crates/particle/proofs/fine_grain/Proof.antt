@@ -1,0 +1,47 @@
+-- `fine_grain` answers whether every number is finite. Assumes nothing.
+use borrow.Author.Needs.{needs}
+use Rattle.model.specs.Acts.{fineGrain}
+use Rattle.cell.proofs.Laws.{both, neither}
+use Rattle.particle.proofs.fine_grain.Statement.{statement}
+use Rattle.particle.proofs.fine_grain.Tie as tie
+
+fine-vec-requires : tie.Need-fine-vec-requires
+fine-vec-requires c κs = search needs
+
+fine-vec-requires-2 : tie.Need-fine-vec-requires-2
+fine-vec-requires-2 c κs = search needs
+
+is-finite-requires : tie.Need-is-finite-requires
+is-finite-requires c κs = search needs
+
+is-finite-requires-2 : tie.Need-is-finite-requires-2
+is-finite-requires-2 c κs = search needs
+
+returns : tie.Need-returns
+unfolding fineGrain
+returns c = both _ _ _ _ (c .before .before .before .before .before .before .fine-vec .ensures) (c .before .before .before .before .before .if1 .taken) (both _ _ _ _ (c .before .before .before .before .fine-vec2 .ensures) (c .before .before .before .if2 .taken) (both _ _ _ _ (c .before .before .is-finite .ensures) (c .before .if3 .taken) (c .is-finite2 .ensures)))
+
+returns-2 : tie.Need-returns-2
+unfolding fineGrain
+returns-2 c = both _ _ _ _ (c .before .before .before .before .before .fine-vec .ensures) (c .before .before .before .before .if1 .taken) (both _ _ _ _ (c .before .before .before .fine-vec2 .ensures) (c .before .before .if2 .taken) (neither _ _ _ (c .before .is-finite .ensures) (c .if3 .left)))
+
+returns-3 : tie.Need-returns-3
+unfolding fineGrain
+returns-3 c = both _ _ _ _ (c .before .before .before .fine-vec .ensures) (c .before .before .if1 .taken) (neither _ _ _ (c .before .fine-vec2 .ensures) (c .if2 .left))
+
+returns-4 : tie.Need-returns-4
+unfolding fineGrain
+returns-4 c = neither _ _ _ (c .before .fine-vec .ensures) (c .if1 .left)
+
+pub fine-grain-spec : {M : Type 1} → statement M
+fine-grain-spec =
+    tie.close
+    (tie.spec
+    fine-vec-requires
+    fine-vec-requires-2
+    is-finite-requires
+    is-finite-requires-2
+    returns
+    returns-2
+    returns-3
+    returns-4)

@@ -1,0 +1,56 @@
+// The grains' floats: position, velocity, time and value of each.
+ghost use mathlib.Core.Path.{_≡_};
+ghost use Prim.Native.Nat.{ℕ, _+_, _*_, _<_, _≤_};
+ghost use mathlib.Core.List.{List};
+ghost use lib.ListN.{length, set, getD};
+ghost use Rattle.model.specs.declared.Particle.{Particle as Grain};
+ghost use Rattle.model.specs.State.{zeroG};
+ghost use Rattle.tables.specs.declared.Sizes.{Sizes as Counts};
+ghost use Rattle.tables.specs.Layout.{grainReals};
+ghost use Rattle.tables.specs.Holds.{Grained};
+use model::Particle;
+use myvec::MyVec;
+
+// One grain, in a part of six floats.
+pub fn read_grain(s: &[f64]) -> Particle
+    requires { ⌜ length (now s) ≡ 6 ⌝ }
+    ensures { λ r. ⌜ ((p : Grain) → now (s .entry) ≡ grainReals p → r ≡ p) ⌝ }
+{
+    Particle {
+        pos: MyVec { x: s[0], y: s[1] },
+        vel: MyVec { x: s[2], y: s[3] },
+        time: s[4],
+        val: s[5],
+    }
+}
+
+pub fn write_grain(s: &mut [f64], p: Particle)
+    requires { ⌜ length (now s) ≡ 6 ⌝ }
+    ensures { λ _. ⌜ now (s .exit) ≡ grainReals p ⌝ }
+{
+    s[0] = p.pos.x;
+    s[1] = p.pos.y;
+    s[2] = p.vel.x;
+    s[3] = p.vel.y;
+    s[4] = p.time;
+    s[5] = p.val;
+}
+
+// Grain i of the table.
+pub fn get_grain(t: &[f64], i: usize) -> Particle
+    requires { ⌜ (i < 256) × (i * 6 + 6 ≤ length (now t)) ⌝ }
+    ensures { λ r. ⌜ ((z : Counts) (gs : List Grain) → Grained z (now (t .entry)) gs → r ≡ getD gs i zeroG) ⌝ }
+{
+    let a = i * 6;
+    let b = a + 6;
+    read_grain(&t[a..b])
+}
+
+pub fn put_grain(t: &mut [f64], i: usize, p: Particle)
+    requires { ⌜ (i < 256) × (i * 6 + 6 ≤ length (now t)) ⌝ }
+    ensures { λ _. ⌜ ((z : Counts) (gs : List Grain) → Grained z (now (t .entry)) gs → Grained z (now (t .exit)) (set gs i p)) ⌝ }
+{
+    let a = i * 6;
+    let b = a + 6;
+    write_grain(&mut t[a..b], p);
+}

@@ -1,0 +1,328 @@
+// Events, and the places that hold them: a run of places is a part of each of two lent tables.
+ghost use mathlib.Core.Path.{_≡_};
+ghost use Prim.Native.Nat.{ℕ, _+_, _*_, _<_, _≤_};
+ghost use mathlib.Core.List.{List, _∷_, _++_};
+ghost use lib.ListN.{length, replicate};
+ghost use lib.Ieee.Scale.{finite};
+ghost use Rattle.model.specs.Events.{placeOf, eventOf, names, insertBy, keepBy, goneBy, zeroP, fineV, finePlace};
+ghost use Rattle.model.specs.declared.Place.{Place as PlaceV};
+ghost use Rattle.tables.specs.Holds.{Run};
+use model::Event;
+use model::Pending;
+use model::Place;
+use myvec::MyVec;
+
+pub fn is_finite(x: f64) -> bool
+    ensures { λ r. ⌜ r ≡ finite x ⌝ }
+{
+    x - x == 0.0
+}
+
+pub fn fine_vec(v: MyVec) -> bool
+    ensures { λ r. ⌜ r ≡ fineV v ⌝ }
+{
+    if !is_finite(v.x) {
+        return false;
+    }
+    is_finite(v.y)
+}
+
+// Whether every number of a place is finite, and its time below f64::MAX.
+pub fn fine_place(s: Place) -> bool
+    ensures { λ r. ⌜ r ≡ finePlace s ⌝ }
+{
+    let time = s.time;
+    if !is_finite(time) {
+        return false;
+    }
+    if !(time < 1.7976931348623157e308) {
+        return false;
+    }
+    if !fine_vec(s.a) {
+        return false;
+    }
+    if !fine_vec(s.b) {
+        return false;
+    }
+    if !fine_vec(s.c) {
+        return false;
+    }
+    if !fine_vec(s.d) {
+        return false;
+    }
+    is_finite(s.val)
+}
+
+pub fn zero_place() -> Place
+    ensures { λ r. ⌜ r ≡ zeroP ⌝ }
+{
+    let zero = MyVec { x: 0.0, y: 0.0 };
+    Place {
+        kind: 0,
+        p: 0,
+        q: 0,
+        cell: 0,
+        time: 0.0,
+        a: zero,
+        b: zero,
+        c: zero,
+        d: zero,
+        val: 0.0,
+    }
+}
+
+// How an event is written at a place: what its kind does not need is 0.
+pub fn place_of(e: Pending) -> Place
+    ensures { λ r. ⌜ r ≡ placeOf e ⌝ }
+{
+    let time = e.time;
+    let event = e.event;
+    let zero = MyVec { x: 0.0, y: 0.0 };
+    match event {
+        Event::InterParticleCollision {
+            p,
+            q,
+            p_pos,
+            q_pos,
+            p_vel,
+            q_vel,
+            val,
+        } => Place {
+            kind: 1,
+            p,
+            q,
+            cell: 0,
+            time,
+            a: p_pos,
+            b: q_pos,
+            c: p_vel,
+            d: q_vel,
+            val,
+        },
+        Event::MoveToNeighbour { p, pos, cell } => Place {
+            kind: 2,
+            p,
+            q: 0,
+            cell,
+            time,
+            a: pos,
+            b: zero,
+            c: zero,
+            d: zero,
+            val: 0.0,
+        },
+        Event::MoveOutOfCell { p, pos, cell } => Place {
+            kind: 3,
+            p,
+            q: 0,
+            cell,
+            time,
+            a: pos,
+            b: zero,
+            c: zero,
+            d: zero,
+            val: 0.0,
+        },
+        Event::WallReflection { p, pos, vel, val } => Place {
+            kind: 4,
+            p,
+            q: 0,
+            cell: 0,
+            time,
+            a: pos,
+            b: zero,
+            c: vel,
+            d: zero,
+            val,
+        },
+        Event::Synchronisation => Place {
+            kind: 5,
+            p: 0,
+            q: 0,
+            cell: 0,
+            time,
+            a: zero,
+            b: zero,
+            c: zero,
+            d: zero,
+            val: 0.0,
+        },
+    }
+}
+
+pub fn names_grain(s: Place, g: u64) -> bool
+    ensures { λ r. ⌜ r ≡ names (eventOf (s .kind) s) g ⌝ }
+{
+    let kind = s.kind;
+    let p = s.p;
+    let q = s.q;
+    match kind {
+        1 => {
+            if p == g {
+                return true;
+            }
+            q == g
+        }
+        2 => p == g,
+        3 => p == g,
+        4 => p == g,
+        _ => false,
+    }
+}
+
+// The first of a run of places.
+pub fn get_head(nums: &[u64], reals: &[f64]) -> Place
+    requires { ⌜ (4 ≤ length (now nums)) × (10 ≤ length (now reals)) ⌝ }
+    ensures { λ r. ⌜ ((s : PlaceV) (ps : List PlaceV) → Run (now (nums .entry)) (now (reals .entry)) (s ∷ ps) → r ≡ s) ⌝ }
+{
+    Place {
+        kind: nums[0],
+        p: nums[1],
+        q: nums[2],
+        cell: nums[3],
+        time: reals[0],
+        a: MyVec {
+            x: reals[1],
+            y: reals[2],
+        },
+        b: MyVec {
+            x: reals[3],
+            y: reals[4],
+        },
+        c: MyVec {
+            x: reals[5],
+            y: reals[6],
+        },
+        d: MyVec {
+            x: reals[7],
+            y: reals[8],
+        },
+        val: reals[9],
+    }
+}
+
+pub fn put_head(nums: &mut [u64], reals: &mut [f64], s: Place)
+    requires { ⌜ (4 ≤ length (now nums)) × (10 ≤ length (now reals)) ⌝ }
+    ensures { λ _. ⌜ ((x : PlaceV) (ps : List PlaceV) → Run (now (nums .entry)) (now (reals .entry)) (x ∷ ps)
+        → Run (now (nums .exit)) (now (reals .exit)) (s ∷ ps)) ⌝ }
+{
+    nums[0] = s.kind;
+    nums[1] = s.p;
+    nums[2] = s.q;
+    nums[3] = s.cell;
+    reals[0] = s.time;
+    reals[1] = s.a.x;
+    reals[2] = s.a.y;
+    reals[3] = s.b.x;
+    reals[4] = s.b.y;
+    reals[5] = s.c.x;
+    reals[6] = s.c.y;
+    reals[7] = s.d.x;
+    reals[8] = s.d.y;
+    reals[9] = s.val;
+}
+
+// In front of n places, one more: each moves up by one, over the first place beyond them.
+pub fn push(nums: &mut [u64], reals: &mut [f64], n: usize, s: Place)
+    requires { ⌜ (n < 256) × (4 * (n + 1) ≤ length (now nums)) × (10 * (n + 1) ≤ length (now reals)) ⌝ }
+    ensures { λ _. ⌜ ((live rest : List PlaceV) (x : PlaceV) → n ≡ length live
+        → Run (now (nums .entry)) (now (reals .entry)) (live ++ x ∷ rest)
+        → Run (now (nums .exit)) (now (reals .exit)) (s ∷ live ++ rest)) ⌝ }
+{
+    if n == 0 {
+        put_head(nums, reals, s);
+        return;
+    }
+    let old = get_head(nums, reals);
+    put_head(nums, reals, s);
+    push(&mut nums[4..], &mut reals[10..], n - 1, old);
+}
+
+// Among n places in time order, one more: after every one that is not later.
+pub fn insert(nums: &mut [u64], reals: &mut [f64], n: usize, s: Place)
+    requires { ⌜ (n < 256) × (4 * (n + 1) ≤ length (now nums)) × (10 * (n + 1) ≤ length (now reals)) ⌝ }
+    ensures { λ _. ⌜ ((live rest : List PlaceV) (x : PlaceV) → n ≡ length live
+        → Run (now (nums .entry)) (now (reals .entry)) (live ++ x ∷ rest)
+        → Run (now (nums .exit)) (now (reals .exit)) (insertBy s live ++ rest)) ⌝ }
+{
+    if n == 0 {
+        put_head(nums, reals, s);
+        return;
+    }
+    let first = get_head(nums, reals);
+    if first.time <= s.time {
+        insert(&mut nums[4..], &mut reals[10..], n - 1, s);
+        return;
+    }
+    push(nums, reals, n, s);
+}
+
+// The first place goes: n more move down by one, and the place given up is cleared.
+pub fn pull(nums: &mut [u64], reals: &mut [f64], n: usize)
+    requires { ⌜ (n < 256) × (4 * (n + 1) ≤ length (now nums)) × (10 * (n + 1) ≤ length (now reals)) ⌝ }
+    ensures { λ _. ⌜ ((live rest : List PlaceV) (x : PlaceV) → n ≡ length live
+        → Run (now (nums .entry)) (now (reals .entry)) (x ∷ live ++ rest)
+        → Run (now (nums .exit)) (now (reals .exit)) (live ++ zeroP ∷ rest)) ⌝ }
+{
+    if n == 0 {
+        put_head(nums, reals, zero_place());
+        return;
+    }
+    let next = get_head(&nums[4..], &reals[10..]);
+    put_head(nums, reals, next);
+    pull(&mut nums[4..], &mut reals[10..], n - 1);
+}
+
+// The first n places are cleared.
+pub fn clear(nums: &mut [u64], reals: &mut [f64], n: usize)
+    requires { ⌜ (n ≤ 256) × (4 * n ≤ length (now nums)) × (10 * n ≤ length (now reals)) ⌝ }
+    ensures { λ _. ⌜ ((given rest : List PlaceV) → n ≡ length given
+        → Run (now (nums .entry)) (now (reals .entry)) (given ++ rest)
+        → Run (now (nums .exit)) (now (reals .exit)) (replicate n zeroP ++ rest)) ⌝ }
+{
+    if n == 0 {
+        return;
+    }
+    put_head(nums, reals, zero_place());
+    clear(&mut nums[4..], &mut reals[10..], n - 1);
+}
+
+// Behind `gone` places that are given up stand n more: those that do not name g move down over them, in order, and the places left over are cleared.
+pub fn close_up(nums: &mut [u64], reals: &mut [f64], gone: usize, n: usize, g: u64) -> usize
+    requires { ⌜ (0 < gone) × (gone + n ≤ 256) × (4 * (gone + n) ≤ length (now nums)) × (10 * (gone + n) ≤ length (now reals)) ⌝ }
+    ensures { λ r. ⌜ (r ≤ n) × ((given live rest : List PlaceV) → gone ≡ length given → n ≡ length live
+        → Run (now (nums .entry)) (now (reals .entry)) (given ++ (live ++ rest))
+        → (r ≡ length (keepBy g live)) × Run (now (nums .exit)) (now (reals .exit)) (keepBy g live ++ (replicate (gone + goneBy g live) zeroP ++ rest))) ⌝ }
+{
+    if n == 0 {
+        clear(nums, reals, gone);
+        return 0;
+    }
+    let a = gone * 4;
+    let b = gone * 10;
+    let next = get_head(&nums[a..], &reals[b..]);
+    if names_grain(next, g) {
+        return close_up(nums, reals, gone + 1, n - 1, g);
+    }
+    put_head(nums, reals, next);
+    let kept = close_up(&mut nums[4..], &mut reals[10..], gone, n - 1, g);
+    kept + 1
+}
+
+// Of n places those that do not name g, in order, in one pass; the places given up are cleared. How many are left.
+pub fn cancel(nums: &mut [u64], reals: &mut [f64], n: usize, g: u64) -> usize
+    requires { ⌜ (n ≤ 256) × (4 * n ≤ length (now nums)) × (10 * n ≤ length (now reals)) ⌝ }
+    ensures { λ r. ⌜ (r ≤ n) × ((live rest : List PlaceV) → n ≡ length live
+        → Run (now (nums .entry)) (now (reals .entry)) (live ++ rest)
+        → (r ≡ length (keepBy g live)) × Run (now (nums .exit)) (now (reals .exit)) (keepBy g live ++ (replicate (goneBy g live) zeroP ++ rest))) ⌝ }
+{
+    if n == 0 {
+        return 0;
+    }
+    let first = get_head(nums, reals);
+    if names_grain(first, g) {
+        return close_up(nums, reals, 1, n - 1, g);
+    }
+    let kept = cancel(&mut nums[4..], &mut reals[10..], n - 1, g);
+    kept + 1
+}
