@@ -106,28 +106,32 @@ all-step-only m c s = touch-each OnlyGrains grains-none grains-both stepGrain st
 -- ---- all tables hold the outcome, where the one that the act touched does
 pub grains-all : {z : Sizes} {l : List ℕ} {t t′ : List Float} {q : List ℕ} {e : List Float} {o : List ℕ} {r : ℕ} (s : State) (a : Out State) → Holds z l t q e o s → OnlyGrains s (a .st) → GrainsTold z t′ r a
     → AllTold z l t′ q e o r a
-grains-all {z} {l} {t′ = t′} {q = q} {e = e} {o = o} s a h only told =
-    (told .0, record {
-      listed = grains-along (InLists z l) s (a .st) only (h .listed);
-      grained = told .1;
-      queued = grains-along (Queued z q e o) s (a .st) only (record {
-        ranged = h .queued .ranged;
-        tables = h .queued .tables;
-        heap = h .queued .heap;
-        room-is = h .queued .room-is;
-      });
-    })
+grains-all {z} {l} {t′ = t′} {q = q} {e = e} {o = o} s a h only told = (
+  told .0,
+  record {
+    listed = grains-along (InLists z l) s (a .st) only (h .listed);
+    grained = told .1;
+    queued = grains-along (Queued z q e o) s (a .st) only (record {
+      ranged = h .queued .ranged;
+      tables = h .queued .tables;
+      heap = h .queued .heap;
+      room-is = h .queued .room-is;
+    });
+  },
+)
 
 pub lists-all : {z : Sizes} {l l′ : List ℕ} {t : List Float} {q : List ℕ} {e : List Float} {o : List ℕ} {r : ℕ} (s : State) (a : Out State) → Holds z l t q e o s → OnlyLists s (a .st) → ListsTold z l′ r a
     → AllTold z l′ t q e o r a
-lists-all {z} {t = t} {q = q} {e = e} {o = o} s a h only told =
-    (told .0, record {
-      listed = told .1;
-      grained = lists-along (InGrains z t) s (a .st) only (h .grained);
-      queued = lists-along (Queued z q e o) s (a .st) only (record {
-        ranged = h .queued .ranged;
-        tables = h .queued .tables;
-        heap = h .queued .heap;
-        room-is = h .queued .room-is;
-      });
-    })
+lists-all {z} {t = t} {q = q} {e = e} {o = o} s a h only told = (
+  told .0,
+  record {
+    listed = told .1;
+    grained = lists-along (InGrains z t) s (a .st) only (h .grained);
+    queued = lists-along (Queued z q e o) s (a .st) only (record {
+      ranged = h .queued .ranged;
+      tables = h .queued .tables;
+      heap = h .queued .heap;
+      room-is = h .queued .room-is;
+    });
+  },
+)
