@@ -1,4 +1,4 @@
--- Acts in a row, from what each call told: a number r, and that the tables now hold H of the outcome's state. H and H′ are any such relations. Assumes nothing.
+-- Acts in turn, from what each call told: a number r, and that the tables now hold H of the outcome's state. H and H′ are any such relations. Assumes nothing.
 use Prim.Native.Nat.{ℕ, zero, suc, _+_, _-_, _≤_, _<_}
 use mathlib.Core.Path.{_≡_, refl, sym, ap, _∙_, subst}
 use native.Mathlib.Nat.{suc-ne-zero}
