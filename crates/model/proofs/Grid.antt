@@ -1,18 +1,16 @@
 -- from_p_to_c gives cells of the box; an accepted box has at most 256 cells. Assumes nothing.
-use Prim.Native.Nat.{ℕ, zero, suc, _+_, _-_, _*_, _^_, _≤_, _<_, max}
-use mathlib.Core.Path.{_≡_, refl, sym, ap, subst, _∙_}
+use Prim.Native.Nat.{ℕ, zero, suc, _+_, _-_, _*_, _≤_, _<_}
+use mathlib.Core.Path.{_≡_, refl}
 use mathlib.Core.List.{List, [], _∷_, _++_, map}
-use mathlib.Core.Bool.{Bool, true, false, not, _&&_, _||_, or-assoc}
+use mathlib.Core.Bool.{Bool, true, false, _||_}
 use native.Mathlib.Omega.{arith}
 use native.Mathlib.Nat.{mul-le-mul, le-trans, lt-of-le-of-lt}
 use lib.Dec.{T, eqb, le→leb, lit≤, lit<}
-use lib.IntN.{pos}
-use lib.Ieee.{Float, binary64, add, sub, div, lt, le, isNan, inFloat, ofInt, ofBits, toUnsigned}
+use lib.Ieee.{Float, binary64, add, sub, div, lt, le, isNan, inFloat, ofBits, toUnsigned}
 use lib.Ieee.Positive.{positive, between}
 use borrow.Author.Tests.{eqb-true}
 use Rattle.myvec.specs.declared.MyVec.{MyVec}
 use Rattle.model.specs.declared.Domain.{Domain}
-use Rattle.halting.specs.Out.{pick}
 use Rattle.model.specs.Grid.{cellsOf, across, cells, cellAt, lengthOf}
 use Rattle.order.proofs.Mono.{div-mono, positive-plain}
 use Rattle.order.proofs.Order.{le-refl}
@@ -23,7 +21,7 @@ use Rattle.model.specs.State.{has}
 use Rattle.model.specs.Sizes.{boxOk, within}
 use Rattle.model.proofs.Lists.{clash}
 use Rattle.model.proofs.Queue.{T-of, and-l, and-r}
-use Rattle.model.proofs.Keeps.{on-test}
+use Rattle.model.proofs.Cases.{on-test}
 use Rattle.model.proofs.Plans.{grid-in}
 
 -- ---- 9 to 48 long: 3 to 16 cells

@@ -1,4 +1,5 @@
 -- The theorems of demand 3 over the definitions of document 01, and what leads to them: acts, a step, a run, a start, the checks; then what is claimed.
+pub mod Cases
 pub mod Lists
 pub mod Inserts
 pub mod Queue

@@ -1,21 +1,20 @@
 -- One cell's queue: what an insertion, a cancelling and the removal of the head keep. Assumes nothing.
-use Prim.Native.Nat.{ℕ, zero, suc, _+_, _-_, _≤_, _<_}
-use mathlib.Core.Path.{_≡_, refl, sym, ap, subst, _∙_}
+use Prim.Native.Nat.{ℕ, suc, _+_, _<_}
+use mathlib.Core.Path.{_≡_, refl, sym, ap, subst}
 use mathlib.Core.List.{List, [], _∷_, _++_}
-use mathlib.Core.Bool.{Bool, true, false, not, _&&_, _||_}
+use mathlib.Core.Bool.{Bool, true, false, not, _&&_}
 use native.Mathlib.Omega.{arith}
-use lib.Dec.{T, T-not, not-T}
-use lib.ListN.{length, getD, set, drop, replicate, length-replicate, length-append}
-use lib.Ieee.{Float, binary64, le, lt, isNan, fits}
+use lib.Dec.{T}
+use lib.ListN.{length, drop, replicate, length-replicate, length-append}
+use lib.Ieee.{Float, le, lt, isNan}
 use lib.Ieee.Scale.{finite}
 use Rattle.model.specs.declared.Place.{Place}
-use Rattle.halting.specs.Out.{pick}
 use Rattle.order.specs.Numbers.{last}
-use Rattle.order.proofs.Order.{le-trans, le-total, lt-left, lt→le}
-use Rattle.order.proofs.Compare.{lt-asym, lt-of-not-le}
-use Rattle.model.specs.Events.{insertBy, keepBy, goneBy, names, eventOf, headTime, finePlace, zeroP}
+use Rattle.order.proofs.Order.{le-trans, lt-left, lt→le}
+use Rattle.order.proofs.Compare.{lt-of-not-le}
+use Rattle.model.specs.Events.{insertBy, keepBy, goneBy, names, eventOf, finePlace, zeroP}
 use Rattle.model.specs.State.{Row, row}
-use Rattle.model.specs.Standing.{Rising, All, syncs, one-if}
+use Rattle.model.specs.Standing.{Rising, All}
 use Rattle.model.specs.Sound.{Held, Queue}
 use Rattle.model.proofs.Lists.{clash}
 

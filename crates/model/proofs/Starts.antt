@@ -35,7 +35,8 @@ use Rattle.model.specs.Standing.{Once, syncs}
 use Rattle.model.specs.Sound.{Numbers, Side, Sound, Stands}
 use Rattle.model.proofs.Lists.{clash}
 use Rattle.model.proofs.Queue.{and-l, and-r}
-use Rattle.model.proofs.Keeps.{on-test, Apt}
+use Rattle.model.proofs.Cases.{on-test}
+use Rattle.model.proofs.Keeps.{Apt}
 use Rattle.model.proofs.Plans.{cells-some}
 use Rattle.model.proofs.Frame.{Near, Keeps, Goes, near-refl, near-trans, keeps-refl, keeps-on, goes-on, keeps-goes, store-keeps, In, in-frame, in-cell, enter-goes, enter-in, of-sound}
 use Rattle.model.proofs.Schedule.{then-both, collide-keeps, boundaries-keeps}
