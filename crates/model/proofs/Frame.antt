@@ -24,6 +24,7 @@ use Rattle.model.specs.Acts.{store, insert, inserted, put, cancelled, en
 use Rattle.model.specs.Standing.{All, syncs, one-if}
 use Rattle.model.specs.Sound.{Sound}
 use Rattle.model.proofs.Lists.{clash, live-same, live-other, length-snoc, length-but, has-entered}
+use Rattle.model.proofs.Inserts.{inserted-at}
 use Rattle.model.proofs.Queue.{kept-names}
 use Rattle.model.proofs.Cases.{store-case, insert-case, enter-case, leave-case}
 use Rattle.model.proofs.Keeps.{Apt, store-sound, insert-sound, cancelled-sound, enter-sound, leave-sound}
@@ -100,15 +101,13 @@ one-if-named (MoveOutOfCell p x k) g h = refl
 one-if-named (WallReflection p x v w) g h = refl
 one-if-named Synchronisation g h = clash h
 
+syncs-mid : (e : Place) (bs xs : List Place) → syncs (bs ++ e ∷ xs) ≡ one-if (eventOf (e .kind) e) + syncs (bs ++ xs)
+unfolding syncs
+syncs-mid e [] xs = refl
+syncs-mid e (b ∷ bs) xs = let h = syncs-mid e bs xs in omega (arith, h)
+
 pub syncs-insert : (e : Place) (l : List Place) → syncs (insertBy e l) ≡ one-if (eventOf (e .kind) e) + syncs l
-unfolding insertBy syncs
-syncs-insert e [] = refl
-syncs-insert e (x ∷ xs) = by (le (x .time) (e .time)) refl (syncs-insert e xs)
-  where
-    by : (b : Bool) → le (x .time) (e .time) ≡ b → syncs (insertBy e xs) ≡ one-if (eventOf (e .kind) e) + syncs xs
-        → syncs (insertBy e (x ∷ xs)) ≡ one-if (eventOf (e .kind) e) + (one-if (eventOf (x .kind) x) + syncs xs)
-    by true q ih = rw (q, ih) (omega arith)
-    by false q ih = rw q
+syncs-insert e l = let i = inserted-at e l in ap syncs (i .is) ∙ syncs-mid e (i .before) (i .after) ∙ ap (λ (m : List Place). one-if (eventOf (e .kind) e) + syncs m) (sym (i .was))
 
 pub syncs-keep : (g : ℕ) (l : List Place) → syncs (keepBy g l) ≡ syncs l
 unfolding keepBy syncs

@@ -11,6 +11,7 @@ pub mod Schedule
 pub mod Steps
 pub mod Counts
 pub mod Runs
+pub mod Refusals
 pub mod Stands
 pub mod Reflect
 pub mod Whole

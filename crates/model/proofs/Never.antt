@@ -3,7 +3,7 @@ use Prim.Native.Nat.{ℕ, zero, suc, _+_, _≤_, _<_}
 use mathlib.Core.Path.{_≡_, refl, sym, ap, subst, _∙_}
 use mathlib.Core.Logic.{_⊎_, inl, inr}
 use mathlib.Core.List.{List, [], _∷_}
-use mathlib.Core.Bool.{Bool, true, false, _&&_}
+use mathlib.Core.Bool.{true, false, _&&_}
 use native.Mathlib.Omega.{arith}
 use native.Mathlib.Decide.{ℕ-discrete}
 use lib.Dec.{leb}
@@ -18,20 +18,19 @@ use Rattle.model.specs.declared.Particle.{Particle}
 use Rattle.model.specs.declared.Place.{Place}
 use Rattle.model.specs.declared.Event.{Event}
 use Rattle.model.specs.declared.Event.the-variants.{Synchronisation}
-use Rattle.halting.specs.Out.{Out, next, each, pick}
+use Rattle.halting.specs.Out.{Out, next, each}
 use Rattle.halting.proofs.Laws.{then-sound, each-sound, then-keeps}
 use Rattle.model.specs.Grid.{cells}
 use Rattle.model.specs.Stepping.{stepped}
 use Rattle.model.specs.Events.{eventOf, headTime, headPlace, finePlace, insertBy, zeroP}
 use Rattle.model.specs.State.{Row, row, none, State, grain, listed, queue, heads, liveAt, requeued}
 use Rattle.model.specs.Acts.{queueRow, store, insert, inserted, enter, first, head, taken}
-use Rattle.model.specs.Sizes.{rated}
 use Rattle.model.specs.Doing.{Stepped, done, halted, finish, stepGrain, doSync, syncAt, execute, headEvent, event, step}
 use Rattle.model.specs.Run.{spent, refused, Ran, onward, runFrom}
 use Rattle.model.specs.Start.{clear, goesIn, initCell, begin, started, start}
 use Rattle.model.specs.Standing.{Standing}
 use Rattle.model.specs.Sound.{Named, Stands}
-use Rattle.model.specs.Check.{Fits, Fitted, standing, sized, halt, refusal, runAll}
+use Rattle.model.specs.Check.{Fits, Fitted, runAll}
 use Rattle.model.proofs.Lists.{clash, live-same, live-other}
 use Rattle.model.proofs.Queue.{and-l, and-r}
 use Rattle.model.proofs.Frame.{of-sound}
@@ -43,6 +42,7 @@ use Rattle.model.proofs.Starts.{first-good, empty-live}
 use Rattle.model.proofs.Fresh.{begin-fair}
 use Rattle.model.proofs.Roots.{Rooted, updated-root, head-later, rest-root}
 use Rattle.model.proofs.Reached.{halted-mark}
+use Rattle.model.proofs.Refusals.{run-case}
 use Rattle.model.proofs.Halts.{accepted, start-halts, in-range}
 
 -- ---- 1. a start gives neither 8 nor 9
@@ -248,18 +248,10 @@ run-not-spent rate (suc b) s h B = onward-not-spent ((step rate s) .how) ((step 
 refusal-not : (r : ℕ) → refused r ≡ spent → ⊥
 refusal-not r e = let n : _≡_ {A = ℕ} 0 1 = cc in omega arith
 
-gate-not : (a h r t : Bool) (s : State) (x : Ran) → (h ≡ false → x .how ≡ spent → ⊥) → (pick a (pick h (refusal (s .mark) s) (pick r (pick t x (refusal 10 s)) (refusal 3 s))) (refusal 2 s)) .how ≡ spent → ⊥
-gate-not true false true true s x n = n refl
-gate-not true false true false s x n = refusal-not 10
-gate-not true false false t s x n = refusal-not 3
-gate-not true true r t s x n = refusal-not (s .mark)
-gate-not false h r t s x n = refusal-not 2
-
 pub first-run-not-spent : (b : Domain) (room : ℕ) (gs : List Particle) (s : State) → start b room gs ≡ started s → (rate : Float) (budget : ℕ) → 1 ≤ budget → (runAll rate budget s) .how ≡ spent → ⊥
-unfolding runAll
 first-run-not-spent b room gs s e rate budget B =
-    gate-not (sized s) (halt (s .mark)) (rated rate) (standing s) s (runFrom rate budget 0 s)
-    (λ h. elim (ℕ-discrete (s .mark) 0) [
+    run-case (λ f. (f budget) .how ≡ spent → ⊥) rate s (refusal-not 2) (λ h. refusal-not (s .mark)) (refusal-not 3) (refusal-not 10)
+    (λ h R t. elim (ℕ-discrete (s .mark) 0) [
       | yes m ↦ run-not-spent rate budget s (first-of-all b room gs s e m .1) B
       | no n ↦ λ x. let w = start-halts b room gs s e n in clash (sym h ∙ in-range (s .mark) (w .five) (w .nine))
     ])
