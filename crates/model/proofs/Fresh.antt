@@ -35,7 +35,8 @@ use Rattle.model.proofs.Frame.{Goes, near-refl, goes-on, keeps-goes, en
 use Rattle.halting.proofs.Laws.{then-sound}
 use Rattle.model.proofs.Placed.{Placed}
 use Rattle.model.proofs.Born.{born}
-use Rattle.model.proofs.Starts.{clear-box, clear-few, stored, goesIn-goes, different, empty-live, clear-sound}
+use Rattle.model.proofs.Cleared.{empty-live, clear-sound}
+use Rattle.model.proofs.Starts.{clear-box, clear-few, stored, goesIn-goes, different}
 
 -- a number that is neither 8 nor 9
 pub record Fair (r : ℕ) : Type 0 where

@@ -21,6 +21,7 @@ pub mod Few
 pub mod Grid
 pub mod Placed
 pub mod Born
+pub mod Cleared
 pub mod Starts
 pub mod Reached
 pub mod Demand3

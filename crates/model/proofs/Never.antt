@@ -38,7 +38,8 @@ use Rattle.model.proofs.Cases.{store-case, insert-case, enter-case}
 use Rattle.model.proofs.Plans.{cells-some}
 use Rattle.model.proofs.Steps.{first-some, head-ok}
 use Rattle.model.proofs.Stands.{stands}
-use Rattle.model.proofs.Starts.{first-good, empty-live}
+use Rattle.model.proofs.Starts.{first-good}
+use Rattle.model.proofs.Cleared.{empty-live}
 use Rattle.model.proofs.Fresh.{begin-fair}
 use Rattle.model.proofs.Roots.{Rooted, updated-root, head-later, rest-root}
 use Rattle.model.proofs.Reached.{halted-mark}

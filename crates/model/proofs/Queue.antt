@@ -16,7 +16,7 @@ use Rattle.model.specs.Events.{insertBy, keepBy, goneBy, names, eventOf,
 use Rattle.model.specs.State.{Row, row}
 use Rattle.model.specs.Standing.{Rising, All}
 use Rattle.model.specs.Sound.{Held, Queue}
-use Rattle.model.proofs.Lists.{clash}
+use Rattle.model.proofs.Lists.{clash, drop-one}
 use Rattle.model.proofs.Inserts.{Later, inserted-at}
 
 pub T-of : (b : Bool) → b ≡ true → T b
@@ -135,10 +135,6 @@ length-keep g (x ∷ xs) = by (names (eventOf (x .kind) x) g) refl (length-keep 
     by : (b : Bool) → names (eventOf (x .kind) x) g ≡ b → length (keepBy g xs) + goneBy g xs ≡ length xs → length (keepBy g (x ∷ xs)) + goneBy g (x ∷ xs) ≡ suc (length xs)
     by true q ih = rw q (omega (arith, ih))
     by false q ih = rw q (omega (arith, ih))
-
-drop-one : {A : Type 0} (l : List A) (a k : ℕ) → a + length l ≡ k → a < k → suc a + length (drop 1 l) ≡ k
-drop-one [] a k e h = absurd (omega (arith, e))
-drop-one (x ∷ xs) a k e h = omega (arith, e)
 
 -- ---- the three changes of a queue
 module _ (t : Float) (room n c : ℕ) (m : List ℕ) (r : Row Place) (q : Queue t room n c m r) where

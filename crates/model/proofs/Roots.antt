@@ -9,8 +9,7 @@ use native.Mathlib.Decide.{ℕ-discrete}
 use lib.Dec.{T, eqb, ltb}
 use lib.ListN.{length, getD, set, drop, length-set}
 use lib.Seq.{getD-set-other}
-use lib.Ieee.{Float, binary64, ofBits, add, neg, le, lt, isNan, fits}
-use lib.Ieee.Scale.{finite}
+use lib.Ieee.{Float, binary64, ofBits, add, neg, le, lt, isNan}
 use borrow.Author.Tests.{ltb-true, eq-eqb}
 use Rattle.scheduler.specs.declared.Scheduler.{Scheduler}
 use Rattle.scheduler.specs.Heap.{swap, swapAt, timeAt, parent, parentOf, up, upshifted, updated}
@@ -46,6 +45,7 @@ use Rattle.model.proofs.Lists.{clash, live-same, live-other}
 use Rattle.model.proofs.Queue.{of-T, not-of-T, and-l, and-r, fine-top, fine-real}
 use Rattle.model.proofs.Frame.{of-sound}
 use Rattle.model.proofs.Cases.{on-test, insert-case}
+use Rattle.model.proofs.Cleared.{zero-fits, zero-finite}
 use Rattle.model.proofs.Plans.{Late, late-collide, not-below}
 
 -- ---- the heap: where no head is earlier than cell 0's, which is the root, an upshift leaves it there
@@ -164,14 +164,6 @@ abbrev FromZero : Plan → Type 0
 FromZero Nothing = Unit {0}
 FromZero Refused = Unit {0}
 FromZero (Due e) = lt ((placeOf e) .time) fzero ≡ false
-
-zero-fits : T (fits binary64 fzero)
-unfolding fits ofBits
-zero-fits = tt
-
-zero-finite : T (finite fzero)
-unfolding ofBits
-zero-finite = tt
 
 from-zero : (dt : Float) → lt dt fzero ≡ false → lt (add binary64 fzero dt) fzero ≡ false
 from-zero dt h = fails (lt (add binary64 fzero dt) fzero) (λ t. lt-not-le (add binary64 fzero dt) fzero t (on (lt-left (add binary64 fzero dt) fzero t)))

@@ -14,9 +14,6 @@ use Rattle.model.specs.Run.{How, spent, Ran, onward, runFrom, plus, cont
 use Rattle.model.specs.Sound.{Sound, Stands}
 use Rattle.model.proofs.Steps.{step-sound, step-clock, step-stands}
 
-not-spent : {A : Type 0} (h : How) → h ≡ spent → (h ≡ spent → ⊥) → A
-not-spent h e n = absurd (n e)
-
 -- ---- over the steps alone: j + k steps are j steps and then, if they were spent, k more
 onward-continue : (h : Stepped) (s : State) (d : ℕ) (f g k : ℕ → State → Ran) → ((e : ℕ) (u : State) → f e u ≡ continue (g e u) k) → onward h s d f ≡ continue (onward h s d g) k
 onward-continue done s d f g k p = p (suc d) s
