@@ -17,6 +17,8 @@ use Rattle.model.specs.declared.Event.{Event}
 use Rattle.model.specs.declared.Event.the-variants.{InterParticleCollision, MoveToNeighbour, MoveOutOfCell, WallReflection, Synchronisation}
 use Rattle.halting.specs.Out.{Out, eachOf}
 use Rattle.halting.proofs.Laws.{then-sound}
+use Rattle.order.proofs.Order.{le-refl}
+use Rattle.order.proofs.Clock.{finite-no-nan}
 use Rattle.model.specs.Grid.{cells}
 use Rattle.model.specs.Events.{insertBy, keepBy, goneBy, names, eventOf, placeOf, zeroP}
 use Rattle.model.specs.State.{Row, row, none, State, grain, home, listed, queue, liveAt, has, pushed, pulled, requeued, withGrains}
@@ -137,6 +139,9 @@ requeued-frame s c r C h = record {
   homes = refl;
   members = refl;
 }
+
+pub same-clock : (s : State) → Sound s → T (le (s .clock) (s .clock))
+same-clock s sound = le-refl (s .clock) (finite-no-nan (s .clock) (sound .clock))
 
 -- ---- the acts that leave the lists
 pub store-keeps : (s : State) (g : ℕ) (p : Particle) → Sound s → g < length (s .grains) → T (le (p .time) (s .clock)) → Keeps s ((store g p s) .st)

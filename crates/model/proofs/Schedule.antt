@@ -4,16 +4,13 @@ use mathlib.Core.Path.{_≡_, refl, sym, _∙_, subst}
 use mathlib.Core.List.{List, [], _∷_}
 use mathlib.Core.Bool.{Bool, true, false, _||_, or-true}
 use native.Mathlib.Omega.{arith}
-use lib.Dec.{T, eqb}
+use lib.Dec.{eqb}
 use lib.ListN.{length}
-use lib.Ieee.{le}
 use borrow.Author.Tests.{eqb-true}
 use Rattle.myvec.specs.declared.MyVec.{MyVec}
 use Rattle.model.specs.declared.Particle.{Particle}
 use Rattle.halting.specs.Out.{Out, next, then, each, eachOf}
 use Rattle.halting.proofs.Laws.{then-sound, each-sound}
-use Rattle.order.proofs.Order.{le-refl}
-use Rattle.order.proofs.Clock.{finite-no-nan}
 use Rattle.model.specs.Grid.{cells}
 use Rattle.model.specs.Events.{names, eventOf}
 use Rattle.model.specs.State.{State, grain, home, listed, queue, has}
@@ -28,7 +25,7 @@ use Rattle.model.proofs.Lists.{clash, or-case}
 use Rattle.model.proofs.Plans.{AptPlan, collision-apt, toNeighbour-apt, outOfCell-apt, wall-apt}
 use Rattle.model.specs.Standing.{All}
 use Rattle.model.proofs.Cases.{store-case, leave-case}
-use Rattle.model.proofs.Frame.{Keeps, Goes, keeps-refl, keeps-on, goes-on, keeps-goes, store-keeps, put-keeps, cancelled-keeps, cancelled-free, In, in-frame, in-home, in-cell, enter-goes, enter-in, leave-goes, of-sound}
+use Rattle.model.proofs.Frame.{same-clock, Keeps, Goes, keeps-refl, keeps-on, goes-on, keeps-goes, store-keeps, put-keeps, cancelled-keeps, cancelled-free, In, in-frame, in-home, in-cell, enter-goes, enter-in, leave-goes, of-sound}
 use Rattle.model.proofs.Forgets.{forget-keeps}
 
 -- ---- an act whose second part needs the first to be done
@@ -40,9 +37,6 @@ pub then-both : {S : Type 0} (P Q : S → Type 0) (o : Out S) (k : S → Out S) 
 then-both P Q o k = next-both P Q (o .num) (o .st) k
 
 -- ---- stepping
-pub same-clock : (s : State) → Sound s → T (le (s .clock) (s .clock))
-same-clock s sound = le-refl (s .clock) (finite-no-nan (s .clock) (sound .clock))
-
 pub step-keeps : (s : State) (g : ℕ) → Sound s → g < length (s .grains) → Keeps s ((stepGrain g s) .st)
 unfolding stepGrain
 step-keeps s g sound G = store-keeps s g (stepped (s .box) (s .clock) (grain s g)) sound G (same-clock s sound)
