@@ -32,13 +32,13 @@ enum-told-2 : tie.Need-enum-told-2
 enum-told-2 c = search needs
 
 returns : tie.Need-returns
-returns c = plan-never (c .before .before .before .before .before .before .args .domain) (c .before .before .before .before .before .before .args .time) (c .before .before .before .before .before .before .args .cell .index) (c .before .before .before .before .before .before .args .i) (c .before .before .before .before .before .before .args .j) (c .before .before .before .before .before .before .args .p) (c .before .before .before .before .before .before .args .q) _ _ _ _ (c .before .before .before .before .before .sub .ensures) (c .before .before .before .before .apart .ensures) (c .before .before .before .sub2 .ensures) (c .before .before .contact .ensures) (c .enum-told .given .1)
+returns c = plan-never _ _ _ _ _ _ _ _ _ _ _ (c .before .before .before .before .before .sub .ensures) (c .before .before .before .before .apart .ensures) (c .before .before .before .sub2 .ensures) (c .before .before .contact .ensures) (c .enum-told .given .1)
 
 returns-2 : tie.Need-returns-2
-returns-2 c = plan-due (c .before .before .before .before .before .before .before .before .before .args .domain) (c .before .before .before .before .before .before .before .before .before .args .time) (c .before .before .before .before .before .before .before .before .before .args .cell .index) (c .before .before .before .before .before .before .before .before .before .args .i) (c .before .before .before .before .before .before .before .before .before .args .j) (c .before .before .before .before .before .before .before .before .before .args .p) (c .before .before .before .before .before .before .before .before .before .args .q) _ _ _ _ (c .before .before .before .before .before .before .before .before .sub .ensures) (c .before .before .before .before .before .before .before .apart .ensures) (c .before .before .before .before .before .before .sub2 .ensures) (c .before .before .before .before .before .contact .ensures) _ _ _ (c .before .before .before .dt .given .1) (c .before .struck .ensures) (c .due .ensures)
+returns-2 c = plan-due _ _ _ _ _ _ _ _ _ _ _ (c .before .before .before .before .before .before .before .before .sub .ensures) (c .before .before .before .before .before .before .before .apart .ensures) (c .before .before .before .before .before .before .sub2 .ensures) (c .before .before .before .before .before .contact .ensures) _ _ _ (c .before .before .before .dt .given .1) (c .before .struck .ensures) (c .due .ensures)
 
 returns-3 : tie.Need-returns-3
-returns-3 c = plan-refused (c .before .before .before .before .before .before .args .domain) (c .before .before .before .before .before .before .args .time) (c .before .before .before .before .before .before .args .cell .index) (c .before .before .before .before .before .before .args .i) (c .before .before .before .before .before .before .args .j) (c .before .before .before .before .before .before .args .p) (c .before .before .before .before .before .before .args .q) _ _ _ _ (c .before .before .before .before .before .sub .ensures) (c .before .before .before .before .apart .ensures) (c .before .before .before .sub2 .ensures) (c .before .before .contact .ensures) (c .enum-told2 .given .1)
+returns-3 c = plan-refused _ _ _ _ _ _ _ _ _ _ _ (c .before .before .before .before .before .sub .ensures) (c .before .before .before .before .apart .ensures) (c .before .before .before .sub2 .ensures) (c .before .before .contact .ensures) (c .enum-told2 .given .1)
 
 pub schedule-spec : {M : Type 1} → statement M
 schedule-spec =

@@ -35,7 +35,7 @@ mean-requires : tie.Need-mean-requires
 mean-requires c κs = search needs
 
 returns : tie.Need-returns
-returns c = struck-by (c .before .before .before .before .before .before .before .before .before .before .args .domain) (c .before .before .before .before .before .before .before .before .before .before .args .cell .index) (c .before .before .before .before .before .before .before .before .before .before .args .i) (c .before .before .before .before .before .before .before .before .before .before .args .j) (c .before .before .before .before .before .before .before .before .before .before .args .p) (c .before .before .before .before .before .before .before .before .before .before .args .q) (c .before .before .before .before .before .before .before .before .before .before .args .dt) _ _ _ _ _ _ _ _ _ _ (c .before .before .before .before .before .before .before .before .before .get-new-pos .ensures) (c .before .before .before .before .before .before .before .before .get-new-pos2 .ensures) (c .before .before .before .before .before .before .before .centre .ensures) (c .before .before .before .before .before .before .sub .ensures) (c .before .before .before .before .before .normal .ensures) (c .before .before .before .before .bounced .ensures) (c .before .before .before .times .ensures) (c .before .before .sub2 .ensures) (c .before .add .ensures) (c .mean .ensures)
+returns c = let s = c .before .before .before .before .before .before .before .before .before in struck-by _ _ _ _ (s .before .args .p) (s .before .args .q) _ _ _ _ _ _ _ _ _ _ _ (s .get-new-pos .ensures) (c .before .before .before .before .before .before .before .before .get-new-pos2 .ensures) (c .before .before .before .before .before .before .before .centre .ensures) (c .before .before .before .before .before .before .sub .ensures) (c .before .before .before .before .before .normal .ensures) (c .before .before .before .before .bounced .ensures) (c .before .before .before .times .ensures) (c .before .before .sub2 .ensures) (c .before .add .ensures) (c .mean .ensures)
 
 pub struck-spec : {M : Type 1} → statement M
 struck-spec =

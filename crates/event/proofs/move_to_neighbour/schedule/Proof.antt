@@ -11,13 +11,13 @@ shut-requires : tie.Need-shut-requires
 shut-requires c κs = search needs
 
 returns : tie.Need-returns
-returns c = neighbour-none (c .before .before .before .args .dim) (c .before .before .before .args .domain) (c .before .before .before .args .time) (c .before .before .before .args .cell .index) (c .before .before .before .args .i) (c .before .before .before .args .p) (c .before .before .new .result) (c .before .before .new .ensures) (c .before .shut .result) (c .before .shut .ensures) (c .if1 .taken)
+returns c = neighbour-none _ _ _ _ _ _ _ (c .before .before .new .ensures) _ (c .before .shut .ensures) (c .if1 .taken)
 
 dt-requires : tie.Need-dt-requires
 dt-requires c κs = search needs
 
 returns-2 : tie.Need-returns-2
-returns-2 c = neighbour-early (c .before .before .before .before .before .args .dim) (c .before .before .before .before .before .args .domain) (c .before .before .before .before .before .args .time) (c .before .before .before .before .before .args .cell .index) (c .before .before .before .before .before .args .i) (c .before .before .before .before .before .args .p) (c .before .before .before .before .new .result) (c .before .before .before .before .new .ensures) (c .before .before .before .shut .result) _ (c .before .before .before .shut .ensures) (c .before .before .if1 .left) (c .before .dt .ensures) (c .if2 .taken)
+returns-2 c = neighbour-early _ _ _ _ _ _ _ (c .before .before .before .before .new .ensures) _ _ (c .before .before .before .shut .ensures) (c .before .before .if1 .left) (c .before .dt .ensures) (c .if2 .taken)
 
 get-new-pos-requires : tie.Need-get-new-pos-requires
 get-new-pos-requires c κs = search needs
@@ -29,7 +29,7 @@ due-requires : tie.Need-due-requires
 due-requires c κs = search needs
 
 returns-3 : tie.Need-returns-3
-returns-3 c = neighbour-found (c .before .before .before .before .before .before .before .before .args .dim) (c .before .before .before .before .before .before .before .before .args .domain) (c .before .before .before .before .before .before .before .before .args .time) (c .before .before .before .before .before .before .before .before .args .cell .index) (c .before .before .before .before .before .before .before .before .args .i) (c .before .before .before .before .before .before .before .before .args .p) (c .before .before .before .before .before .before .before .new .result) (c .before .before .before .before .before .before .before .new .ensures) (c .before .before .before .before .before .before .shut .result) _ _ _ _ (c .before .before .before .before .before .before .shut .ensures) (c .before .before .before .before .before .if1 .left) (c .before .before .before .before .dt .ensures) (c .before .before .before .if2 .left) (c .before .before .get-new-pos .ensures) (c .before .aside .ensures) (c .due .ensures)
+returns-3 c = neighbour-found _ _ _ _ _ _ _ (c .before .before .before .before .before .before .before .new .ensures) _ _ _ _ _ (c .before .before .before .before .before .before .shut .ensures) (c .before .before .before .before .before .if1 .left) (c .before .before .before .before .dt .ensures) (c .before .before .before .if2 .left) (c .before .before .get-new-pos .ensures) (c .before .aside .ensures) (c .due .ensures)
 
 pub schedule-spec : {M : Type 1} → statement M
 schedule-spec =

@@ -11,13 +11,13 @@ no-wall-requires : tie.Need-no-wall-requires
 no-wall-requires c κs = search needs
 
 returns : tie.Need-returns
-returns c = wall-none (c .before .before .before .args .dim) (c .before .before .before .args .domain) (c .before .before .before .args .time) (c .before .before .before .args .cell .index) (c .before .before .before .args .i) (c .before .before .before .args .p) (c .before .before .new .result) (c .before .before .new .ensures) (c .before .no-wall .result) (c .before .no-wall .ensures) (c .if1 .taken)
+returns c = wall-none _ _ _ _ _ _ _ (c .before .before .new .ensures) _ (c .before .no-wall .ensures) (c .if1 .taken)
 
 gap-requires : tie.Need-gap-requires
 gap-requires c κs = search needs
 
 returns-2 : tie.Need-returns-2
-returns-2 c = wall-early (c .before .before .before .before .before .before .args .dim) (c .before .before .before .before .before .before .args .domain) (c .before .before .before .before .before .before .args .time) (c .before .before .before .before .before .before .args .cell .index) (c .before .before .before .before .before .before .args .i) (c .before .before .before .before .before .before .args .p) (c .before .before .before .before .before .new .result) (c .before .before .before .before .before .new .ensures) (c .before .before .before .before .no-wall .result) _ (c .before .before .before .before .no-wall .ensures) (c .before .before .before .if1 .left) (c .before .before .gap .ensures) (c .if2 .taken)
+returns-2 c = wall-early _ _ _ _ _ _ _ (c .before .before .before .before .before .new .ensures) _ _ (c .before .before .before .before .no-wall .ensures) (c .before .before .before .if1 .left) (c .before .before .gap .ensures) (c .if2 .taken)
 
 get-new-pos-requires : tie.Need-get-new-pos-requires
 get-new-pos-requires c κs = search needs
@@ -32,7 +32,7 @@ due-requires : tie.Need-due-requires
 due-requires c κs = search needs
 
 returns-3 : tie.Need-returns-3
-returns-3 c = wall-found (c .before .before .before .before .before .before .before .before .before .before .before .args .dim) (c .before .before .before .before .before .before .before .before .before .before .before .args .domain) (c .before .before .before .before .before .before .before .before .before .before .before .args .time) (c .before .before .before .before .before .before .before .before .before .before .before .args .cell .index) (c .before .before .before .before .before .before .before .before .before .before .before .args .i) (c .before .before .before .before .before .before .before .before .before .before .before .args .p) (c .before .before .before .before .before .before .before .before .before .before .new .result) (c .before .before .before .before .before .before .before .before .before .before .new .ensures) (c .before .before .before .before .before .before .before .before .before .no-wall .result) _ _ _ _ _ (c .before .before .before .before .before .before .before .before .before .no-wall .ensures) (c .before .before .before .before .before .before .before .before .if1 .left) (c .before .before .before .before .before .before .before .gap .ensures) (c .before .before .before .before .before .if2 .left) (c .before .before .before .before .get-new-pos .ensures) (c .before .before .bent .ensures) (c .before .new-val .ensures) (c .due .ensures)
+returns-3 c = wall-found _ _ _ _ _ _ _ (c .before .before .before .before .before .before .before .before .before .before .new .ensures) _ _ _ _ _ _ (c .before .before .before .before .before .before .before .before .before .no-wall .ensures) (c .before .before .before .before .before .before .before .before .if1 .left) (c .before .before .before .before .before .before .before .gap .ensures) (c .before .before .before .before .before .if2 .left) (c .before .before .before .before .get-new-pos .ensures) (c .before .before .bent .ensures) (c .before .new-val .ensures) (c .due .ensures)
 
 pub schedule-spec : {M : Type 1} → statement M
 schedule-spec =
