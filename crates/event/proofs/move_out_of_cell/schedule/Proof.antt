@@ -1,4 +1,4 @@
--- The three ways of a move out of a cell: shut, too late, or due. Assumes nothing.
+-- The three ways of a move out of a cell: shut, not ahead, or due. Assumes nothing.
 use borrow.Author.Needs.{needs}
 use Rattle.event.proofs.Moves.{out-none, out-early, out-found}
 use Rattle.event.proofs.move_out_of_cell.schedule.Statement.{statement}

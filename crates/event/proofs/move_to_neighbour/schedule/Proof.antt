@@ -1,4 +1,4 @@
--- The three ways of a move to a neighbour: shut, too late, or due. Assumes nothing.
+-- The three ways of a move to a neighbour: shut, not ahead, or due. Assumes nothing.
 use borrow.Author.Needs.{needs}
 use Rattle.event.proofs.Moves.{neighbour-none, neighbour-early, neighbour-found}
 use Rattle.event.proofs.move_to_neighbour.schedule.Statement.{statement}

@@ -1,4 +1,4 @@
--- The three ways of a reflection: no wall, too late, or due. Assumes nothing.
+-- The three ways of a reflection: no wall, not ahead, or due. Assumes nothing.
 use borrow.Author.Needs.{needs}
 use Rattle.event.proofs.Moves.{wall-none, wall-early, wall-found}
 use Rattle.event.proofs.wall_reflection.schedule.Statement.{statement}
