@@ -1,1 +1,6 @@
+pub mod HexDigits
+pub mod DecimalDigits
 pub mod Turns
+pub mod Fields
+pub mod Rows
+pub mod Forward

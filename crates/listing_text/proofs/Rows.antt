@@ -1,0 +1,58 @@
+-- The rows of five numbers that the reader keeps: one more grain's, while there is room. Assumes nothing.
+use mathlib.Core.Path.{_≡_, refl, sym, ap, _∙_}
+use mathlib.Core.List.{List, [], _∷_, _++_}
+use Prim.Native.Nat.{ℕ, zero, suc, _+_, _-_, _*_, _≤_, _<_}
+use native.Mathlib.Nat.{le-of-suc-le-suc, suc-mul, add-zero}
+use native.Mathlib.Omega.{arith}
+use lib.ListN.{length, set, replicate}
+use Rattle.listing_text.specs.Grammar.{Grain}
+use Rattle.listing_text.specs.Reading.{fiveOf, noGrain, lastOf, rowsOf}
+
+-- five numbers laid over a list from i on
+abbrev pub laidFive : List ℕ → ℕ → Grain → List ℕ
+laidFive l i g = set (set (set (set (set l i (g .x)) (i + 1) (g .y)) (i + 2) (g .vx)) (i + 3) (g .vy)) (i + 4) (g .val)
+
+-- past a row of five
+past-five : (a b c d e : ℕ) (l : List ℕ) (i : ℕ) (g : Grain) → laidFive (a ∷ b ∷ c ∷ d ∷ e ∷ l) (suc (suc (suc (suc (suc i))))) g ≡ a ∷ b ∷ c ∷ d ∷ e ∷ laidFive l i g
+past-five a b c d e l i g =
+    let p : (n : ℕ) → suc (suc (suc (suc (suc i)))) + n ≡ suc (suc (suc (suc (suc (i + n))))) = λ (n : ℕ). omega arith in
+    simp (p 1, p 2, p 3, p 4)
+
+past-row : (h : Grain) (l : List ℕ) (n : ℕ) (g : Grain) → laidFive (fiveOf h ++ l) (suc n * 5) g ≡ fiveOf h ++ laidFive l (n * 5) g
+past-row h l n g =
+    let e : suc n * 5 ≡ suc (suc (suc (suc (suc (n * 5))))) = omega arith in
+    ap (λ (i : ℕ). laidFive (fiveOf h ++ l) i g) e ∙ past-five (h .x) (h .y) (h .vx) (h .vy) (h .val) l (n * 5) g
+
+pub rows-more : (k : ℕ) (done : List Grain) (g : Grain) → length done < k → laidFive (rowsOf k done) (length done * 5) g ≡ rowsOf k (done ++ (g ∷ []))
+rows-more zero done g h = absurd (omega arith)
+rows-more (suc k) [] g h = refl
+rows-more (suc k) (d ∷ done) g h = past-row d (rowsOf k done) (length done) g ∙ ap (λ (l : List ℕ). fiveOf d ++ l) (rows-more k done g (le-of-suc-le-suc h))
+
+pub rows-full : (k : ℕ) (done : List Grain) (g : Grain) → k ≤ length done → rowsOf k done ≡ rowsOf k (done ++ (g ∷ []))
+rows-full zero done g h = refl
+rows-full (suc k) [] g h = absurd (omega arith)
+rows-full (suc k) (d ∷ done) g h = ap (λ (l : List ℕ). fiveOf d ++ l) (rows-full k done g (le-of-suc-le-suc h))
+
+pub last-one : (done : List Grain) (f g : Grain) → lastOf f (done ++ (g ∷ [])) ≡ g
+last-one [] f g = refl
+last-one (d ∷ done) f g = last-one done d g
+
+-- the numbers of all grains, one after the other
+abbrev pub flat : List Grain → List ℕ
+flat [] = []
+flat (g ∷ gs) = fiveOf g ++ flat gs
+
+rows-none : (k : ℕ) → rowsOf k [] ≡ replicate (k * 5) 0
+rows-none zero = refl
+rows-none (suc k) =
+    let e : suc k * 5 ≡ suc (suc (suc (suc (suc (k * 5))))) = omega arith in
+    ap (λ (l : List ℕ). fiveOf noGrain ++ l) (rows-none k) ∙ ap (λ (n : ℕ). replicate n 0) (sym e)
+
+-- where there is room for all of them, the rows are the grains' numbers, and zeros beyond
+pub rows-flat : (k : ℕ) (gs : List Grain) → length gs ≤ k → rowsOf k gs ≡ flat gs ++ replicate ((k - length gs) * 5) 0
+rows-flat zero [] h = refl
+rows-flat zero (g ∷ gs) h = absurd (omega arith)
+rows-flat (suc k) [] h = let e : suc k - 0 ≡ suc k = omega arith in rows-none (suc k) ∙ ap (λ (n : ℕ). replicate (n * 5) 0) (sym e)
+rows-flat (suc k) (g ∷ gs) h =
+    let e : suc k - suc (length gs) ≡ k - length gs = omega arith in
+    ap (λ (l : List ℕ). fiveOf g ++ l) (rows-flat k gs (le-of-suc-le-suc h)) ∙ ap (λ (n : ℕ). fiveOf g ++ (flat gs ++ replicate (n * 5) 0)) (sym e)
