@@ -75,7 +75,7 @@ abbrev boxNumbers : Input → Grain → List ℕ
 boxNumbers i g = i .l0 ∷ i .l1 ∷ bitOf (i .p0) ∷ bitOf (i .p1) ∷ i .rate ∷ fiveOf g
 
 -- a line of six fields, and what follows
-six-fields : (a b c d e f s : List ℕ) → line (a ∷ b ∷ c ∷ d ∷ e ∷ f ∷ []) ++ s ≡ a ++ (44 ∷ (b ++ (44 ∷ (c ++ (44 ∷ (d ++ (44 ∷ (e ++ (44 ∷ (f ++ (13 ∷ 10 ∷ s)))))))))))
+pub six-fields : (a b c d e f s : List ℕ) → line (a ∷ b ∷ c ∷ d ∷ e ∷ f ∷ []) ++ s ≡ a ++ (44 ∷ (b ++ (44 ∷ (c ++ (44 ∷ (d ++ (44 ∷ (e ++ (44 ∷ (f ++ (13 ∷ 10 ∷ s)))))))))))
 six-fields a b c d e f s = simp append-assoc
 
 box-fed : (i : Input) (s : List ℕ) → Words i → Word (length (i .grains))
@@ -109,7 +109,7 @@ box-fed i s w k =
 abbrev heldAt : Input → List Grain → Reader
 heldAt i done = record { at = 93; n = length (i .grains); seen = length done; numbers = boxNumbers i (lastOf noGrain done); grains = rowsOf 32 done }
 
-five-fields : (a b c d e s : List ℕ) → line (a ∷ b ∷ c ∷ d ∷ e ∷ []) ++ s ≡ a ++ (44 ∷ (b ++ (44 ∷ (c ++ (44 ∷ (d ++ (44 ∷ (e ++ (13 ∷ 10 ∷ s)))))))))
+pub five-fields : (a b c d e s : List ℕ) → line (a ∷ b ∷ c ∷ d ∷ e ∷ []) ++ s ≡ a ++ (44 ∷ (b ++ (44 ∷ (c ++ (44 ∷ (d ++ (44 ∷ (e ++ (13 ∷ 10 ∷ s)))))))))
 five-fields a b c d e s = simp append-assoc
 
 lf-turn : (r : Reader) (n : ℕ) (g : List ℕ) → feedOf (put r 178 n g) 10 ≡ steppedOf (put r 178 n g)

@@ -4,3 +4,4 @@ pub mod Turns
 pub mod Fields
 pub mod Rows
 pub mod Forward
+pub mod Backward
