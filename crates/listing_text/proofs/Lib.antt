@@ -5,3 +5,4 @@ pub mod Fields
 pub mod Rows
 pub mod Forward
 pub mod Backward
+pub mod Single
