@@ -51,11 +51,11 @@ enough (suc k) (suc m) v h l = go (ltb v 10) refl (enough k m (v / 10))
     go true e again = let s = ltb-true v 10 e in decimals-one k v s ∙ sym (decimals-one m v s)
     go false e again = let s = ltb-false v 10 e in decimals-more k v s ∙ ap (λ (l : List ℕ). l ++ ((48 + v % 10) ∷ [])) (again (omega arith) (omega arith)) ∙ sym (decimals-more m v s)
 
-decimal-one : (v : ℕ) → v < 10 → decimal v ≡ (48 + v) ∷ []
+pub decimal-one : (v : ℕ) → v < 10 → decimal v ≡ (48 + v) ∷ []
 unfolding decimal
 decimal-one v h = decimals-one v v h
 
-decimal-more : (v d : ℕ) → 0 < v → d < 10 → decimal (v * 10 + d) ≡ decimal v ++ ((48 + d) ∷ [])
+pub decimal-more : (v d : ℕ) → 0 < v → d < 10 → decimal (v * 10 + d) ≡ decimal v ++ ((48 + d) ∷ [])
 unfolding decimal
 decimal-more v d h l =
     let q : (v * 10 + d) / 10 ≡ v = omega arith in

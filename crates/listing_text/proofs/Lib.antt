@@ -6,3 +6,4 @@ pub mod Rows
 pub mod Forward
 pub mod Backward
 pub mod Single
+pub mod Putting

@@ -2,3 +2,4 @@ pub mod Bytes
 pub mod Numerals
 pub mod Grammar
 pub mod Reading
+pub mod Answers
