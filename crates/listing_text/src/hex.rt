@@ -1,7 +1,7 @@
-// Upper-case hexadecimal digits, and the float of a bit pattern.
+// Upper-case hexadecimal digits, and floats by their bits.
 ghost use mathlib.Core.Path.{_≡_};
 ghost use Prim.Native.Nat.{_<_};
-ghost use lib.Ieee.{binary64, ofBits};
+ghost use lib.Ieee.{binary64, ofBits, toBits};
 ghost use Rattle.listing_text.specs.Numerals.{glyph, hexVal};
 
 // The value of a digit, 16 for any other byte.
@@ -39,4 +39,14 @@ pub fn float_of_bits(b: u64) -> f64
         return f64::from_bits(b);
     }
     0.0 / 0.0
+}
+
+// A float's bit pattern; one of a NaN's for any NaN.
+pub fn bits_of_float(x: f64) -> u64
+    ensures { λ r. ⌜ r ≡ toBits binary64 x ⌝ }
+{
+    if x != x {
+        return 9221120237041090560;
+    }
+    f64::to_bits(x)
 }
