@@ -8,3 +8,4 @@ pub mod Forward
 pub mod Backward
 pub mod Single
 pub mod Putting
+pub mod Examples

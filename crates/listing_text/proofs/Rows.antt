@@ -4,9 +4,10 @@ use mathlib.Core.List.{List, [], _∷_, _++_}
 use Prim.Native.Nat.{ℕ, zero, suc, _+_, _-_, _*_, _≤_, _<_}
 use native.Mathlib.Nat.{le-of-suc-le-suc, suc-mul, add-zero}
 use native.Mathlib.Omega.{arith}
-use lib.ListN.{length, set, replicate}
+use lib.ListN.{length, getD, set, replicate}
 use Rattle.listing_text.specs.Grammar.{Grain}
 use Rattle.listing_text.specs.Reading.{fiveOf, noGrain, lastOf, rowsOf}
+use Rattle.listing_text.specs.Answers.{grainAt, grainsFrom}
 
 -- five numbers laid over a list from i on
 abbrev pub laidFive : List ℕ → ℕ → Grain → List ℕ
@@ -56,3 +57,25 @@ rows-flat (suc k) [] h = let e : suc k - 0 ≡ suc k = omega arith in rows-none 
 rows-flat (suc k) (g ∷ gs) h =
     let e : suc k - suc (length gs) ≡ k - length gs = omega arith in
     ap (λ (l : List ℕ). fiveOf g ++ l) (rows-flat k gs (le-of-suc-le-suc h)) ∙ ap (λ (n : ℕ). fiveOf g ++ (flat gs ++ replicate (n * 5) 0)) (sym e)
+
+-- ---- the rows read again as grains
+row-at : (h : Grain) (l : List ℕ) (i j : ℕ) → getD (fiveOf h ++ l) (suc i * 5 + j) 0 ≡ getD l (i * 5 + j) 0
+row-at h l i j =
+    let e : suc i * 5 + j ≡ suc (suc (suc (suc (suc (i * 5 + j))))) = omega arith in
+    ap (λ (k : ℕ). getD (fiveOf h ++ l) k 0) e
+
+grain-at : (h : Grain) (l : List ℕ) (i : ℕ) → grainAt (fiveOf h ++ l) (suc i) ≡ grainAt l i
+grain-at h l i =
+    let e : suc i * 5 ≡ suc i * 5 + 0 = omega arith in
+    let f : i * 5 + 0 ≡ i * 5 = omega arith in
+    λ k. record { x = (ap (λ (z : ℕ). getD (fiveOf h ++ l) z 0) e ∙ row-at h l i 0 ∙ ap (λ (z : ℕ). getD l z 0) f) k; y = row-at h l i 1 k; vx = row-at h l i 2 k; vy = row-at h l i 3 k; val = row-at h l i 4 k }
+
+grains-past : (k i : ℕ) (h : Grain) (l : List ℕ) → grainsFrom (fiveOf h ++ l) (suc i) k ≡ grainsFrom l i k
+grains-past zero i h l = refl
+grains-past (suc k) i h l = λ t. grain-at h l i t ∷ grains-past k (suc i) h l t
+
+-- where there is room for all of them, the rows are the grains again
+pub rows-back : (k : ℕ) (gs : List Grain) → length gs ≤ k → grainsFrom (rowsOf k gs) 0 (length gs) ≡ gs
+rows-back k [] h = refl
+rows-back zero (g ∷ gs) h = absurd (omega arith)
+rows-back (suc k) (g ∷ gs) h = ap (λ (l : List Grain). g ∷ l) (grains-past (length gs) 0 g (rowsOf k gs) ∙ rows-back k gs (le-of-suc-le-suc h))
