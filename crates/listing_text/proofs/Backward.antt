@@ -1,26 +1,26 @@
 -- What the reader accepts is a text of the form, of the numbers that were read (`accepted-text`). Assumes nothing.
 use mathlib.Core.Path.{_≡_, refl, sym, ap, _∙_, subst}
-use mathlib.Core.Logic.{_⊎_, inl, inr}
-use mathlib.Core.List.{List, [], _∷_, _++_, append-assoc, append-nil}
+use mathlib.Core.Logic.{inl, inr}
+use mathlib.Core.List.{List, [], _∷_, _++_}
 use mathlib.Core.Bool.{Bool, true, false, _&&_, cond}
 use Prim.Native.Nat.{ℕ, zero, suc, _+_, _-_, _*_, _/_, _%_, _^_, _≤_, _<_}
 use native.Mathlib.Nat.{div-div-eq-div-mul, div-one, add-suc, add-zero, suc-add, pow-suc, le-of-eq, zero-add}
 use native.Mathlib.Numerals.{add-one}
 use native.Mathlib.Omega.{arith}
-use borrow.Author.Tests.{lt-ltb, le-ltb, le-leb, lt-leb, eq-eqb, ne-eqb, ltb-true, ltb-false, leb-true, leb-false, eqb-true, eqb-false}
-use lib.Dec.{T, ltb, leb, eqb, eqb→eq, lit<, lit≤}
+use lib.Dec.{T, ltb, eqb, eqb→eq, lit<, lit≤}
 use lib.Ieee.Fits.{and-l, and-r}
 use lib.ListN.{length, getD, set, replicate, length-set}
+use borrow.Author.Tests.{ne-eqb, ltb-true, ltb-false, eqb-true, eqb-false}
 use Rattle.listing_text.specs.declared.reader.Reader.{Reader}
 use Rattle.listing_text.specs.Bytes.{bytes}
 use Rattle.listing_text.specs.Numerals.{glyph, hexVal, spell, hex, decimal}
-use Rattle.listing_text.specs.Grammar.{Grain, Input, Word, GrainWords, AllWords, Words, line, flag, boxLine, grainLine, grainLines, textOf, Text}
-use Rattle.listing_text.specs.Reading.{plan, planOf, startOf, put, stuckOf, steppedOf, shifted, numberedOf, hexedOf, flaggedOf, matchedOf, countedOf, firstOf, moreOf, wantedOf, feedOf, feedAll, closedOf, fineOf, fiveOf, noGrain, lastOf, rowsOf, bitOf, readOf, nextOf, keptOf}
+use Rattle.listing_text.specs.Grammar.{Grain, Input, Word, GrainWords, AllWords, Words, line, flag, grainLine, grainLines, textOf, Text}
+use Rattle.listing_text.specs.Reading.{plan, planOf, startOf, put, stuckOf, steppedOf, shifted, numberedOf, hexedOf, flaggedOf, matchedOf, countedOf, firstOf, moreOf, wantedOf, feedOf, feedAll, closedOf, fineOf, bitOf, readOf, nextOf, keptOf}
 use Rattle.listing_text.proofs.HexDigits.{glyph-val, digit-of, rest-of}
-use Rattle.listing_text.proofs.DecimalDigits.{valueFrom, Digits, shown, Numeral, shown-is}
+use Rattle.listing_text.proofs.DecimalDigits.{valueFrom, Digits, shown, shown-is}
 use Rattle.listing_text.proofs.Turns.{feed-parts, hexed-bad}
-use Rattle.listing_text.proofs.Fields.{Open, OpenTo, open-feed, step-in, hex-turn, hex-fed, run, run-now, run-next, hex-field, flag-turn, first-turn, more-turn, cr-fed}
-use Rattle.listing_text.proofs.Forward.{Runs, runs, full-stuck, stuck-stays, stepped-kept, stepped-full, five-fields, six-fields, text-accepted}
+use Rattle.listing_text.proofs.Fields.{Open, OpenTo, open-feed, step-in, hex-turn, hex-fed, run, run-now, run-next, hex-field, flag-turn, first-turn, more-turn}
+use Rattle.listing_text.proofs.Forward.{runs, full-stuck, stuck-stays, stepped-kept, stepped-full, five-fields, six-fields, text-accepted}
 
 -- the rest s of a text, read on from r, is accepted
 abbrev Ends : Reader → List ℕ → Type 0

@@ -6,7 +6,7 @@ use Prim.Native.Nat.{ℕ}
 use Rattle.listing_text.specs.declared.writer.Answer.the-variants.{Refused}
 use Rattle.listing_text.specs.Bytes.{bytes}
 use Rattle.listing_text.specs.Numerals.{decimal}
-use Rattle.listing_text.specs.Grammar.{Grain, Input, textOf}
+use Rattle.listing_text.specs.Grammar.{Grain, textOf}
 use Rattle.listing_text.specs.Reading.{plan, startOf, steppedOf, hexedOf, flaggedOf, matchedOf, countedOf, firstOf, moreOf, wantedOf, feedOf, feedAll, closedOf, fineOf}
 use Rattle.listing_text.specs.Answers.{listingOf, answerOf}
 

@@ -7,18 +7,17 @@ use Prim.Native.Nat.{ℕ, zero, suc, _+_, _-_, _*_, _/_, _%_, _^_, _≤_, _<_}
 use native.Mathlib.Nat.{div-div-eq-div-mul, div-one, mod-lt, mod-eq-of-lt, div-add-mod', add-suc, add-zero, suc-add, pow-suc}
 use native.Mathlib.Numerals.{add-one}
 use native.Mathlib.Omega.{arith}
-use borrow.Author.Tests.{lt-ltb, le-ltb, lt-leb, ne-eqb}
-use lib.Dec.{T, ltb, leb, eqb, eqb→eq, lit<}
+use lib.Dec.{T, leb, eqb, eqb→eq, lit<}
 use lib.Ieee.Fits.{and-l, and-r}
 use lib.ListN.{length, getD, set, length-set}
 use lib.Seq.{getD-set-same, set-getD}
+use borrow.Author.Tests.{lt-ltb, le-ltb, lt-leb, ne-eqb}
 use Rattle.listing_text.specs.declared.reader.Reader.{Reader}
-use Rattle.listing_text.specs.Bytes.{bytes}
 use Rattle.listing_text.specs.Numerals.{glyph, hexVal, spell, hex, decimal}
 use Rattle.listing_text.specs.Grammar.{Word, flag}
-use Rattle.listing_text.specs.Reading.{plan, planOf, put, stuckOf, steppedOf, shifted, numberedOf, hexedOf, flaggedOf, matchedOf, countedOf, firstOf, moreOf, wantedOf, feedOf, feedAll, bitOf}
+use Rattle.listing_text.specs.Reading.{plan, planOf, put, stuckOf, steppedOf, shifted, numberedOf, hexedOf, flaggedOf, countedOf, firstOf, moreOf, wantedOf, feedOf, feedAll, bitOf}
 use Rattle.listing_text.proofs.HexDigits.{val-glyph, shifted-mod, shifted-lt}
-use Rattle.listing_text.proofs.DecimalDigits.{valueFrom, Digits, shown, Numeral, grows, shown-is, digits-of}
+use Rattle.listing_text.proofs.DecimalDigits.{valueFrom, Digits, shown, grows, shown-is, digits-of}
 use Rattle.listing_text.proofs.Turns.{hexed-good}
 
 -- a place where a byte is looked at: before the lines of grains, or in one that is wanted

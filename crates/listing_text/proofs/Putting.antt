@@ -3,14 +3,14 @@ use mathlib.Core.Path.{_≡_, refl, sym, ap, _∙_, subst}
 use mathlib.Core.List.{List, [], _∷_, _++_, append-assoc}
 use mathlib.Core.Bool.{Bool, true, false}
 use Prim.Native.Nat.{ℕ, zero, suc, _+_, _-_, _*_, _/_, _%_, _^_, _≤_, _<_}
-use native.Mathlib.Nat.{add-zero, add-assoc, suc-mul, pow-suc}
+use native.Mathlib.Nat.{add-zero, suc-mul, pow-suc}
 use native.Mathlib.Numerals.{add-one}
 use native.Mathlib.Omega.{arith}
-use borrow.Author.Tests.{le-ltb, ltb-true, ltb-false}
 use lib.Dec.{ltb}
 use lib.Pow.{pow-add}
-use lib.ListN.{length, getD, take, drop, set, length-append, length-set, length-drop, take-append-drop, drop-of-length-le}
+use lib.ListN.{length, getD, take, drop, set, length-append, length-drop, take-append-drop, drop-of-length-le}
 use lib.Seq.{take-at, drop-at, drop-drop, drop-cons, length-take-le, set-split}
+use borrow.Author.Tests.{le-ltb, ltb-true, ltb-false}
 use Rattle.listing_text.specs.Numerals.{glyph, spell, hex, decimal}
 use Rattle.listing_text.specs.Grammar.{Grain, grainLine}
 use Rattle.listing_text.specs.Answers.{Put, laid, listingLine, listingLines, listingOf, grainAt, grainsFrom, listed}

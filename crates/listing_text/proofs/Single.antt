@@ -4,16 +4,16 @@ use mathlib.Core.Path.{_≡_, refl, sym, ap, _∙_, subst}
 use mathlib.Core.Logic.{_⊎_, inl, inr}
 use mathlib.Core.List.{List, [], _∷_, _++_, append-assoc, append-nil, append-cancel-right}
 use mathlib.Core.Bool.{Bool, true, false, cond}
-use Prim.Native.Nat.{ℕ, zero, suc, _+_, _-_, _*_, _/_, _%_, _^_, _≤_, _<_}
+use Prim.Native.Nat.{ℕ, _+_, _/_, _%_, _^_, _≤_, _<_}
 use native.Mathlib.Omega.{arith}
-use lib.Dec.{T, ltb, lit<, lit≤}
+use lib.Dec.{ltb, lit<, lit≤}
 use lib.ListN.{length, getD, take, drop, replicate}
 use Rattle.listing_text.specs.declared.reader.Reader.{Reader}
 use Rattle.listing_text.specs.Bytes.{bytes}
 use Rattle.listing_text.specs.Numerals.{glyph, hex, decimal}
-use Rattle.listing_text.specs.Grammar.{Grain, Input, Word, GrainWords, AllWords, Words, line, flag, boxLine, grainLine, grainLines, textOf, Text}
+use Rattle.listing_text.specs.Grammar.{Grain, Input, Word, GrainWords, AllWords, Words, flag, boxLine, grainLine, grainLines, textOf, Text}
 use Rattle.listing_text.specs.Reading.{startOf, put, feedAll, closedOf, fineOf}
-use Rattle.listing_text.proofs.DecimalDigits.{Digits, shown, Numeral, shown-is, digits-of}
+use Rattle.listing_text.proofs.DecimalDigits.{shown, shown-is, digits-of}
 use Rattle.listing_text.proofs.Fields.{hex-field}
 use Rattle.listing_text.proofs.Forward.{runs, six-fields}
 use Rattle.listing_text.proofs.Backward.{accepted-text}

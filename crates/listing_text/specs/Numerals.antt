@@ -1,7 +1,7 @@
 -- Numbers as text: sixteen upper-case hexadecimal digits, or decimal digits without leading zeros. Assumes nothing.
 use mathlib.Core.List.{List, [], _∷_, _++_}
-use mathlib.Core.Bool.{Bool, true, false, cond}
-use Prim.Native.Nat.{ℕ, zero, suc, _+_, _-_, _*_, _/_, _%_, _^_}
+use mathlib.Core.Bool.{true, false, cond}
+use Prim.Native.Nat.{ℕ, zero, suc, _+_, _-_, _/_, _%_, _^_}
 use lib.Dec.{ltb}
 
 -- a digit's byte: `0` to `9`, `A` to `F`

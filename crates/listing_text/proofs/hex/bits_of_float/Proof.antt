@@ -1,3 +1,4 @@
+-- `bits_of_float` meets its contract. Assumes nothing.
 use borrow.Author.Needs.{needs}
 use Rattle.listing_text.proofs.Floats.{unlike-itself, like-itself}
 use Rattle.listing_text.proofs.hex.bits_of_float.Statement.{statement}

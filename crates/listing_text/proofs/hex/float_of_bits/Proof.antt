@@ -1,3 +1,4 @@
+-- `float_of_bits` meets its contract. Assumes nothing.
 use mathlib.Core.Path.{sym}
 use lib.Ieee.{ofBits, div}
 use borrow.Author.Needs.{needs}

@@ -1,10 +1,8 @@
+-- `hex_glyph` meets its contract. Assumes nothing.
 use borrow.Author.Tests.{lt-ltb, le-ltb}
-use native.Mathlib.Omega.{arith}
 use borrow.Author.Needs.{needs}
 use Rattle.listing_text.proofs.hex.hex_glyph.Statement.{statement}
 use Rattle.listing_text.proofs.hex.hex_glyph.Tie as tie
-use Rattle.listing_text.proofs.hex.hex_glyph.Reads as reads
-use Rattle.listing_text.proofs.hex.hex_glyph.Lts as lts
 
 cast-result : tie.Need-cast-result
 cast-result c = search needs

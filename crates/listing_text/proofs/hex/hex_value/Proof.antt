@@ -1,10 +1,8 @@
+-- `hex_value` meets its contract. Assumes nothing.
 use borrow.Author.Tests.{lt-ltb, le-ltb}
-use native.Mathlib.Omega.{arith}
 use borrow.Author.Needs.{needs}
 use Rattle.listing_text.proofs.hex.hex_value.Statement.{statement}
 use Rattle.listing_text.proofs.hex.hex_value.Tie as tie
-use Rattle.listing_text.proofs.hex.hex_value.Reads as reads
-use Rattle.listing_text.proofs.hex.hex_value.Lts as lts
 
 returns : tie.Need-returns
 returns c = simp (lt-ltb _ _ (c .if1 .taken))

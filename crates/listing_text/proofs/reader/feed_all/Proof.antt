@@ -1,15 +1,12 @@
-use Rattle.listing_text.proofs.Turns.{fed, fed-all}
-use mathlib.Core.Path.{_≡_, sym, ap, _∙_, refl}
+-- `feed_all` meets its contract. The invariant: what is left of the text, fed on, is the whole text fed. Assumes nothing.
+use mathlib.Core.Path.{_≡_}
 use Prim.Native.Nat.{_≤_, _-_}
 use lib.ListN.{length, drop}
-use Rattle.listing_text.specs.Reading.{feedAll}
-use native.Mathlib.Omega.{arith}
 use borrow.Author.Needs.{needs}
+use Rattle.listing_text.specs.Reading.{feedAll}
+use Rattle.listing_text.proofs.Turns.{fed, fed-all}
 use Rattle.listing_text.proofs.reader.feed_all.Statement.{statement}
 use Rattle.listing_text.proofs.reader.feed_all.Tie as tie
-use Rattle.listing_text.proofs.reader.feed_all.Reads as reads
-use Rattle.listing_text.proofs.reader.feed_all.Lts as lts
-use Rattle.listing_text.proofs.reader.Reader.feed.Reads as feed-reads
 
 abbrev Inv-loop : tie.InvT-loop
 Inv-loop s state₀ i₀ state i = (i ≤ length s) × (feedAll state (drop i s) ≡ feedAll state₀ s)

@@ -1,16 +1,12 @@
-use Rattle.listing_text.specs.Reading.{plan}
-use native.Mathlib.Omega.{arith}
+-- `plan_at` meets its contract. Assumes nothing.
 use borrow.Author.Needs.{needs}
+use Rattle.listing_text.specs.Reading.{plan}
 use Rattle.listing_text.proofs.reader.plan_at.Statement.{statement}
 use Rattle.listing_text.proofs.reader.plan_at.Tie as tie
-use Rattle.listing_text.proofs.reader.plan_at.Reads as reads
-use Rattle.listing_text.proofs.reader.plan_at.Lts as lts
 
--- src/reader.rt:24:5
 element-copy-out-result : tie.Need-element-copy-out-result
 element-copy-out-result c = search needs
 
--- src/reader.rt:19:1
 returns : tie.Need-returns
 unfolding plan
 returns c = search needs

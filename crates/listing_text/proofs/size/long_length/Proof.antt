@@ -1,3 +1,4 @@
+-- `long_length` meets its contract. Assumes nothing.
 use Rattle.listing_text.proofs.size.long_length.Statement.{statement}
 use Rattle.listing_text.proofs.size.long_length.Tie as tie
 

@@ -1,72 +1,53 @@
-use Rattle.listing_text.proofs.Putting.{put-as}
-use Rattle.listing_text.specs.Answers.{answerOf}
+-- `put_answer` meets its contract. Assumes nothing.
 use mathlib.Core.Path.{sym, ap}
-use native.Mathlib.Omega.{arith}
 use borrow.Author.Needs.{needs}
+use Rattle.listing_text.specs.Answers.{answerOf}
+use Rattle.listing_text.proofs.Putting.{put-as}
 use Rattle.listing_text.proofs.writer.put_answer.Statement.{statement}
 use Rattle.listing_text.proofs.writer.put_answer.Tie as tie
-use Rattle.listing_text.proofs.writer.put_answer.Reads as reads
-use Rattle.listing_text.proofs.writer.put_answer.Lts as lts
-use Rattle.listing_text.proofs.writer.put_bytes.Reads as put-bytes-reads
-use Rattle.listing_text.proofs.writer.put_refused.Reads as put-refused-reads
 
--- src/writer.rt:134:40
 enum-told : tie.Need-enum-told
 enum-told c = search needs
 
--- src/writer.rt:134:48
 slice-aggregate-put-bytes : tie.Need-slice-aggregate-put-bytes
 slice-aggregate-put-bytes c = search needs
 
--- src/writer.rt:134:30
 put-bytes-requires : tie.Need-put-bytes-requires
 put-bytes-requires c κs = search needs
 
--- src/writer.rt:135:39
 enum-told-2 : tie.Need-enum-told-2
 enum-told-2 c = search needs
 
--- src/writer.rt:135:47
 slice-aggregate-put-bytes-2 : tie.Need-slice-aggregate-put-bytes-2
 slice-aggregate-put-bytes-2 c = search needs
 
--- src/writer.rt:135:29
 put-bytes-requires-2 : tie.Need-put-bytes-requires-2
 put-bytes-requires-2 c κs = search needs
 
--- src/writer.rt:136:25
 enum-known-answer : tie.Need-enum-known-answer
 enum-known-answer c = search needs
 
--- src/writer.rt:136:36
 put-refused-requires : tie.Need-put-refused-requires
 put-refused-requires c κs = search needs
 
--- src/writer.rt:137:36
 enum-told-3 : tie.Need-enum-told-3
 enum-told-3 c = search needs
 
--- src/writer.rt:137:44
 slice-aggregate-put-bytes-3 : tie.Need-slice-aggregate-put-bytes-3
 slice-aggregate-put-bytes-3 c = search needs
 
--- src/writer.rt:137:26
 put-bytes-requires-3 : tie.Need-put-bytes-requires-3
 put-bytes-requires-3 c κs = search needs
 
--- src/writer.rt:130:1
 returns : tie.Need-returns
 returns c = put-as (sym (ap answerOf (c .before .before .before .enum-told .given .1))) (c .put-bytes .ensures)
 
--- src/writer.rt:130:1
 returns-2 : tie.Need-returns-2
 returns-2 c = put-as (sym (ap answerOf (c .before .before .before .enum-told2 .given .1))) (c .put-bytes2 .ensures)
 
--- src/writer.rt:130:1
 returns-3 : tie.Need-returns-3
 returns-3 c = put-as (sym (ap answerOf (c .before .before .before .answer .given .1))) (c .put-refused .ensures)
 
--- src/writer.rt:130:1
 returns-4 : tie.Need-returns-4
 returns-4 c = put-as (sym (ap answerOf (c .before .before .before .enum-told3 .given .1))) (c .put-bytes3 .ensures)
 

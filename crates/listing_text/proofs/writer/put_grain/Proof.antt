@@ -1,106 +1,79 @@
+-- `put_grain` meets its contract. Assumes nothing.
 use lib.ListN.{length-set}
-use Rattle.listing_text.proofs.Putting.{put-length, put-then, put-one}
-use native.Mathlib.Omega.{arith}
 use borrow.Author.Needs.{needs}
+use Rattle.listing_text.proofs.Putting.{put-length, put-then, put-one}
 use Rattle.listing_text.proofs.writer.put_grain.Statement.{statement}
 use Rattle.listing_text.proofs.writer.put_grain.Tie as tie
-use Rattle.listing_text.proofs.writer.put_grain.Reads as reads
-use Rattle.listing_text.proofs.writer.put_grain.Lts as lts
-use Rattle.listing_text.proofs.writer.put_field.Reads as put-field-reads
 
--- src/writer.rt:73:13
 mul-j : tie.Need-mul-j
 mul-j c = search needs
 
--- src/writer.rt:74:32
 mul-put-field : tie.Need-mul-put-field
 mul-put-field c = search needs
 
--- src/writer.rt:74:32
 shared-slice-read-put-field : tie.Need-shared-slice-read-put-field
 shared-slice-read-put-field c = search needs
 
--- src/writer.rt:74:9
 put-field-requires : tie.Need-put-field-requires
 put-field-requires c κs = search needs
 
--- src/writer.rt:75:39
 add-put-field : tie.Need-add-put-field
 add-put-field c = search needs
 
--- src/writer.rt:75:31
 mul-put-field-2 : tie.Need-mul-put-field-2
 mul-put-field-2 c = search needs
 
--- src/writer.rt:75:31
 shared-slice-read-put-field-2 : tie.Need-shared-slice-read-put-field-2
 shared-slice-read-put-field-2 c = search needs
 
--- src/writer.rt:75:9
 put-field-requires-2 : tie.Need-put-field-requires-2
 put-field-requires-2 c κs = search needs
 
--- src/writer.rt:76:40
 add-put-field-2 : tie.Need-add-put-field-2
 add-put-field-2 c = search needs
 
--- src/writer.rt:76:32
 mul-put-field-3 : tie.Need-mul-put-field-3
 mul-put-field-3 c = search needs
 
--- src/writer.rt:76:32
 shared-slice-read-put-field-3 : tie.Need-shared-slice-read-put-field-3
 shared-slice-read-put-field-3 c = search needs
 
--- src/writer.rt:76:9
 put-field-requires-3 : tie.Need-put-field-requires-3
 put-field-requires-3 c κs = search needs
 
--- src/writer.rt:77:41
 add-put-field-3 : tie.Need-add-put-field-3
 add-put-field-3 c = search needs
 
--- src/writer.rt:77:33
 mul-put-field-4 : tie.Need-mul-put-field-4
 mul-put-field-4 c = search needs
 
--- src/writer.rt:77:33
 shared-slice-read-put-field-4 : tie.Need-shared-slice-read-put-field-4
 shared-slice-read-put-field-4 c = search needs
 
--- src/writer.rt:77:9
 put-field-requires-4 : tie.Need-put-field-requires-4
 put-field-requires-4 c κs = search needs
 
--- src/writer.rt:78:42
 add-put-field-4 : tie.Need-add-put-field-4
 add-put-field-4 c = search needs
 
--- src/writer.rt:78:34
 mul-put-field-5 : tie.Need-mul-put-field-5
 mul-put-field-5 c = search needs
 
--- src/writer.rt:78:34
 shared-slice-read-put-field-5 : tie.Need-shared-slice-read-put-field-5
 shared-slice-read-put-field-5 c = search needs
 
--- src/writer.rt:78:9
 put-field-requires-5 : tie.Need-put-field-requires-5
 put-field-requires-5 c κs = search needs
 
--- src/writer.rt:79:5
 slice-write-out : tie.Need-slice-write-out
 slice-write-out c = search needs
 
--- src/writer.rt:80:5
 add-result : tie.Need-add-result
 add-result c = search needs
 
--- src/writer.rt:69:1
 same-length : tie.Need-same-length
 same-length c = simp length-set (put-length (put-then (put-then (put-then (put-then (c .before .before .before .before .before .before .before .before .before .before .before .before .before .before .before .before .before .before .before .before .before .before .put-field .ensures) (c .before .before .before .before .before .before .before .before .before .before .before .before .before .before .before .before .before .put-field2 .ensures)) (c .before .before .before .before .before .before .before .before .before .before .before .before .put-field3 .ensures)) (c .before .before .before .before .before .before .before .put-field4 .ensures)) (c .before .before .put-field5 .ensures)))
 
--- src/writer.rt:69:1
 returns : tie.Need-returns
 returns c = put-then (put-then (put-then (put-then (put-then (c .before .before .before .before .before .before .before .before .before .before .before .before .before .before .before .before .before .before .before .before .before .before .put-field .ensures) (c .before .before .before .before .before .before .before .before .before .before .before .before .before .before .before .before .before .put-field2 .ensures)) (c .before .before .before .before .before .before .before .before .before .before .before .before .put-field3 .ensures)) (c .before .before .before .before .before .before .before .put-field4 .ensures)) (c .before .before .put-field5 .ensures)) (put-one (c .before .before .put-field5 .result) 10 (c .before .before .put-field5 .last .0) (search needs))
 

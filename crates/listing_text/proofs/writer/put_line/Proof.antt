@@ -1,42 +1,31 @@
-use lib.ListN.{length-set}
-use Rattle.listing_text.specs.Answers.{grainAt}
-use Rattle.listing_text.proofs.Putting.{put-length, decimal-three, line-put}
+-- `put_line` meets its contract. Assumes nothing.
 use mathlib.Core.Path.{_∙_}
 use native.Mathlib.Omega.{arith}
+use lib.ListN.{length-set}
 use borrow.Author.Needs.{needs}
+use Rattle.listing_text.specs.Answers.{grainAt}
+use Rattle.listing_text.proofs.Putting.{put-length, decimal-three, line-put}
 use Rattle.listing_text.proofs.writer.put_line.Statement.{statement}
 use Rattle.listing_text.proofs.writer.put_line.Tie as tie
-use Rattle.listing_text.proofs.writer.put_line.Reads as reads
-use Rattle.listing_text.proofs.writer.put_line.Lts as lts
-use Rattle.listing_text.proofs.writer.put_decimal.Reads as put-decimal-reads
-use Rattle.listing_text.proofs.writer.put_field.Reads as put-field-reads
-use Rattle.listing_text.proofs.writer.put_grain.Reads as put-grain-reads
 
--- src/writer.rt:88:9
 put-field-requires : tie.Need-put-field-requires
 put-field-requires c κs = search needs
 
--- src/writer.rt:89:9
 put-decimal-requires : tie.Need-put-decimal-requires
 put-decimal-requires c κs = omega (arith, put-length (c .before .before .before .put-field .ensures), c .before .before .before .put-field .ensures .place, decimal-three (c .before .before .before .before .before .before .before .args .i) (c .before .before .before .before .before .before .before .pre .2))
 
--- src/writer.rt:90:5
 slice-write-out : tie.Need-slice-write-out
 slice-write-out c = omega (arith, put-length (c .before .before .before .before .before .before .put-field .ensures), c .before .before .before .before .before .before .put-field .ensures .place, put-length (c .before .before .put-decimal .ensures), c .before .before .put-decimal .ensures .place, decimal-three (c .before .before .before .before .before .before .before .before .before .before .args .i) (c .before .before .before .before .before .before .before .before .before .before .pre .2))
 
--- src/writer.rt:91:20
 add-put-grain : tie.Need-add-put-grain
 add-put-grain c = search needs
 
--- src/writer.rt:91:5
 put-grain-requires : tie.Need-put-grain-requires
 put-grain-requires c κs = (simp length-set (omega (arith, put-length (c .before .before .before .before .before .before .before .put-field .ensures), c .before .before .before .before .before .before .before .put-field .ensures .place, put-length (c .before .before .before .put-decimal .ensures), c .before .before .before .put-decimal .ensures .place, decimal-three (c .before .before .before .before .before .before .before .before .before .before .before .args .i) (c .before .before .before .before .before .before .before .before .before .before .before .pre .2))), c .before .before .before .before .before .before .before .before .before .before .before .pre .1)
 
--- src/writer.rt:84:1
 same-length : tie.Need-same-length
 same-length c = put-length (c .before .before .put-grain .ensures) ∙ simp length-set (put-length (c .before .before .before .before .before .before .put-decimal .ensures) ∙ put-length (c .before .before .before .before .before .before .before .before .before .before .put-field .ensures))
 
--- src/writer.rt:84:1
 returns : tie.Need-returns
 returns c = line-put (c .before .before .before .before .before .before .before .before .before .before .before .before .before .before .args .time) (c .before .before .before .before .before .before .before .before .before .before .before .before .before .before .args .i) (grainAt (c .before .before .before .before .before .before .before .before .before .before .before .before .before .before .args .numbers .now) (c .before .before .before .before .before .before .before .before .before .before .before .before .before .before .args .i)) (c .before .before .before .before .before .before .before .before .before .before .put-field .ensures) (c .before .before .before .before .before .before .put-decimal .ensures) (omega (arith, put-length (c .before .before .before .before .before .before .before .before .before .before .put-field .ensures), c .before .before .before .before .before .before .before .before .before .before .put-field .ensures .place, put-length (c .before .before .before .before .before .before .put-decimal .ensures), c .before .before .before .before .before .before .put-decimal .ensures .place, decimal-three (c .before .before .before .before .before .before .before .before .before .before .before .before .before .before .args .i) (c .before .before .before .before .before .before .before .before .before .before .before .before .before .before .pre .2))) (c .before .before .put-grain .ensures)
 

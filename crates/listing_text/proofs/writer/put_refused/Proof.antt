@@ -1,39 +1,29 @@
-use Rattle.listing_text.proofs.Putting.{put-length, put-then, decimal-three}
+-- `put_refused` meets its contract. Assumes nothing.
 use mathlib.Core.Path.{_∙_}
 use native.Mathlib.Omega.{arith}
 use borrow.Author.Needs.{needs}
+use Rattle.listing_text.proofs.Putting.{put-length, put-then, decimal-three}
 use Rattle.listing_text.proofs.writer.put_refused.Statement.{statement}
 use Rattle.listing_text.proofs.writer.put_refused.Tie as tie
-use Rattle.listing_text.proofs.writer.put_refused.Reads as reads
-use Rattle.listing_text.proofs.writer.put_refused.Lts as lts
-use Rattle.listing_text.proofs.writer.put_bytes.Reads as put-bytes-reads
-use Rattle.listing_text.proofs.writer.put_decimal.Reads as put-decimal-reads
 
--- src/writer.rt:124:32
 slice-aggregate-put-bytes : tie.Need-slice-aggregate-put-bytes
 slice-aggregate-put-bytes c = search needs
 
--- src/writer.rt:124:9
 put-bytes-requires : tie.Need-put-bytes-requires
 put-bytes-requires c κs = search needs
 
--- src/writer.rt:125:9
 put-decimal-requires : tie.Need-put-decimal-requires
 put-decimal-requires c κs = omega (arith, put-length (c .before .before .before .put-bytes .ensures), c .before .before .before .put-bytes .ensures .place, decimal-three (c .before .before .before .before .before .before .before .args .number) (omega arith))
 
--- src/writer.rt:126:26
 slice-aggregate-put-bytes-2 : tie.Need-slice-aggregate-put-bytes-2
 slice-aggregate-put-bytes-2 c = search needs
 
--- src/writer.rt:126:5
 put-bytes-requires-2 : tie.Need-put-bytes-requires-2
 put-bytes-requires-2 c κs = (omega (arith, put-length (c .before .before .before .before .before .before .before .before .put-bytes .ensures), c .before .before .before .before .before .before .before .before .put-bytes .ensures .place, decimal-three (c .before .before .before .before .before .before .before .before .before .before .before .before .args .number) (omega arith), put-length (c .before .before .before .before .put-decimal .ensures), c .before .before .before .before .put-decimal .ensures .place), omega arith)
 
--- src/writer.rt:120:1
 same-length : tie.Need-same-length
 same-length c = put-length (c .before .before .put-bytes2 .ensures) ∙ (put-length (c .before .before .before .before .before .before .before .put-decimal .ensures) ∙ put-length (c .before .before .before .before .before .before .before .before .before .before .before .put-bytes .ensures))
 
--- src/writer.rt:120:1
 returns : tie.Need-returns
 returns c = put-then (put-then (c .before .before .before .before .before .before .before .before .before .before .before .put-bytes .ensures) (c .before .before .before .before .before .before .before .put-decimal .ensures)) (c .before .before .put-bytes2 .ensures)
 

@@ -1,28 +1,21 @@
-use Rattle.listing_text.proofs.Turns.{closed-ended, closed-same}
-use Rattle.listing_text.specs.Reading.{feedOf}
-use Rattle.listing_text.specs.declared.reader.Reader.{Reader}
+-- `Reader::closed` meets its contract. Assumes nothing.
 use mathlib.Core.Path.{ap, _∙_}
-use native.Mathlib.Omega.{arith}
 use borrow.Author.Needs.{needs}
+use Rattle.listing_text.specs.declared.reader.Reader.{Reader}
+use Rattle.listing_text.specs.Reading.{feedOf}
+use Rattle.listing_text.proofs.Turns.{closed-ended, closed-same}
 use Rattle.listing_text.proofs.reader.Reader.closed.Statement.{statement}
 use Rattle.listing_text.proofs.reader.Reader.closed.Tie as tie
-use Rattle.listing_text.proofs.reader.Reader.closed.Reads as reads
-use Rattle.listing_text.proofs.reader.Reader.closed.Lts as lts
-use Rattle.listing_text.proofs.reader.Reader.feed.Reads as feed-reads
 
--- src/reader.rt:238:13
 feed-requires : tie.Need-feed-requires
 feed-requires c κs = search needs
 
--- src/reader.rt:239:13
 feed-requires-2 : tie.Need-feed-requires-2
 feed-requires-2 c κs = search needs
 
--- src/reader.rt:241:13
 returns : tie.Need-returns
 returns c = closed-ended (c .before .before .before .before .args .self) (c .before .before .feed2 .result) (c .before .before .feed2 .ensures ∙ ap (λ (r : Reader). feedOf r 10) (c .before .before .before .feed .ensures)) (c .if1 .taken)
 
--- src/reader.rt:235:5
 returns-2 : tie.Need-returns-2
 returns-2 c = closed-same (c .before .before .before .before .args .self) (c .before .before .feed2 .result) (c .before .before .feed2 .ensures ∙ ap (λ (r : Reader). feedOf r 10) (c .before .before .before .feed .ensures)) (c .if1 .left)
 

@@ -1,54 +1,38 @@
-use Rattle.listing_text.proofs.Turns.{hexed-bad, hexed-good}
+-- `Reader::hexed` meets its contract. Assumes nothing.
 use mathlib.Core.Path.{ap, _∙_}
-use Rattle.listing_text.specs.Reading.{steppedOf}
-use native.Mathlib.Omega.{arith}
 use borrow.Author.Needs.{needs}
+use Rattle.listing_text.specs.Reading.{steppedOf}
+use Rattle.listing_text.proofs.Turns.{hexed-bad, hexed-good}
 use Rattle.listing_text.proofs.reader.Reader.hexed.Statement.{statement}
 use Rattle.listing_text.proofs.reader.Reader.hexed.Tie as tie
-use Rattle.listing_text.proofs.reader.Reader.hexed.Reads as reads
-use Rattle.listing_text.proofs.reader.Reader.hexed.Lts as lts
-use Rattle.listing_text.proofs.hex.hex_value.Reads as hex-value-reads
-use Rattle.listing_text.proofs.reader.Reader.numbered.Reads as numbered-reads
-use Rattle.listing_text.proofs.reader.Reader.step.Reads as step-reads
-use Rattle.listing_text.proofs.reader.Reader.stuck.Reads as stuck-reads
 
--- src/reader.rt:114:13
 hex-value-requires : tie.Need-hex-value-requires
 hex-value-requires c κs = search needs
 
--- src/reader.rt:116:13
 stuck-requires : tie.Need-stuck-requires
 stuck-requires c κs = search needs
 
--- src/reader.rt:116:13
 returns : tie.Need-returns
 returns c = c .stuck .ensures ∙ hexed-bad (c .before .before .before .args .t1) (c .before .before .before .args .b) (c .before .before .before .args .j) (c .before .before .hex-value .result) (c .before .before .hex-value .ensures) (c .before .if1 .taken)
 
--- src/reader.rt:118:17
 mul-v : tie.Need-mul-v
 mul-v c = search needs
 
--- src/reader.rt:118:17
 element-copy-out-v : tie.Need-element-copy-out-v
 element-copy-out-v c = search needs
 
--- src/reader.rt:119:37
 mul-numbered : tie.Need-mul-numbered
 mul-numbered c = search needs
 
--- src/reader.rt:119:37
 add-numbered : tie.Need-add-numbered
 add-numbered c = search needs
 
--- src/reader.rt:119:13
 numbered-requires : tie.Need-numbered-requires
 numbered-requires c κs = search needs
 
--- src/reader.rt:120:9
 step-requires : tie.Need-step-requires
 step-requires c κs = search needs
 
--- src/reader.rt:110:5
 returns-2 : tie.Need-returns-2
 returns-2 c = c .step .ensures ∙ ap steppedOf (c .before .numbered .ensures) ∙ hexed-good (c .before .before .before .before .before .args .t1) (c .before .before .before .before .before .args .b) (c .before .before .before .before .before .args .j) (c .before .before .before .before .hex-value .result) (c .before .before .before .before .hex-value .ensures) (c .before .before .before .if1 .left)
 

@@ -1,62 +1,46 @@
-use Rattle.listing_text.specs.Reading.{nextOf}
-use Rattle.listing_text.specs.declared.reader.Reader.{Reader}
-use Prim.Native.Nat.{_<_}
+-- `Reader::step` meets its contract. Assumes nothing.
 use mathlib.Core.Path.{sym, ap, _∙_, subst}
-use Rattle.listing_text.specs.Reading.{steppedOf}
-use borrow.Author.Tests.{lt-ltb, le-ltb, le-leb, lt-leb, eq-eqb, ne-eqb}
-use native.Mathlib.Omega.{arith}
+use Prim.Native.Nat.{_<_}
+use borrow.Author.Tests.{lt-ltb, le-ltb, le-leb, lt-leb}
 use borrow.Author.Needs.{needs}
+use Rattle.listing_text.specs.declared.reader.Reader.{Reader}
+use Rattle.listing_text.specs.Reading.{nextOf, steppedOf}
 use Rattle.listing_text.proofs.reader.Reader.step.Statement.{statement}
 use Rattle.listing_text.proofs.reader.Reader.step.Tie as tie
-use Rattle.listing_text.proofs.reader.Reader.step.Reads as reads
-use Rattle.listing_text.proofs.reader.Reader.step.Lts as lts
-use Rattle.listing_text.proofs.reader.Reader.keep.Reads as keep-reads
-use Rattle.listing_text.proofs.reader.Reader.next.Reads as next-reads
-use Rattle.listing_text.proofs.reader.Reader.stuck.Reads as stuck-reads
 
--- src/reader.rt:85:23
 add-self : tie.Need-add-self
 add-self c = search needs
 
--- src/reader.rt:86:13
 returns : tie.Need-returns
 unfolding steppedOf
-returns c = simp (lt-ltb _ _ (c .if1 .taken)) (cc)
+returns c = simp (lt-ltb _ _ (c .if1 .taken))
 
--- src/reader.rt:90:13
 stuck-requires : tie.Need-stuck-requires
 stuck-requires c κs = search needs
 
--- src/reader.rt:90:13
 returns-2 : tie.Need-returns-2
 unfolding steppedOf
-returns-2 c = simp (le-ltb _ _ (c .before .before .before .if1 .left), le-leb _ _ (c .before .if2 .taken)) (cc)
+returns-2 c = simp (le-ltb _ _ (c .before .before .before .if1 .left), le-leb _ _ (c .before .if2 .taken)) (c .stuck .ensures)
 
--- src/reader.rt:93:21
 mul-i : tie.Need-mul-i
 mul-i c = search needs
 
--- src/reader.rt:94:17
 keep-requires : tie.Need-keep-requires
 keep-requires c κs = search needs
 
--- src/reader.rt:95:13
 next-requires : tie.Need-next-requires
 next-requires c κs = subst (λ (r : Reader). r .seen < r .n) (sym (c .keep .ensures)) (c .before .before .if2 .left)
 
--- src/reader.rt:95:13
 returns-3 : tie.Need-returns-3
 unfolding steppedOf
 returns-3 c = simp (le-ltb _ _ (c .before .before .before .before .before .if1 .left), lt-leb _ _ (c .before .before .before .if2 .left), lt-ltb _ _ (c .before .before .if3 .taken)) (c .next .ensures ∙ ap nextOf (c .before .keep .ensures))
 
--- src/reader.rt:97:9
 next-requires-2 : tie.Need-next-requires-2
 next-requires-2 c κs = search needs
 
--- src/reader.rt:80:5
 returns-4 : tie.Need-returns-4
 unfolding steppedOf
-returns-4 c = simp (le-ltb _ _ (c .before .before .before .before .if1 .left), lt-leb _ _ (c .before .before .if2 .left), le-ltb _ _ (c .before .if3 .left)) (cc)
+returns-4 c = simp (le-ltb _ _ (c .before .before .before .before .if1 .left), lt-leb _ _ (c .before .before .if2 .left), le-ltb _ _ (c .before .if3 .left)) (c .next2 .ensures)
 
 pub step-spec : {M : Type 1} → statement M
 step-spec =
