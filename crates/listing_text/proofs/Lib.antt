@@ -5,6 +5,7 @@ pub mod Turns
 pub mod Fields
 pub mod Rows
 pub mod Forward
+pub mod FieldsBack
 pub mod Backward
 pub mod Single
 pub mod Putting
