@@ -14,7 +14,8 @@ use Rattle.listing_text.specs.declared.reader.Reader.{Reader}
 use Rattle.listing_text.specs.Bytes.{bytes}
 use Rattle.listing_text.specs.Numerals.{hex, decimal}
 use Rattle.listing_text.specs.Grammar.{Grain, Input, Word, GrainWords, AllWords, Words, line, flag, grainLine, grainLines, textOf, Text}
-use Rattle.listing_text.specs.Reading.{plan, planOf, startOf, put, steppedOf, wantedOf, feedOf, feedAll, closedOf, fineOf, bitOf, readOf, nextOf, keptOf}
+use Rattle.listing_text.specs.Reading.{plan, planOf, startOf, put, steppedOf, wantedOf, feedOf, feedAll, closedOf, fineOf, nextOf, keptOf}
+use Rattle.listing_text.specs.Held.{bitOf, readOf}
 use Rattle.listing_text.proofs.DecimalDigits.{valueFrom, shown, shown-is}
 use Rattle.listing_text.proofs.Turns.{feed-parts}
 use Rattle.listing_text.proofs.Forward.{runs, full-stuck, stepped-kept, stepped-full, five-fields, six-fields, text-accepted}
@@ -41,33 +42,41 @@ ends-at : (planOf 109 ≡ 44) × (planOf 126 ≡ 44) × (planOf 143 ≡ 44) × (
 unfolding plan
 ends-at = (refl, refl, refl, refl, refl, refl, refl, refl, refl, refl)
 
+-- its first three numbers
+front-ends : (r : Reader) (n : ℕ) (g s : List ℕ) → length g ≡ 10 → r .seen < n → Ends (put r 93 n g) s
+    → (v w u : ℕ) × (t : List ℕ) × Word v × Word w × Word u × (s ≡ hex v ++ (44 ∷ (hex w ++ (44 ∷ (hex u ++ (44 ∷ t)))))) × (h : List ℕ) × (length h ≡ 10) × Ends (put r 144 n h) t
+front-ends r n g s N o e =
+    let (v, t0, x, q0, e0) = field-ends r 93 n g 5 44 s (lit< tt) N (runs .x-run) (ends-at .0) tt (lit< tt) (inr o) e in
+    let N1 : length (set g 5 v) ≡ 10 = length-set g 5 v ∙ N in
+    let (w, t1, y, q1, e1) = field-ends r 110 n (set g 5 v) 6 44 t0 (lit< tt) N1 (runs .y-run) (ends-at .1) tt (lit< tt) (inr o) e0 in
+    let N2 : length (set (set g 5 v) 6 w) ≡ 10 = length-set (set g 5 v) 6 w ∙ N1 in
+    let (u, t2, z, q2, e2) = field-ends r 127 n (set (set g 5 v) 6 w) 7 44 t1 (lit< tt) N2 (runs .vx-run) (ends-at .2) tt (lit< tt) (inr o) e1 in
+    (v, w, u, t2, x, y, z, fields-joined v w u s t0 t1 t2 q0 q1 q2, set (set (set g 5 v) 6 w) 7 u, length-set (set (set g 5 v) 6 w) 7 u ∙ N2, e2)
+  where
+    fields-joined : (v w u : ℕ) (s t0 t1 t2 : List ℕ) → s ≡ hex v ++ (44 ∷ t0) → t0 ≡ hex w ++ (44 ∷ t1) → t1 ≡ hex u ++ (44 ∷ t2) → s ≡ hex v ++ (44 ∷ (hex w ++ (44 ∷ (hex u ++ (44 ∷ t2)))))
+    fields-joined v w u s t0 t1 t2 p q r = p ∙ ap (λ (z : List ℕ). hex v ++ (44 ∷ z)) (q ∙ ap (λ (z : List ℕ). hex w ++ (44 ∷ z)) r)
+
+-- the other two, and CR LF
+back-ends : (r : Reader) (n : ℕ) (g s : List ℕ) → length g ≡ 10 → r .seen < n → Ends (put r 144 n g) s
+    → (v w : ℕ) × (t : List ℕ) × Word v × Word w × (s ≡ hex v ++ (44 ∷ (hex w ++ (13 ∷ 10 ∷ t)))) × (h : List ℕ) × (length h ≡ 10) × Ends (steppedOf (put r 178 n h)) t
+back-ends r n g s N o e =
+    let (v, t0, x, q0, e0) = field-ends r 144 n g 8 44 s (lit< tt) N (runs .vy-run) (ends-at .3) tt (lit< tt) (inr o) e in
+    let N1 : length (set g 8 v) ≡ 10 = length-set g 8 v ∙ N in
+    let (w, t1, y, q1, e1) = field-ends r 161 n (set g 8 v) 9 13 t0 (lit< tt) N1 (runs .val-run) (ends-at .4) tt (lit< tt) (inr o) e0 in
+    let (t2, q2, e2) = line-over r n (set (set g 8 v) 9 w) t1 o e1 in
+    (v, w, t2, x, y, fields-joined v w s t0 t1 t2 q0 q1 q2, set (set g 8 v) 9 w, length-set (set g 8 v) 9 w ∙ N1, e2)
+  where
+    fields-joined : (v w : ℕ) (s t0 t1 t2 : List ℕ) → s ≡ hex v ++ (44 ∷ t0) → t0 ≡ hex w ++ (13 ∷ t1) → t1 ≡ 10 ∷ t2 → s ≡ hex v ++ (44 ∷ (hex w ++ (13 ∷ 10 ∷ t2)))
+    fields-joined v w s t0 t1 t2 p q r = p ∙ ap (λ (z : List ℕ). hex v ++ (44 ∷ z)) (q ∙ ap (λ (z : List ℕ). hex w ++ (13 ∷ z)) r)
+
 line-ends : (r : Reader) (n : ℕ) (g s : List ℕ) → length g ≡ 10 → r .seen < n → Ends (put r 93 n g) s → Line r n s
 line-ends r n g s N o e =
-    let (v0, t0, w0, q0, e0) = field-ends r 93 n g 5 44 s (lit< tt) N (runs .x-run) (ends-at .0) tt (lit< tt) (inr o) e in
-    let g1 = set g 5 v0 in
-    let N1 : length g1 ≡ 10 = length-set g 5 v0 ∙ N in
-    let (v1, t1, w1, q1, e1) = field-ends r 110 n g1 6 44 t0 (lit< tt) N1 (runs .y-run) (ends-at .1) tt (lit< tt) (inr o) e0 in
-    let g2 = set g1 6 v1 in
-    let N2 : length g2 ≡ 10 = length-set g1 6 v1 ∙ N1 in
-    let (v2, t2, w2, q2, e2) = field-ends r 127 n g2 7 44 t1 (lit< tt) N2 (runs .vx-run) (ends-at .2) tt (lit< tt) (inr o) e1 in
-    let g3 = set g2 7 v2 in
-    let N3 : length g3 ≡ 10 = length-set g2 7 v2 ∙ N2 in
-    let (v3, t3, w3, q3, e3) = field-ends r 144 n g3 8 44 t2 (lit< tt) N3 (runs .vy-run) (ends-at .3) tt (lit< tt) (inr o) e2 in
-    let g4 = set g3 8 v3 in
-    let N4 : length g4 ≡ 10 = length-set g3 8 v3 ∙ N3 in
-    let (v4, t4, w4, q4, e4) = field-ends r 161 n g4 9 13 t3 (lit< tt) N4 (runs .val-run) (ends-at .4) tt (lit< tt) (inr o) e3 in
-    let g5 = set g4 9 v4 in
-    let N5 : length g5 ≡ 10 = length-set g4 9 v4 ∙ N4 in
-    let (t5, q5, e5) = line-over r n g5 t4 o e4 in (
-      record { x = v0; y = v1; vx = v2; vy = v3; val = v4 },
-      t5,
-      record { x-word = w0; y-word = w1; vx-word = w2; vy-word = w3; val-word = w4 },
-      q0 ∙ ap (λ (z : List ℕ). hex v0 ++ (44 ∷ z)) (q1 ∙ ap (λ (z : List ℕ). hex v1 ++ (44 ∷ z)) (q2 ∙ ap (λ (z : List ℕ). hex v2 ++ (44 ∷ z)) (q3 ∙ ap (λ (z : List ℕ). hex v3 ++ (44 ∷ z)) (q4 ∙ ap (λ (z : List ℕ). hex v4 ++ (13 ∷ z)) q5))))
-          ∙ sym (five-fields (hex v0) (hex v1) (hex v2) (hex v3) (hex v4) t5),
-      g5,
-      N5,
-      e5,
-    )
+    let (x, y, vx, t, a, b, c, q, h, N1, e1) = front-ends r n g s N o e in
+    let (vy, val, u, d, f, q1, k, N2, e2) = back-ends r n h t N1 o e1 in
+    (record { x = x; y = y; vx = vx; vy = vy; val = val }, u, record { x-word = a; y-word = b; vx-word = c; vy-word = d; val-word = f }, line-joined x y vx vy val s t u q q1, k, N2, e2)
+  where
+    line-joined : (x y vx vy val : ℕ) (s t u : List ℕ) → s ≡ hex x ++ (44 ∷ (hex y ++ (44 ∷ (hex vx ++ (44 ∷ t))))) → t ≡ hex vy ++ (44 ∷ (hex val ++ (13 ∷ 10 ∷ u))) → s ≡ line (hex x ∷ hex y ∷ hex vx ∷ hex vy ∷ hex val ∷ []) ++ u
+    line-joined x y vx vy val s t u p q = p ∙ ap (λ (z : List ℕ). hex x ++ (44 ∷ (hex y ++ (44 ∷ (hex vx ++ (44 ∷ z)))))) q ∙ sym (five-fields (hex x) (hex y) (hex vx) (hex vy) (hex val) u)
 
 lines-end : (k : ℕ) (r : Reader) (n : ℕ) (g s : List ℕ) → length g ≡ 10 → r .seen + k ≡ n → Ends (put r 93 n g) s → (gs : List Grain) × AllWords gs × (length gs ≡ k) × (s ≡ grainLines gs)
 lines-end zero r n g [] N h e = ([], tt, refl, refl)

@@ -15,7 +15,8 @@ use borrow.Author.Tests.{lt-ltb, le-ltb, lt-leb, ne-eqb}
 use Rattle.listing_text.specs.declared.reader.Reader.{Reader}
 use Rattle.listing_text.specs.Numerals.{glyph, hexVal, spell, hex, decimal}
 use Rattle.listing_text.specs.Grammar.{Word, flag}
-use Rattle.listing_text.specs.Reading.{plan, planOf, put, stuckOf, steppedOf, shifted, numberedOf, hexedOf, flaggedOf, countedOf, firstOf, moreOf, wantedOf, feedOf, feedAll, bitOf}
+use Rattle.listing_text.specs.Reading.{plan, planOf, put, stuckOf, steppedOf, shifted, numberedOf, hexedOf, flaggedOf, countedOf, firstOf, moreOf, wantedOf, feedOf, feedAll}
+use Rattle.listing_text.specs.Held.{bitOf}
 use Rattle.listing_text.proofs.HexDigits.{val-glyph, shifted-mod, shifted-lt}
 use Rattle.listing_text.proofs.DecimalDigits.{valueFrom, Digits, shown, grows, shown-is, digits-of}
 use Rattle.listing_text.proofs.Turns.{hexed-good}
@@ -144,7 +145,7 @@ pub more-turn : (r : Reader) (n b : ℕ) (g : List ℕ) → feedOf (put r 76 n g
 unfolding plan feedOf wantedOf
 more-turn r n b g = refl
 
-pub first-fed : (r : Reader) (n d : ℕ) (g : List ℕ) → d < 10 → firstOf (put r 75 n g) (48 + d) ≡ put r 76 d g
+first-fed : (r : Reader) (n d : ℕ) (g : List ℕ) → d < 10 → firstOf (put r 75 n g) (48 + d) ≡ put r 76 d g
 unfolding firstOf steppedOf
 first-fed r n d g h =
     let m : 48 + d - 48 ≡ d = omega arith in
@@ -161,7 +162,7 @@ more-fed r n d g h z k =
     simp (ne-eqb (48 + d) 13 (λ (e : 48 + d ≡ 13). omega arith), le-ltb (48 + d) 48 (omega arith), le-ltb 57 (48 + d) (omega arith), ne-eqb n 0 z)
     (ap (countedOf (put r 76 n g)) m ∙ counted-is r n d g h k)
 
-pub cr-fed : (r : Reader) (n : ℕ) (g : List ℕ) → moreOf (put r 76 n g) 13 ≡ put r 77 n g
+cr-fed : (r : Reader) (n : ℕ) (g : List ℕ) → moreOf (put r 76 n g) 13 ≡ put r 77 n g
 unfolding moreOf steppedOf
 cr-fed r n g = refl
 

@@ -13,7 +13,8 @@ use borrow.Author.Tests.{ne-eqb, ltb-true, ltb-false, eqb-true, eqb-false}
 use Rattle.listing_text.specs.declared.reader.Reader.{Reader}
 use Rattle.listing_text.specs.Numerals.{glyph, hexVal, spell, hex}
 use Rattle.listing_text.specs.Grammar.{Word, flag}
-use Rattle.listing_text.specs.Reading.{planOf, put, stuckOf, steppedOf, shifted, numberedOf, hexedOf, flaggedOf, matchedOf, countedOf, firstOf, moreOf, wantedOf, feedAll, fineOf, bitOf}
+use Rattle.listing_text.specs.Reading.{planOf, put, stuckOf, steppedOf, shifted, numberedOf, hexedOf, flaggedOf, matchedOf, countedOf, firstOf, moreOf, wantedOf, feedAll, fineOf}
+use Rattle.listing_text.specs.Held.{bitOf}
 use Rattle.listing_text.proofs.HexDigits.{glyph-val, digit-of, rest-of}
 use Rattle.listing_text.proofs.DecimalDigits.{valueFrom, Digits, shown}
 use Rattle.listing_text.proofs.Turns.{hexed-bad}

@@ -13,7 +13,9 @@ use Rattle.listing_text.specs.declared.reader.Reader.{Reader}
 use Rattle.listing_text.specs.Bytes.{bytes}
 use Rattle.listing_text.specs.Numerals.{hex, decimal}
 use Rattle.listing_text.specs.Grammar.{Grain, Input, Word, GrainWords, AllWords, Words, line, flag, boxLine, grainLine, grainLines, textOf, Text}
-use Rattle.listing_text.specs.Reading.{plan, planOf, startOf, put, stuckOf, steppedOf, matchedOf, wantedOf, feedOf, feedAll, closedOf, fineOf, fiveOf, noGrain, lastOf, rowsOf, bitOf, readOf, nextOf, keptOf}
+use Rattle.listing_text.specs.Reading.{plan, planOf, startOf, put, stuckOf, steppedOf, matchedOf, wantedOf, feedOf, feedAll, closedOf, fineOf, nextOf, keptOf}
+use Rattle.listing_text.specs.Rows.{fiveOf, noGrain, rowsOf}
+use Rattle.listing_text.specs.Held.{lastOf, bitOf, readOf}
 use Rattle.listing_text.proofs.Turns.{feed-parts, closed-ended, closed-same}
 use Rattle.listing_text.proofs.Fields.{run, OpenTo, hex-field, flag-field, decimal-field}
 use Rattle.listing_text.proofs.Rows.{laidFive, rows-more, rows-full, last-one}
@@ -116,7 +118,7 @@ unfolding plan feedOf wantedOf matchedOf
 lf-turn r n g = refl
 
 -- a grain's line loads its numbers, and ends
-pub line-fed : (r : Reader) (a b c d e : ℕ) (f g : Grain) (s : List ℕ) → GrainWords g → r .seen < r .n
+line-fed : (r : Reader) (a b c d e : ℕ) (f g : Grain) (s : List ℕ) → GrainWords g → r .seen < r .n
     → feedAll (put r 93 (r .n) (a ∷ b ∷ c ∷ d ∷ e ∷ fiveOf f)) (grainLine g ++ s) ≡ feedAll (steppedOf (put r 178 (r .n) (a ∷ b ∷ c ∷ d ∷ e ∷ fiveOf g))) s
 line-fed r a b c d e f g s w o =
     let n = r .n in

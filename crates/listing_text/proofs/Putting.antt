@@ -13,11 +13,12 @@ use lib.Seq.{take-at, drop-at, drop-drop, drop-cons, length-take-le, set-split}
 use borrow.Author.Tests.{le-ltb, ltb-true, ltb-false}
 use Rattle.listing_text.specs.Numerals.{glyph, spell, hex, decimal}
 use Rattle.listing_text.specs.Grammar.{Grain, grainLine}
-use Rattle.listing_text.specs.Answers.{Put, laid, listingLine, listingLines, listingOf, grainAt, grainsFrom, listed}
+use Rattle.listing_text.specs.Answers.{Put, laid, listingLine, listingLines, listingOf, listed}
+use Rattle.listing_text.specs.Rows.{grainAt, grainsFrom}
 use Rattle.listing_text.specs.Bytes.{bytes}
 use Rattle.listing_text.proofs.DecimalDigits.{decimal-one, decimal-more}
 
-pub length-laid : (at : ℕ) (t s : List ℕ) → at + length t ≤ length s → length (laid at t s) ≡ length s
+length-laid : (at : ℕ) (t s : List ℕ) → at + length t ≤ length s → length (laid at t s) ≡ length s
 length-laid at t s h =
     let a : length (take at s) ≡ at = length-take-le at s (omega arith) in
     let b = length-append (take at s) (t ++ drop (at + length t) s) in

@@ -6,8 +6,8 @@ use native.Mathlib.Nat.{le-of-suc-le-suc}
 use native.Mathlib.Omega.{arith}
 use lib.ListN.{length, getD, set, replicate}
 use Rattle.listing_text.specs.Grammar.{Grain}
-use Rattle.listing_text.specs.Reading.{fiveOf, noGrain, lastOf, rowsOf}
-use Rattle.listing_text.specs.Answers.{grainAt, grainsFrom}
+use Rattle.listing_text.specs.Rows.{fiveOf, noGrain, rowsOf, grainAt, grainsFrom}
+use Rattle.listing_text.specs.Held.{lastOf}
 
 -- five numbers laid over a list from i on
 abbrev pub laidFive : List ℕ → ℕ → Grain → List ℕ

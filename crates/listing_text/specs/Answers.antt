@@ -2,14 +2,15 @@
 use mathlib.Core.Path.{_≡_}
 use mathlib.Core.List.{List, [], _∷_, _++_}
 use mathlib.Core.Bool.{cond}
-use Prim.Native.Nat.{ℕ, zero, suc, _+_, _*_, _≤_}
+use Prim.Native.Nat.{ℕ, suc, _+_, _≤_}
 use lib.Dec.{ltb}
-use lib.ListN.{length, getD, take, drop}
+use lib.ListN.{length, take, drop}
 use Rattle.listing_text.specs.declared.writer.Answer.{Answer}
 use Rattle.listing_text.specs.declared.writer.Answer.the-variants.{Malformed, TooLarge, Refused, Spent}
 use Rattle.listing_text.specs.Bytes.{bytes}
 use Rattle.listing_text.specs.Numerals.{hex, decimal}
 use Rattle.listing_text.specs.Grammar.{Grain, line}
+use Rattle.listing_text.specs.Rows.{grainsFrom}
 
 -- the line of the grain with the index k
 abbrev pub listingLine : ℕ → ℕ → Grain → List ℕ
@@ -29,15 +30,6 @@ answerOf Malformed = bytes "malformed\r\n"
 answerOf TooLarge = bytes "too large\r\n"
 answerOf (Refused k) = line (bytes "refused" ∷ decimal k ∷ [])
 answerOf Spent = bytes "spent\r\n"
-
--- the grain whose five numbers stand in row i
-abbrev pub grainAt : List ℕ → ℕ → Grain
-grainAt l i = record { x = getD l (i * 5) 0; y = getD l (i * 5 + 1) 0; vx = getD l (i * 5 + 2) 0; vy = getD l (i * 5 + 3) 0; val = getD l (i * 5 + 4) 0 }
-
--- k grains from row i on
-abbrev pub grainsFrom : List ℕ → ℕ → ℕ → List Grain
-grainsFrom l i zero = []
-grainsFrom l i (suc k) = grainAt l i ∷ grainsFrom l (suc i) k
 
 -- the listing of the first n rows; nothing for more than 32
 abbrev pub listed : ℕ → ℕ → List ℕ → List ℕ

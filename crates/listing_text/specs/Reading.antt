@@ -1,14 +1,15 @@
--- The reader's turns: `feedAll startOf s` is what it makes of the bytes s, and `readOf i` what it holds after a text of i. Assumes nothing.
-use mathlib.Core.List.{List, [], _∷_, _++_}
-use mathlib.Core.Bool.{Bool, true, false, cond}
-use Prim.Native.Nat.{ℕ, zero, suc, _+_, _-_, _*_, _/_, _%_}
+-- The reader's turns: `feedAll startOf s` is what it makes of the bytes s. A place is one of the plan's: 93 begins a grain's line and 178 ends it;
+-- 179, past the plan, is where a reader stays that met a byte that it did not want. Assumes nothing.
+use mathlib.Core.List.{List, [], _∷_}
+use mathlib.Core.Bool.{Bool, false, cond}
+use Prim.Native.Nat.{ℕ, _+_, _-_, _*_, _/_, _%_}
 use lib.Dec.{ltb, leb, eqb}
-use lib.ListN.{length, getD, set, replicate}
+use lib.ListN.{getD, set, replicate}
 use Rattle.listing_text.specs.declared.reader.Reader.{Reader}
 use Rattle.listing_text.specs.Bytes.{bytes}
 use Rattle.listing_text.specs.Numerals.{hexVal}
-use Rattle.listing_text.specs.Grammar.{Grain, Input}
 
+-- A to J: a hexadecimal digit of the numbers 0 to 9. K to T: a flag among them. #: the first digit of n. +: its others, and the CR. Other bytes: themselves.
 unfoldable pub plan : List ℕ
 plan = bytes "l0,l1,p0,p1,rate,n\r\nAAAAAAAAAAAAAAAA,BBBBBBBBBBBBBBBB,M,N,EEEEEEEEEEEEEEEE,#+\nx,y,vx,vy,val\r\nFFFFFFFFFFFFFFFF,GGGGGGGGGGGGGGGG,HHHHHHHHHHHHHHHH,IIIIIIIIIIIIIIII,JJJJJJJJJJJJJJJJ\r\n"
 
@@ -25,12 +26,15 @@ put r at n numbers = record { at = at; n = n; seen = r .seen; numbers = numbers;
 abbrev pub stuckOf : Reader → Reader
 stuckOf r = put r 179 (r .n) (r .numbers)
 
+-- the line's five numbers are kept from i on
 abbrev pub keptOf : Reader → ℕ → Reader
 keptOf r i = record { at = r .at; n = r .n; seen = r .seen; numbers = r .numbers; grains = set (set (set (set (set (r .grains) i (getD (r .numbers) 5 0)) (i + 1) (getD (r .numbers) 6 0)) (i + 2) (getD (r .numbers) 7 0)) (i + 3) (getD (r .numbers) 8 0)) (i + 4) (getD (r .numbers) 9 0) }
 
+-- on to the next grain's line
 abbrev pub nextOf : Reader → Reader
 nextOf r = record { at = 93; n = r .n; seen = r .seen + 1; numbers = r .numbers; grains = r .grains }
 
+-- on to the next place; at the end of a grain's line the numbers of the first 32 are kept
 unfoldable pub steppedOf : Reader → Reader
 steppedOf r =
     cond (ltb (r .at) 178) (put r (r .at + 1) (r .n) (r .numbers))
@@ -53,6 +57,7 @@ flaggedOf r b j = cond (eqb b 48) (steppedOf (numberedOf r j 0)) (cond (eqb b 49
 unfoldable pub matchedOf : Reader → ℕ → ℕ → Reader
 matchedOf r b want = cond (eqb b want) (steppedOf r) (stuckOf r)
 
+-- one more digit of n, where that fits 64 bits
 unfoldable pub countedOf : Reader → ℕ → Reader
 countedOf r d = cond (ltb ((18446744073709551615 - d) / 10) (r .n)) (stuckOf r) (put r (r .at) (r .n * 10 + d) (r .numbers))
 
@@ -75,6 +80,7 @@ wantedOf r b want =
     (cond (ltb want 75) (hexedOf r b (want - 65))
     (cond (ltb want 85) (flaggedOf r b (want - 75)) (matchedOf r b want)))))
 
+-- one byte; after n lines of grains none is wanted
 unfoldable pub feedOf : Reader → ℕ → Reader
 feedOf r b =
     cond (leb 179 (r .at)) r
@@ -85,33 +91,10 @@ abbrev pub feedAll : Reader → List ℕ → Reader
 feedAll r [] = r
 feedAll r (b ∷ s) = feedAll (feedOf r b) s
 
+-- the text is over: a last line that lacks its CR LF is ended
 abbrev pub closedOf : Reader → Reader
 closedOf r = cond (eqb (feedOf (feedOf r 13) 10 .at) 93) (feedOf (feedOf r 13) 10) r
 
+-- n lines of grains were read, and no byte more
 abbrev pub fineOf : Reader → Bool
 fineOf r = cond (eqb (r .at) 93) (eqb (r .seen) (r .n)) false
-
--- ---- what is held after a text
-abbrev pub fiveOf : Grain → List ℕ
-fiveOf g = g .x ∷ g .y ∷ g .vx ∷ g .vy ∷ g .val ∷ []
-
-abbrev pub noGrain : Grain
-noGrain = record { x = 0; y = 0; vx = 0; vy = 0; val = 0 }
-
--- the last one, or g where there is none
-abbrev pub lastOf : Grain → List Grain → Grain
-lastOf g [] = g
-lastOf g (h ∷ gs) = lastOf h gs
-
--- k rows of five: the grains' numbers, as far as they go, then zeros
-abbrev pub rowsOf : ℕ → List Grain → List ℕ
-rowsOf zero gs = []
-rowsOf (suc k) [] = fiveOf noGrain ++ rowsOf k []
-rowsOf (suc k) (g ∷ gs) = fiveOf g ++ rowsOf k gs
-
-abbrev pub bitOf : Bool → ℕ
-bitOf false = 0
-bitOf true = 1
-
-abbrev pub readOf : Input → Reader
-readOf i = record { at = 93; n = length (i .grains); seen = length (i .grains); numbers = i .l0 ∷ i .l1 ∷ bitOf (i .p0) ∷ bitOf (i .p1) ∷ i .rate ∷ fiveOf (lastOf noGrain (i .grains)); grains = rowsOf 32 (i .grains) }

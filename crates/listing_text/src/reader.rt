@@ -4,6 +4,13 @@ ghost use Prim.Native.Nat.{_<_, _≤_};
 ghost use Rattle.listing_text.specs.Reading.{planOf, startOf, stuckOf, keptOf, nextOf, steppedOf, numberedOf, hexedOf, flaggedOf, matchedOf, countedOf, firstOf, moreOf, wantedOf, feedOf, feedAll, closedOf, fineOf};
 use crate::hex::hex_value;
 
+// The plan's places where a grain's line begins and ends, and the place past the plan, where a reader is stuck.
+const LINE: usize = 93;
+
+const LINE_END: usize = 178;
+
+const STUCK: usize = 179;
+
 // What was read: the place in the plan, n, the grains' lines ended, the ten numbers that the plan names, and five numbers for
 // each of the first 32 grains.
 pub struct Reader {
@@ -45,7 +52,7 @@ impl Reader {
     fn stuck(mut self) -> Reader
         ensures { λ r. ⌜ r ≡ stuckOf self ⌝ }
     {
-        self.at = 179;
+        self.at = STUCK;
         self
     }
 
@@ -72,7 +79,7 @@ impl Reader {
         requires { ⌜ self .seen < self .n ⌝ }
         ensures { λ r. ⌜ r ≡ nextOf self ⌝ }
     {
-        self.at = 93;
+        self.at = LINE;
         self.seen = self.seen + 1;
         self
     }
@@ -82,7 +89,7 @@ impl Reader {
         ensures { λ r. ⌜ r ≡ steppedOf self ⌝ }
     {
         let at = self.at;
-        if at < 178 {
+        if at < LINE_END {
             self.at = at + 1;
             return self;
         }
@@ -219,11 +226,11 @@ impl Reader {
         ensures { λ r. ⌜ r ≡ feedOf self b ⌝ }
     {
         let at = self.at;
-        if 179 <= at {
+        if STUCK <= at {
             return self;
         }
         let want = plan_at(at);
-        if at == 93 {
+        if at == LINE {
             if self.n <= self.seen {
                 return self.stuck();
             }
@@ -238,7 +245,7 @@ impl Reader {
     {
         let half = self.feed(13);
         let ended = half.feed(10);
-        if ended.at == 93 {
+        if ended.at == LINE {
             return ended;
         }
         self
@@ -248,7 +255,7 @@ impl Reader {
     pub fn fine(self) -> bool
         ensures { λ r. ⌜ r ≡ fineOf self ⌝ }
     {
-        if self.at == 93 {
+        if self.at == LINE {
             return self.seen == self.n;
         }
         false

@@ -6,7 +6,8 @@ ghost use lib.ListN.{length, drop};
 ghost use Rattle.listing_text.specs.Numerals.{spell, hex, decimal};
 ghost use Rattle.listing_text.specs.Bytes.{bytes};
 ghost use Rattle.listing_text.specs.Grammar.{line, grainLine};
-ghost use Rattle.listing_text.specs.Answers.{Put, listingLine, listingLines, grainAt, grainsFrom, listed, answerOf};
+ghost use Rattle.listing_text.specs.Answers.{Put, listingLine, listingLines, listed, answerOf};
+ghost use Rattle.listing_text.specs.Rows.{grainAt, grainsFrom};
 use crate::hex::hex_glyph;
 
 // An answer of one line.

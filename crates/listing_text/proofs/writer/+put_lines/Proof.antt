@@ -5,7 +5,7 @@ use native.Mathlib.Omega.{arith}
 use borrow.Author.Needs.{needs}
 use borrow.Fn.Kinds.{In}
 use borrow.Fn.PlainCycle.{Measures, is, falls, and}
-use Rattle.listing_text.specs.Answers.{grainAt}
+use Rattle.listing_text.specs.Rows.{grainAt}
 use Rattle.listing_text.proofs.Putting.{put-length, line-short, lines-none, lines-more}
 use Rattle.listing_text.proofs.writer.+put_lines.{statement}
 use Rattle.listing_text.proofs.writer.+put_lines.Tie.{close}

@@ -3,7 +3,7 @@ use mathlib.Core.Path.{_∙_}
 use native.Mathlib.Omega.{arith}
 use lib.ListN.{length-set}
 use borrow.Author.Needs.{needs}
-use Rattle.listing_text.specs.Answers.{grainAt}
+use Rattle.listing_text.specs.Rows.{grainAt}
 use Rattle.listing_text.proofs.Putting.{put-length, decimal-three, line-put}
 use Rattle.listing_text.proofs.writer.put_line.Statement.{statement}
 use Rattle.listing_text.proofs.writer.put_line.Tie as tie
