@@ -4,7 +4,7 @@ use mathlib.Core.List.{List, [], _∷_, _++_}
 use Prim.Native.Nat.{ℕ, zero, suc, _+_, _-_, _*_, _≤_, _<_}
 use native.Mathlib.Nat.{le-of-suc-le-suc}
 use native.Mathlib.Omega.{arith}
-use lib.ListN.{length, getD, set, replicate}
+use lib.ListN.{length, getD, take, set, replicate}
 use Rattle.listing_text.specs.Grammar.{Grain}
 use Rattle.listing_text.specs.Rows.{fiveOf, noGrain, rowsOf, grainAt, grainsFrom}
 use Rattle.listing_text.specs.Held.{lastOf}
@@ -48,6 +48,12 @@ rows-none zero = refl
 rows-none (suc k) =
     let e : suc k * 5 ≡ suc (suc (suc (suc (suc (k * 5))))) = omega arith in
     ap (λ (l : List ℕ). fiveOf noGrain ++ l) (rows-none k) ∙ ap (λ (n : ℕ). replicate n 0) (sym e)
+
+-- grains past the rows are left out
+pub rows-first : (k : ℕ) (gs : List Grain) → rowsOf k gs ≡ rowsOf k (take k gs)
+rows-first zero gs = refl
+rows-first (suc k) [] = refl
+rows-first (suc k) (g ∷ gs) = ap (λ (l : List ℕ). fiveOf g ++ l) (rows-first k gs)
 
 -- where there is room for all of them, the rows are the grains' numbers, and zeros beyond
 pub rows-flat : (k : ℕ) (gs : List Grain) → length gs ≤ k → rowsOf k gs ≡ flat gs ++ replicate ((k - length gs) * 5) 0
