@@ -34,7 +34,7 @@ one-off : (n : ℕ) → n ≡ suc n - 1
 one-off n = omega arith
 
 -- the record after c others
-drop-next : {B : Type 0} (c w : ℕ) (l : List B) → drop (c * w) (drop w l) ≡ drop (suc c * w) l
+pub drop-next : {B : Type 0} (c w : ℕ) (l : List B) → drop (c * w) (drop w l) ≡ drop (suc c * w) l
 drop-next c w l = let e : w + c * w ≡ suc c * w = (let s = suc-mul c w in omega arith) in drop-drop (c * w) w l ∙ ap (λ (k : ℕ). drop k l) e
 
 -- ---- the first numbers of a list

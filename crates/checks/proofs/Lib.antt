@@ -10,3 +10,4 @@ pub mod Turns
 pub mod Heads
 pub mod Same
 pub mod Stages
+pub mod Held
