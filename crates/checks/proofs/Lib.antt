@@ -10,4 +10,6 @@ pub mod Turns
 pub mod Heads
 pub mod Same
 pub mod Stages
-pub mod Held
+pub mod Holding
+pub mod Back
+pub mod Accepts

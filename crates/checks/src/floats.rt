@@ -6,6 +6,7 @@ ghost use lib.Ieee.{nan};
 ghost use lib.Ieee.Scale.{finite};
 ghost use Rattle.halting.specs.Every.{every};
 ghost use Rattle.model.specs.Sizes.{within};
+ghost use Rattle.checks.specs.Held.{Fits};
 
 pub fn finite(x: f64) -> bool
     ensures { λ r. ⌜ r ≡ finite x ⌝ }
@@ -36,4 +37,13 @@ pub fn within(low: f64, high: f64, x: f64) -> bool
         return x <= high;
     }
     false
+}
+
+// The floats of a table are 64-bit ones, whatever they are: reading one tells it of all.
+pub fn known(reals: &[f64])
+    ensures { λ _. ⌜ Fits (now (reals .entry)) ⌝ }
+{
+    if 0 < reals.len() {
+        let _first = reals[0];
+    }
 }

@@ -5,7 +5,8 @@ ghost use lib.ListN.{length};
 ghost use Rattle.model.specs.Sizes.{rated};
 ghost use Rattle.model.specs.Check.{halt};
 ghost use Rattle.checks.specs.Decode.{tables, rowsOf};
-ghost use Rattle.checks.specs.Check.{long, sizedBy, Sized, legibleBy, standing, checked, listsNeed, grainsNeed, queueNeed};
+ghost use Rattle.checks.specs.Check.{long, sizedBy, Sized, legibleBy, standing, listsNeed, grainsNeed, queueNeed};
+ghost use Rattle.checks.specs.Held.{Answered};
 ghost use Rattle.checks.specs.Walk.{Rowed};
 ghost use Rattle.checks.specs.Parts.{settled, queued, heaped};
 use tables::Sizes;
@@ -196,8 +197,10 @@ pub fn check(
     order: &[u8],
     rate: f64,
 ) -> u64
-    ensures { λ r. ⌜ r ≡ checked rate (tables (now (lists .entry)) (now (grains .entry)) (now (queue .entry)) (now (events .entry)) (now (order .entry))) ⌝ }
+    ensures { λ r. ⌜ Answered rate (tables (now (lists .entry)) (now (grains .entry)) (now (queue .entry)) (now (events .entry)) (now (order .entry))) r ⌝ }
 {
+    floats::known(grains);
+    floats::known(events);
     if !sized(lists, grains.len(), queue.len(), events.len(), order.len()) {
         return 2;
     }
