@@ -1,29 +1,28 @@
 -- What the check's answer says: 0, that the tables hold a state whose facts stand. Assumes nothing.
 use mathlib.Core.Path.{_≡_, refl, sym, ap, _∙_, subst}
-use Prim.Native.Nat.{ℕ, zero, suc, _+_, _*_, _≤_, _<_}
+use Prim.Native.Nat.{ℕ, zero, suc, _+_, _*_}
 use native.Mathlib.Omega.{arith}
 use mathlib.Core.List.{List, [], _∷_}
-use mathlib.Core.Bool.{Bool, true, false, _&&_}
+use mathlib.Core.Bool.{Bool, true, false}
 use lib.Dec.{T, leb}
-use lib.ListN.{length, getD, take, drop}
+use lib.ListN.{getD, take, drop}
 use lib.Seq.{getD-drop}
 use lib.Ieee.{Float, nan, binary64, fits}
 use borrow.Author.Tests.{leb-true, le-leb}
 use Rattle.halting.specs.Out.{pick}
 use Rattle.model.specs.declared.Place.{Place}
 use Rattle.model.specs.Sizes.{rated}
-use Rattle.model.specs.State.{Row, none, State, queue}
-use Rattle.model.specs.Standing.{All, Standing}
+use Rattle.model.specs.State.{none}
+use Rattle.model.specs.Standing.{All}
 use Rattle.model.specs.Check.{halt, Fitted}
 use Rattle.model.specs.Check as model
 use Rattle.model.proofs.Queue.{and-l, and-r}
 use Rattle.model.proofs.Reflect.{says-standing}
-use Rattle.tables.specs.declared.Sizes.{Sizes}
-use Rattle.checks.specs.Decode.{Tables, mark, sizesOf, decoded, decodedBy, cutBoth, grainAt, grainsPart, placeAt, placesOf, queueAt, queuesOf}
-use Rattle.checks.specs.Check.{Sized, sized, legible, standing, checked}
-use Rattle.checks.specs.Held.{Hold, Fits, Answered, Accepted}
+use Rattle.checks.specs.Decode.{Tables, mark, sizesOf, decoded, cutBoth, grainAt, grainsPart, placesOf, queuesOf}
+use Rattle.checks.specs.Check.{sized, legible, standing, checked}
+use Rattle.checks.specs.Held.{Fits, Answered, Accepted}
 use Rattle.checks.proofs.Cut.{cut-long}
-use Rattle.checks.proofs.Same.{Legible, legible-means}
+use Rattle.checks.proofs.Same.{legible-means}
 use Rattle.checks.proofs.Stages.{sized-means}
 use Rattle.checks.proofs.Holding.{held}
 

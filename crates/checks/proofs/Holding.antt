@@ -1,11 +1,11 @@
 -- Tables that are long enough, whose counts are within their room, hold the state that they are read as, once its facts stand. Assumes nothing.
 use mathlib.Core.Path.{_≡_, refl, sym, ap, _∙_, subst}
 use Prim.Native.Nat.{ℕ, zero, suc, _+_, _-_, _*_, _≤_, _<_}
-use native.Mathlib.Nat.{zero-mul, suc-mul, not-suc-le-zero, le-of-suc-le-suc, mul-le-mul-right}
+use native.Mathlib.Nat.{zero-mul, suc-mul, mul-le-mul-right}
 use native.Mathlib.Numerals.{add-one}
 use native.Mathlib.Omega.{arith}
 use mathlib.Core.List.{List, [], _∷_, _++_}
-use mathlib.Core.Bool.{Bool, true, false, _&&_, _||_}
+use mathlib.Core.Bool.{Bool, true, false, _||_}
 use lib.Dec.{eqb}
 use lib.ListN.{length, getD, take, drop, length-append, length-drop, take-append-drop}
 use lib.Seq.{take-add, drop-drop, drop-cons, length-take-le}
@@ -16,18 +16,16 @@ use Rattle.order.specs.Numbers.{last}
 use Rattle.order.proofs.Compare.{lt-asym}
 use Rattle.model.specs.declared.Place.{Place}
 use Rattle.model.specs.Grid.{cells}
-use Rattle.model.specs.State.{Row, none, State, listed, has}
+use Rattle.model.specs.State.{Row, none, listed, has}
 use Rattle.model.specs.Standing.{All, Held, Numbers, Side, Standing}
 use Rattle.model.proofs.Queue.{of-T, fine-top}
 use Rattle.tables.specs.declared.Sizes.{Sizes}
 use Rattle.tables.specs.Layout.{places, grainReals, rowNums, placeNums, placeReals, queueNums, queueReals}
-use Rattle.tables.specs.Holds.{Ranged, Grained, Rows, Listed, Good, Tabled, Heaped, Queued, Holds}
-use Rattle.checks.specs.Decode.{Tables, decodedBy, cut, cutBoth, homesPart, membersPart, grainsPart, grainAt, grainsOf, rowAt, rowsOf, placeAt, placesOf, queueAt, queuesOf}
-use Rattle.checks.specs.Check.{Sized, counted, listsNeed, grainsNeed, queueNeed, eventsNeed, listsBody, grainsBody, queueBody, eventsBody, orderBody}
-use Rattle.checks.proofs.Cut.{drop-next, cut-long, both-long, both-at, cut-at, counted-at, both-take}
-use Rattle.checks.proofs.OneRow.{live-long, row-full}
-use Rattle.checks.proofs.OnePlace.{queue-full}
-use Rattle.checks.proofs.Same.{Legible}
+use Rattle.tables.specs.Holds.{Grained, Rows, Listed, Good, Tabled, Heaped, Holds}
+use Rattle.checks.specs.Decode.{Tables, decodedBy, cut, cutBoth, grainsPart, grainAt, rowAt, rowsOf, placeAt, placesOf, queueAt}
+use Rattle.checks.specs.Check.{Legible, Sized, counted, listsNeed, grainsNeed, listsBody, grainsBody, queueBody, eventsBody, orderBody}
+use Rattle.checks.proofs.Cut.{drop-next, cut-long, both-long, counted-at}
+use Rattle.checks.proofs.OneRow.{live-long}
 
 -- ---- some places of a list, one by one
 abbrev tab : {A : Type 0} → List A → A → ℕ → ℕ → List A

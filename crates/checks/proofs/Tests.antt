@@ -1,15 +1,14 @@
 -- The tests that join others, as the code answers them; and the floats of a grain. Assumes nothing.
-use mathlib.Core.Path.{_≡_, refl, sym, ap, _∙_}
-use Prim.Native.Nat.{ℕ, _+_, _*_, _≤_}
+use mathlib.Core.Path.{_≡_, sym, ap, _∙_}
+use Prim.Native.Nat.{ℕ, _*_, _≤_}
 use native.Mathlib.Nat.{mul-le-mul}
 use native.Mathlib.Omega.{arith}
 use mathlib.Core.List.{List, [], _∷_}
 use mathlib.Core.Bool.{Bool, true, false, _&&_}
-use lib.Dec.{T, eqb}
+use lib.Dec.{eqb}
 use lib.ListN.{length, getD, take, drop}
 use lib.Ieee.{Float, nan, le, fits}
 use lib.Ieee.Scale.{finite}
-use Rattle.halting.specs.Out.{pick}
 use Rattle.halting.specs.Every.{every}
 use Rattle.order.specs.Numbers.{nine, fortyeight}
 use Rattle.scheduler.specs.Heap.{headIn}

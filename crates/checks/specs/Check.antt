@@ -1,7 +1,7 @@
 -- 01: "A run checks 2, then the halt mark, then 3, then 10", over the lent tables. Assumes nothing: these are definitions.
 use Prim.Native.Nat.{ℕ, zero, suc, _+_, _-_, _*_, _≤_}
 use mathlib.Core.Path.{_≡_}
-use mathlib.Core.List.{List, [], _∷_}
+use mathlib.Core.List.{List}
 use mathlib.Core.Bool.{Bool, true, _&&_}
 use lib.Dec.{leb}
 use lib.ListN.{length, getD, take, drop}
@@ -85,6 +85,13 @@ legibleBy z l q =
 
 abbrev pub legible : Tables → Bool
 legible t = legibleBy (sizesOf (t .lists)) (t .lists) (t .queue)
+
+pub record Legible (z : Sizes) (l q : List ℕ) : Type 0 where
+  pub flag0 : getD l 4 0 ≤ 1
+  pub flag1 : getD l 5 0 ≤ 1
+  pub homes : counted homeRoom (homeRoom + 1) (z .grains) (homesPart l) ≡ true
+  pub members : counted memberRoom (memberRoom + 1) (z .cells) (membersPart (z .grains) l) ≡ true
+  pub events : counted (z .room) (z .room * 4 + 1) (z .cells) q ≡ true
 
 unfoldable pub standing : Tables → Bool
 standing t = legible t && model.standing (decoded t)

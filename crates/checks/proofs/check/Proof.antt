@@ -1,18 +1,12 @@
-use mathlib.Core.Path.{_≡_, refl, sym, ap, _∙_}
-use borrow.Author.Tests.{lt-ltb, le-ltb, le-leb, lt-leb, eq-eqb, ne-eqb, not-true, not-false}
-use Rattle.checks.proofs.Stages.{sized-means, homes-rowed, members-rowed, queue-rowed, part-1, part-2, part-3, part-4, part-5, linked-lent, queued-lent, check-2, check-mark, check-3, check-10, check-0}
+-- `check` meets its contract. Assumes nothing.
+use mathlib.Core.Path.{sym, _∙_}
+use borrow.Author.Tests.{not-true, not-false}
+use Rattle.checks.proofs.Stages.{sized-means, check-2, check-mark, check-3, check-10, check-0}
 use Rattle.checks.specs.Decode.{tables}
 use native.Mathlib.Omega.{arith}
 use borrow.Author.Needs.{needs}
 use Rattle.checks.proofs.check.Statement.{statement}
 use Rattle.checks.proofs.check.Tie as tie
-use Rattle.checks.proofs.check.Reads as reads
-use Rattle.checks.proofs.check.Lts as lts
-use Rattle.checks.proofs.floats.known.Reads as known-reads
-use Rattle.checks.proofs.halt.Reads as halt-reads
-use Rattle.checks.proofs.rated.Reads as rated-reads
-use Rattle.checks.proofs.sized.Reads as sized-reads
-use Rattle.checks.proofs.standing.Reads as standing-reads
 
 known-requires : tie.Need-known-requires
 known-requires c κs = search needs

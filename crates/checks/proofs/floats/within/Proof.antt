@@ -1,15 +1,10 @@
-use native.Mathlib.Omega.{arith}
-use borrow.Author.Needs.{needs}
+-- `floats::within` meets its contract. Assumes nothing.
 use Rattle.checks.proofs.floats.within.Statement.{statement}
 use Rattle.checks.proofs.floats.within.Tie as tie
-use Rattle.checks.proofs.floats.within.Reads as reads
-use Rattle.checks.proofs.floats.within.Lts as lts
 
--- src/floats.rt:36:9
 returns : tie.Need-returns
 returns c = rw (c .if1 .taken)
 
--- src/floats.rt:32:1
 returns-2 : tie.Need-returns-2
 returns-2 c = rw (c .if1 .left)
 
