@@ -88,7 +88,7 @@ accepted rate t r A e = from (checked-means rate t (sym (A .is) ∙ e))
         let b = both t (p .stands) in
         let L = legible-means z (t .lists) (t .queue) (b .0) in
         let F = says-standing (decoded t) (fitted t (A .grains-fit) (A .events-fit)) .means (b .1) in
-        record { sized = S; hold = record { sizes = refl; mark-is = refl; box-is = refl; clock-is = refl; body = held z t S L F }; standing = F }
+        record { sized = S; hold = record { sizes = refl; mark-is = refl; flags = (L .flag0, L .flag1); box-is = refl; clock-is = refl; body = held z t S L F }; standing = F }
 
 -- tables that pass check 2 pass it as a state
 pub sized-model : (t : Tables) → sized t ≡ true → model.sized (decoded t) ≡ true

@@ -83,7 +83,7 @@ module _ (room : ℕ) (r : Row Place) (f : length (places r) ≡ room) where
       each [] = tt
       each (p ∷ ps) = (refl, each ps)
 
-  long-nums : length (queueNums r) ≡ room * 4 + 1
+  pub long-nums : length (queueNums r) ≡ room * 4 + 1
   long-nums = ap suc (wide-nums (places r) ∙ ap (λ (n : ℕ). n * 4) f) ∙ sym (add-one (room * 4))
 
   long-reals : length (queueReals r) ≡ room * 10
@@ -93,7 +93,7 @@ module _ (room : ℕ) (r : Row Place) (f : length (places r) ≡ room) where
   queue-back y z = ap (rowOf (length (r .live))) (places-back room (places r) y z f) ∙ row-back r
 
 -- ---- the parts
-row-wide : (k : ℕ) (rs : List (Row ℕ)) → Every (λ (r : Row ℕ). length (places r) ≡ k) rs → Every (λ (r : Row ℕ). length (rowNums r) ≡ k + 1) rs
+pub row-wide : (k : ℕ) (rs : List (Row ℕ)) → Every (λ (r : Row ℕ). length (places r) ≡ k) rs → Every (λ (r : Row ℕ). length (rowNums r) ≡ k + 1) rs
 row-wide k [] v = tt
 row-wide k (r ∷ rs) v = (ap suc (v .0) ∙ sym (add-one k), row-wide k rs (v .1))
 
@@ -135,10 +135,10 @@ same-state : {b b′ : Domain} {c c′ : Float} {m m′ r r′ : ℕ} {g g′ : 
 same-state b c m r g h l q s = rw (b, c, m, r, g, h, l, q, s)
 
 module _ (z : Sizes) (t : Tables) (s : State) (H : Hold z t s) where
-  abbrev beyond : List ℕ
+  abbrev pub beyond : List ℕ
   beyond = drop (listsNeed z - 6) (drop 6 (t .lists))
 
-  lists-cut : drop 6 (t .lists) ≡ flat rowNums (s .homes) ++ (flat rowNums (s .members) ++ beyond)
+  pub lists-cut : drop 6 (t .lists) ≡ flat rowNums (s .homes) ++ (flat rowNums (s .members) ++ beyond)
   lists-cut =
       sym (take-append-drop (listsNeed z - 6) (drop 6 (t .lists))) ∙ ap (λ (l : List ℕ). l ++ beyond) (H .body .listed .is)
       ∙ append-assoc (flat rowNums (s .homes)) (flat rowNums (s .members)) beyond
@@ -146,22 +146,27 @@ module _ (z : Sizes) (t : Tables) (s : State) (H : Hold z t s) where
   homes-back : rowsOf 8 (z .grains) (drop 6 (t .lists)) ≡ s .homes
   homes-back = ap (rowsOf 8 (z .grains)) lists-cut ∙ rows-back 8 (s .homes) (flat rowNums (s .members) ++ beyond) (H .body .listed .homes)
 
-  members-back : rowsOf 32 (z .cells) (drop (6 + z .grains * 9) (t .lists)) ≡ s .members
-  members-back =
+  pub members-cut : drop (6 + z .grains * 9) (t .lists) ≡ flat rowNums (s .members) ++ beyond
+  members-cut =
       let R = H .body .listed .homes in
       let long : length (flat rowNums (s .homes)) ≡ z .grains * 9 = length-flat rowNums 9 (s .homes) (row-wide 8 (s .homes) (R .wide)) ∙ ap (λ (n : ℕ). n * 9) (R .many) in
-      ap (rowsOf 32 (z .cells)) (sym (drop-drop (z .grains * 9) 6 (t .lists)) ∙ ap (drop (z .grains * 9)) lists-cut ∙ drop-at (flat rowNums (s .homes)) (flat rowNums (s .members) ++ beyond) (z .grains * 9) long)
-      ∙ rows-back 32 (s .members) beyond (H .body .listed .members)
+      sym (drop-drop (z .grains * 9) 6 (t .lists)) ∙ ap (drop (z .grains * 9)) lists-cut ∙ drop-at (flat rowNums (s .homes)) (flat rowNums (s .members) ++ beyond) (z .grains * 9) long
+
+  members-back : rowsOf 32 (z .cells) (drop (6 + z .grains * 9) (t .lists)) ≡ s .members
+  members-back = ap (rowsOf 32 (z .cells)) members-cut ∙ rows-back 32 (s .members) beyond (H .body .listed .members)
 
   all-grains-back : grainsOf (z .grains) (drop 3 (t .grains)) ≡ s .grains
   all-grains-back =
       ap (grainsOf (z .grains)) (sym (take-append-drop (grainsNeed z - 3) (drop 3 (t .grains))) ∙ ap (λ (l : List Float). l ++ drop (grainsNeed z - 3) (drop 3 (t .grains))) (H .body .grained .is))
       ∙ grains-back (z .grains) (s .grains) (drop (grainsNeed z - 3) (drop 3 (t .grains))) (H .body .grained .many)
 
+  pub queue-cut : t .queue ≡ flat queueNums (s .queues) ++ drop (queueNeed z) (t .queue)
+  queue-cut = sym (take-append-drop (queueNeed z) (t .queue)) ∙ ap (λ (l : List ℕ). l ++ drop (queueNeed z) (t .queue)) (H .body .queued .tables .queue-is)
+
   all-queues-back : queuesOf (z .room) (z .cells) (t .queue) (t .events) ≡ s .queues
   all-queues-back =
       let T = H .body .queued .tables in
-      ap (λ (l : List ℕ). queuesOf (z .room) (z .cells) l (t .events)) (sym (take-append-drop (queueNeed z) (t .queue)) ∙ ap (λ (l : List ℕ). l ++ drop (queueNeed z) (t .queue)) (T .queue-is))
+      ap (λ (l : List ℕ). queuesOf (z .room) (z .cells) l (t .events)) queue-cut
       ∙ ap (queuesOf (z .room) (z .cells) (flat queueNums (s .queues) ++ drop (queueNeed z) (t .queue)))
       (sym (take-append-drop (eventsNeed z) (t .events)) ∙ ap (λ (l : List Float). l ++ drop (eventsNeed z) (t .events)) (T .events-is))
       ∙ queues-back (z .room) (z .cells) (s .queues) (drop (queueNeed z) (t .queue)) (drop (eventsNeed z) (t .events)) (T .many) (T .good)
