@@ -16,7 +16,8 @@ use Rattle.model.specs.declared.Place.{Place}
 use Rattle.model.specs.Grid.{cells}
 use Rattle.model.specs.Sizes.{rated}
 use Rattle.model.specs.State.{Row, none, State, queue, listed}
-use Rattle.model.specs.Standing.{All, Held, Standing}
+use Rattle.model.specs.Sound.{Stands}
+use Rattle.model.proofs.Stands.{standing as facts, sound-fitted}
 use Rattle.model.specs.Check.{halt, Fitted}
 use Rattle.model.specs.Check as model
 use Rattle.model.proofs.Reflect.{says-standing}
@@ -47,19 +48,6 @@ rows-counted : (k : ℕ) {m n : ℕ} (rs : List (Row ℕ)) (y : List ℕ) → Ro
 rows-counted k {m = m} rs y R =
     counted-flat rowNums k (k + 1) (λ (r : Row ℕ). length (rowNums r) ≡ k + 1) (λ r p. p) (λ r y p. live-few r (omega arith)) m rs y (R .many) (row-wide k rs (R .wide))
 
--- ---- times of a state whose facts stand are 64-bit floats
-held-timed : (n c : ℕ) (l : List ℕ) (ps : List Place) → All (Held n c l) ps → All (λ e. T (fits binary64 (e .time))) ps
-held-timed n c l [] a = tt
-held-timed n c l (p ∷ ps) a = (a .0 .fit, held-timed n c l ps (a .1))
-
-stands-fitted : (s : State) → Standing s → Fitted s
-stands-fitted s F = record { clock = F .sound .fit; times = λ c. go c (decLt c (cells (s .box))) }
-  where
-    go : (c : ℕ) → Dec (c < cells (s .box)) → All (λ e. T (fits binary64 (e .time))) (queue s c)
-    go c (yes h) = held-timed (cells (s .box)) c (listed s c) (queue s c) (F .sound .queues c h .held)
-    go c (no h) =
-        subst (λ (r : Row Place). All (λ e. T (fits binary64 (e .time))) (r .live)) (sym (List·getD-eq-default (s .queues) none (let e = F .sound .long in omega arith))) tt
-
 module _ (z : Sizes) (t : Tables) (s : State) (H : Hold z t s) where
   legible-held : legibleBy z (t .lists) (t .queue) ≡ true
   legible-held =
@@ -73,15 +61,15 @@ module _ (z : Sizes) (t : Tables) (s : State) (H : Hold z t s) where
             ∙ counted-flat queueNums room (room * 4 + 1) (Good room) (λ r g. long-nums room r (g .full)) (λ r y g. live-few r (g .full)) (z .cells) (s .queues) (drop (queueNeed z) (t .queue)) (H .body .queued .tables .many) (H .body .queued .tables .good),
       )
 
-  standing-held : Standing s → standing t ≡ true
+  standing-held : Stands s → standing t ≡ true
   unfolding standing
   standing-held F =
       let a : legible t ≡ true = ap (λ (y : Sizes). legibleBy y (t .lists) (t .queue)) (sym (H .sizes)) ∙ legible-held in
-      let b : model.standing (decoded t) ≡ true = ap model.standing (read-back z t s H) ∙ says-standing s (stands-fitted s F) .holds F in
+      let b : model.standing (decoded t) ≡ true = ap model.standing (read-back z t s H) ∙ says-standing s (sound-fitted s (F .sound)) .holds (facts s F) in
       rw (a, b)
 
   -- THEY PASS AGAIN
-  pub passes : Sized z t → Standing s → (rate : Float) → rated rate ≡ true → checked rate t ≡ 0
+  pub passes : Sized z t → Stands s → (rate : Float) → rated rate ≡ true → checked rate t ≡ 0
   passes S F rate r =
       let m : mark (t .lists) ≡ 0 = H .mark-is ∙ F .free in
       sym (check-0 rate t (means-sized t (subst (λ (y : Sizes). Sized y t) (H .sizes) S)) (ap halt m ∙ unmarked) r (standing-held F))

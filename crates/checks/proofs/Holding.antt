@@ -17,7 +17,8 @@ use Rattle.order.proofs.Compare.{lt-asym}
 use Rattle.model.specs.declared.Place.{Place}
 use Rattle.model.specs.Grid.{cells}
 use Rattle.model.specs.State.{Row, none, listed, has}
-use Rattle.model.specs.Standing.{All, Held, Numbers, Side, Standing}
+use Rattle.model.specs.Standing.{All}
+use Rattle.model.specs.Sound.{Held, Numbers, Side, Stands}
 use Rattle.model.proofs.Queue.{of-T, fine-top}
 use Rattle.tables.specs.declared.Sizes.{Sizes}
 use Rattle.tables.specs.Layout.{places, grainReals, rowNums, placeNums, placeReals, queueNums, queueReals}
@@ -152,7 +153,7 @@ side-rows k rs {m = m} {n = n} p q u = rows (rw (p, q) at u)
 rows-flat : (v n : ℕ) (l : List ℕ) → counted v (v + 1) n l ≡ true → n * (v + 1) ≤ length l → flat rowNums (rowsOf v n l) ≡ take (n * (v + 1)) l
 rows-flat v n l c h = cut-flat (rowAt v) rowNums (v + 1) n l (λ i g. row-read v (drop (i * (v + 1)) l) (counted-at v (v + 1) n l i c g) (inside n (v + 1) i l h g))
 
-module _ (z : Sizes) (t : Tables) (S : Sized z t) (L : Legible z (t .lists) (t .queue)) (F : Standing (decodedBy z t)) where
+module _ (z : Sizes) (t : Tables) (S : Sized z t) (L : Legible z (t .lists) (t .queue)) (F : Stands (decodedBy z t)) where
   abbrev g9 : ℕ
   g9 = z .grains * 9
 

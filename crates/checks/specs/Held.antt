@@ -6,7 +6,7 @@ use lib.Dec.{T}
 use lib.ListN.{getD}
 use lib.Ieee.{Float, nan, binary64, fits}
 use Rattle.model.specs.State.{State}
-use Rattle.model.specs.Standing.{Standing}
+use Rattle.model.specs.Sound.{Stands}
 use Rattle.tables.specs.declared.Sizes.{Sizes}
 use Rattle.tables.specs.Holds.{Holds}
 use Rattle.checks.specs.Decode.{Tables, mark, sizesOf, boxIn, decoded}
@@ -34,4 +34,4 @@ pub record Answered (rate : Float) (t : Tables) (r : ℕ) : Type 0 where
 pub record Accepted (t : Tables) : Type 0 where
   pub sized : Sized (sizesOf (t .lists)) t
   pub hold : Hold (sizesOf (t .lists)) t (decoded t)
-  pub standing : Standing (decoded t)
+  pub stands : Stands (decoded t)
