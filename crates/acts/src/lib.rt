@@ -1,5 +1,6 @@
-// The acts: each done whole or refused, over the lent tables.
+// The acts, one function for each, over the lent tables: the heap in its table (heap), the queues of events (queue), entering and leaving a cell (links),
+// and the grains' numbers (store).
 pub mod heap;
+pub mod links;
 pub mod queue;
-// The acts, one function for each, over the lent tables.
-pub mod links; // links.rt: entering a cell and leaving it
+pub mod store;

@@ -20,6 +20,7 @@ pub mod Grid
 pub mod Placed
 pub mod Born
 pub mod Starts
+pub mod Starred
 pub mod Reached
 pub mod Demand3
 pub mod Performs

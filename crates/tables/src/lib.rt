@@ -1,7 +1,7 @@
-// The lent tables: how many grains, cells and event places they hold, and the leaves that read and write them.
+// The lent tables: how many grains, cells and event places they hold, and the leaves that read and write them: grains, rows of numbers, event places.
+pub mod grains;
 pub mod places;
-pub mod grains; // grains.rt: the grains' floats
-pub mod rows; // rows.rt: rows of numbers
+pub mod rows;
 
 pub struct Sizes {
     pub grains: usize,

@@ -1,0 +1,282 @@
+-- 01, "Marked examples": the 14 starred ones as one table with one claim over its rows (`starred-hold`), and the others, with examples of what
+-- those leave out, as a second (`unstarred-hold`). Each row goes through the definitions that the contracts cite. Assumes nothing.
+use Prim.Native.Nat.{ℕ, _^_}
+use mathlib.Core.Path.{_≡_, refl, ap}
+use mathlib.Core.List.{List, [], _∷_}
+use mathlib.Core.Bool.{Bool, true, false, _&&_, Bool·beq}
+use lib.Dec.{T, eqb, eqb→eq}
+use lib.IntN.{ℤ, pos, negsuc}
+use lib.ListN.{length}
+use lib.Count.{leadingZeros}
+use lib.Ieee.{Float, nan, inf, fin, binary64, ofBits, toBits, round, add, sub, mul, div, neg, lt, le, eq, ofInt, toUnsigned}
+use lib.Ieee.Fits.{and-l, and-r}
+use Rattle.order.specs.Numbers.{fzero, half, one, two, nine}
+use Rattle.root.specs.Isqrt.{near, root}
+use Rattle.root.specs.Root.{rootOf, sqrtOf}
+use Rattle.myvec.specs.declared.MyVec.{MyVec}
+use Rattle.myvec.specs.Vec.{vec}
+use Rattle.model.specs.declared.Domain.{Domain}
+use Rattle.model.specs.declared.Particle.{Particle}
+use Rattle.model.specs.declared.Place.{Place}
+use Rattle.model.specs.declared.Event.the-variants.{MoveOutOfCell}
+use Rattle.model.specs.declared.Contact.{Contact}
+use Rattle.model.specs.declared.Contact.the-variants.{Never, After, Refused}
+use Rattle.model.specs.declared.Plan.{Plan}
+use Rattle.model.specs.declared.Plan.the-variants as plan
+use Rattle.model.specs.Grid.{boxOf, cellsOf, across, below, above, position}
+use Rattle.model.specs.Stepping.{grainOf, newPos}
+use Rattle.model.specs.FromPToC.{upFrom, reached, rows, cellsOfGrain}
+use Rattle.model.specs.Collision.{aOf, bOf, cOf, dOf, tooSlow, collide}
+use Rattle.model.specs.Moves.{later, toNeighbour, outOfCell}
+use Rattle.model.specs.Walls.{wall}
+use Rattle.model.specs.Events.{zeroV, placeOf, insertBy}
+use Rattle.model.specs.Start.{Begun, refused, started, start}
+use Rattle.model.specs.Standing.{All}
+use Rattle.model.specs.Check.{all}
+
+-- ---- what an example says: one or more equations, between numbers, lists of them, floats, tests, or times
+pub data Fact : Type 0 where
+  number : ℕ → ℕ → Fact
+  numbers : List ℕ → List ℕ → Fact
+  float : Float → Float → Fact
+  test : Bool → Bool → Fact
+  when : Contact → Contact → Fact
+
+abbrev pub Holds : Fact → Type 0
+Holds (number x y) = x ≡ y
+Holds (numbers x y) = x ≡ y
+Holds (float x y) = x ≡ y
+Holds (test x y) = x ≡ y
+Holds (when x y) = x ≡ y
+
+abbrev pub Row : Type 0
+Row = List Fact
+
+abbrev pub Claim : Row → Type 0
+Claim r = All Holds r
+
+-- ---- the numbers, boxes and grains of the examples
+-- a / b and -a / b
+abbrev plus : ℕ → ℕ → Float
+plus a b = round binary64 false a b
+
+abbrev minus : ℕ → ℕ → Float
+minus a b = round binary64 true a b
+
+-- 9 by 9, periodic or wall-bounded in direction 0
+abbrev periodicBox : Domain
+periodicBox = boxOf (vec nine nine) true true
+
+abbrev walledBox : Domain
+walledBox = boxOf (vec nine nine) false true
+
+-- a grain in the middle row
+abbrev mover : Float → Float → Particle
+mover x v = grainOf (vec x (plus 9 2)) (vec v fzero) fzero half
+
+-- the dt of a plan at the clock 0
+abbrev dt : Plan → Contact
+dt plan.Nothing = Never
+dt (plan.Due e) = After (e .time)
+dt plan.Refused = Refused
+
+-- in direction 0 and cell c: when it enters the neighbour, leaves the cell, reflects
+abbrev entering : Domain → ℕ → Particle → Contact
+entering b c p = dt (toNeighbour 0 b fzero c 0 p)
+
+abbrev leaving : Domain → ℕ → Particle → Contact
+leaving b c p = dt (outOfCell 0 b fzero c 0 p)
+
+abbrev reflecting : Domain → ℕ → Particle → Contact
+reflecting b c p = dt (wall 0 b fzero c 0 p)
+
+-- the grains that some events name, in order; an event of grain i at a time
+abbrev grains : List Place → List ℕ
+grains [] = []
+grains (x ∷ xs) = x .p ∷ grains xs
+
+abbrev ofGrain : ℕ → Float → Place
+ofGrain i t = placeOf (record { time = t; event = MoveOutOfCell i zeroV 0 })
+
+-- the number of a refused start
+abbrev refusal : Begun → ℕ
+refusal (refused r i) = r
+refusal (started s) = 0
+
+abbrev startIn : Float → Float → Begun
+startIn l0 l1 = start (boxOf (vec l0 l1) true true) 64 []
+
+-- ---- the 14 starred examples
+unfoldable pub starred : List Row
+starred =
+    -- cells of a length
+    (number (cellsOf (plus 9 1)) 3 ∷ [])
+    ∷ (number (cellsOf (plus 12 1)) 4 ∷ [])
+    ∷ (number (cellsOf (plus 48 1)) 16 ∷ [])
+    -- cell 0's neighbours
+    ∷ (number (below 0 periodicBox 0) 2 ∷ number (above 0 periodicBox 0) 1 ∷ [])
+    ∷ (number (below 1 periodicBox 0) 6 ∷ number (above 1 periodicBox 0) 3 ∷ [])
+    -- a grain's cells
+    ∷ (numbers (cellsOfGrain periodicBox (vec (plus 1 4) (plus 9 2))) (3 ∷ 5 ∷ []) ∷ [])
+    ∷ (numbers (cellsOfGrain periodicBox (vec (plus 5 2) (plus 9 2))) (3 ∷ 4 ∷ []) ∷ [])
+    -- collisions
+    ∷ (let x = vec (plus 3 1) fzero in
+    let v = vec (minus 2 1) fzero in
+    float (aOf v) (plus 4 1) ∷ float (bOf x v) (minus 6 1) ∷ float (cOf x) (plus 8 1) ∷ float (dOf (aOf v) (bOf x v) (cOf x)) (plus 4 1) ∷ when (collide x v) (After (plus 1 1)) ∷ [])
+    ∷ (let x = vec (plus 3 1) (plus 1 1) in
+    let v = vec (minus 1 1) fzero in
+    float (dOf (aOf v) (bOf x v) (cOf x)) fzero ∷ when (collide x v) (After (plus 3 1)) ∷ [])
+    ∷ (when (collide (vec (plus 3 1) (plus 3 2)) (vec (minus 1 1) fzero)) Never ∷ [])
+    ∷ (when (collide (vec (plus 1 1) fzero) (vec (minus 2 1) fzero)) (After fzero) ∷ [])
+    -- the test on a, alone and in the collision
+    ∷ (let v = vec (minus 1 (2 ^ 26)) fzero in
+    test (tooSlow (aOf v)) false ∷ when (collide (vec (plus 3 1) fzero) v) (After (plus (2 ^ 27) 1)) ∷ [])
+    ∷ (let v = vec (minus 1 (2 ^ 27)) fzero in
+    test (tooSlow (aOf v)) true ∷ when (collide (vec (plus 3 1) fzero) v) Never ∷ [])
+    -- a move from cell column 1
+    ∷ (let p = mover (plus 9 2) one in
+    when (entering periodicBox 4 p) (After (plus 1 1)) ∷ when (leaving periodicBox 4 p) (After (plus 2 1)) ∷ [])
+    ∷ []
+
+fourteen : length starred ≡ 14
+unfolding starred
+fourteen = refl
+
+-- ---- the others
+unfoldable pub unstarred : List Row
+unstarred =
+    -- lengths out of range, in either direction
+    (number (refusal (startIn (plus 17 2) nine)) 1 ∷ number (refusal (startIn nine (plus 17 2))) 1 ∷ [])
+    ∷ (number (refusal (startIn (plus 97 2) nine)) 1 ∷ number (refusal (startIn nine (plus 97 2))) 1 ∷ [])
+    -- the last column of walls: a reflection, and no event
+    ∷ (when (reflecting walledBox 5 (mover (plus 15 2) one)) (After (plus 1 1)) ∷ [])
+    ∷ (let p = mover (plus 17 2) one in
+    when (reflecting walledBox 5 p) Never ∷ when (entering walledBox 5 p) Never ∷ when (leaving walledBox 5 p) Never ∷ [])
+    -- across the periodic edge: a grain at 8.5 seen from column 0, one at 0.5 seen from column 2
+    ∷ (when (entering periodicBox 3 (mover (plus 17 2) one)) (After (plus 3 1)) ∷ [])
+    ∷ (when (entering periodicBox 5 (mover half (minus 1 1))) (After (plus 3 1)) ∷ [])
+    -- (1 / a)·(-√d - b) where dividing by a rounds to another float
+    ∷ (when (collide (vec (plus 3 1) fzero) (vec (minus 21 1) fzero)) (After (ofBits binary64 0x3fb8_6186_1861_8619)) ∷ [])
+    -- an event goes after one that is as early, and before a later one
+    ∷ (numbers (grains (insertBy (ofGrain 2 one) (ofGrain 0 one ∷ ofGrain 1 two ∷ []))) (0 ∷ 2 ∷ 1 ∷ []) ∷ [])
+    ∷ []
+
+-- ---- the test of a row
+abbrev sameList : List ℕ → List ℕ → Bool
+sameList [] [] = true
+sameList [] (y ∷ ys) = false
+sameList (x ∷ xs) [] = false
+sameList (x ∷ xs) (y ∷ ys) = eqb x y && sameList xs ys
+
+abbrev sameInt : ℤ → ℤ → Bool
+sameInt (pos a) (pos b) = eqb a b
+sameInt (pos a) (negsuc b) = false
+sameInt (negsuc a) (pos b) = false
+sameInt (negsuc a) (negsuc b) = eqb a b
+
+abbrev sameFloat : Float → Float → Bool
+sameFloat nan nan = true
+sameFloat nan (inf t) = false
+sameFloat nan (fin t n d) = false
+sameFloat (inf s) nan = false
+sameFloat (inf s) (inf t) = Bool·beq s t
+sameFloat (inf s) (fin t n d) = false
+sameFloat (fin s m e) nan = false
+sameFloat (fin s m e) (inf t) = false
+sameFloat (fin s m e) (fin t n d) = Bool·beq s t && (eqb m n && sameInt e d)
+
+abbrev sameTime : Contact → Contact → Bool
+sameTime Never Never = true
+sameTime Never (After y) = false
+sameTime Never Refused = false
+sameTime (After x) Never = false
+sameTime (After x) (After y) = sameFloat x y
+sameTime (After x) Refused = false
+sameTime Refused Never = false
+sameTime Refused (After y) = false
+sameTime Refused Refused = true
+
+abbrev good : Fact → Bool
+good (number x y) = eqb x y
+good (numbers x y) = sameList x y
+good (float x y) = sameFloat x y
+good (test x y) = Bool·beq x y
+good (when x y) = sameTime x y
+
+-- ---- a test that passes makes the claim good
+same-test : (x y : Bool) → T (Bool·beq x y) → x ≡ y
+same-test true true h = refl
+same-test true false h = absurd h
+same-test false true h = absurd h
+same-test false false h = refl
+
+same-list : (x y : List ℕ) → T (sameList x y) → x ≡ y
+same-list [] [] h = refl
+same-list [] (y ∷ ys) h = absurd h
+same-list (x ∷ xs) [] h = absurd h
+same-list (x ∷ xs) (y ∷ ys) h =
+    let p = eqb→eq x y (and-l (eqb x y) (sameList xs ys) h) in
+    let q = same-list xs ys (and-r (eqb x y) (sameList xs ys) h) in
+    λ i. p i ∷ q i
+
+same-int : (a b : ℤ) → T (sameInt a b) → a ≡ b
+same-int (pos a) (pos b) h = ap pos (eqb→eq a b h)
+same-int (pos a) (negsuc b) h = absurd h
+same-int (negsuc a) (pos b) h = absurd h
+same-int (negsuc a) (negsuc b) h = ap negsuc (eqb→eq a b h)
+
+same-float : (x y : Float) → T (sameFloat x y) → x ≡ y
+same-float nan nan h = refl
+same-float nan (inf t) h = absurd h
+same-float nan (fin t n d) h = absurd h
+same-float (inf s) nan h = absurd h
+same-float (inf s) (inf t) h = ap inf (same-test s t h)
+same-float (inf s) (fin t n d) h = absurd h
+same-float (fin s m e) nan h = absurd h
+same-float (fin s m e) (inf t) h = absurd h
+same-float (fin s m e) (fin t n d) h =
+    let k = and-r (Bool·beq s t) (eqb m n && sameInt e d) h in
+    let p = same-test s t (and-l (Bool·beq s t) (eqb m n && sameInt e d) h) in
+    let q = eqb→eq m n (and-l (eqb m n) (sameInt e d) k) in
+    let r = same-int e d (and-r (eqb m n) (sameInt e d) k) in
+    λ i. fin (p i) (q i) (r i)
+
+same-time : (x y : Contact) → T (sameTime x y) → x ≡ y
+same-time Never Never h = refl
+same-time Never (After y) h = absurd h
+same-time Never Refused h = absurd h
+same-time (After x) Never h = absurd h
+same-time (After x) (After y) h = ap After (same-float x y h)
+same-time (After x) Refused h = absurd h
+same-time Refused Never h = absurd h
+same-time Refused (After y) h = absurd h
+same-time Refused Refused h = refl
+
+good-holds : (f : Fact) → T (good f) → Holds f
+good-holds (number x y) h = eqb→eq x y h
+good-holds (numbers x y) h = same-list x y h
+good-holds (float x y) h = same-float x y h
+good-holds (test x y) h = same-test x y h
+good-holds (when x y) h = same-time x y h
+
+all-holds : {A : Type 0} (p : A → Bool) (P : A → Type 0) → ((x : A) → T (p x) → P x) → (l : List A) → T (all p l) → All P l
+all-holds p P f [] h = tt
+all-holds p P f (x ∷ xs) h = (f x (and-l (p x) (all p xs) h), all-holds p P f xs (and-r (p x) (all p xs) h))
+
+good-rows : (l : List Row) → T (all (all good) l) → All Claim l
+good-rows = all-holds (all good) Claim (all-holds good Holds good-holds)
+
+-- ---- computed over the whole of each table
+starred-good : T (all (all good) starred)
+unfolding starred round add sub mul div neg lt le eq ofInt toUnsigned ofBits toBits rootOf sqrtOf near root leadingZeros across position newPos upFrom reached rows cellsOfGrain later toNeighbour outOfCell
+starred-good = tt
+
+pub starred-hold : All Claim starred
+starred-hold = good-rows starred starred-good
+
+unstarred-good : T (all (all good) unstarred)
+unfolding unstarred round add sub mul div neg lt le eq ofInt toUnsigned ofBits toBits rootOf sqrtOf near root leadingZeros across position newPos later toNeighbour outOfCell wall insertBy start
+unstarred-good = tt
+
+pub unstarred-hold : All Claim unstarred
+unstarred-hold = good-rows unstarred unstarred-good
