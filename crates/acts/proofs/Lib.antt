@@ -1,10 +1,11 @@
--- Laws of the acts: the scheduler in its table (Loaded), one row of events (Rows), all of them with the heap (Queues);
--- for callers, acts in a row (Told), what an act leaves (Frame), and tables that hold a sound state (FromSound).
+-- Laws of the acts: the scheduler in its table (Loaded), one row of events (Rows), all of them with the heap (Queues), entering and leaving (LinkLaws), storing and stepping (StoreLaws);
+-- for callers, acts in a row (Told), what the acts leave as it was (Frame, Touch), and tables that hold a sound state (FromSound).
 pub mod Loaded
 pub mod Rows
 pub mod Queues
 pub mod Told
 pub mod Frame
+pub mod Touch
 pub mod FromSound
--- The laws that callers of the acts cite.
 pub mod LinkLaws
+pub mod StoreLaws

@@ -9,6 +9,7 @@ use lib.ListN.{length, getD, set, take, drop}
 use lib.Seq.{take-at}
 use borrow.Author.Tests.{le-leb, lt-leb, lt-ltb, le-ltb}
 use borrow.Rule.Slice.PartMut.{midOf}
+use Rattle.chunks.specs.Flat.{Every}
 use Rattle.halting.specs.Out.{Out, out, pick}
 use Rattle.model.specs.Sizes.{memberRoom, homeRoom}
 use Rattle.model.specs.State.{Row, none, State, withLists, home, listed, has, pushed, pulled}
@@ -17,7 +18,7 @@ use Rattle.tables.specs.declared.Sizes.{Sizes}
 use Rattle.tables.specs.Layout.{places, rowNums}
 use Rattle.tables.specs.Holds.{Listed}
 use Rattle.tables.specs.Rows.{InNums}
-use Rattle.tables.proofs.ListLaws.{homeFrom, memberFrom, homePart, homeBack, memberPart, memberBack, home-part, member-part, home-back, member-back, home-count, member-count, row-room, row-below, pushed-room, pushed-below, pulled-room, pulled-below}
+use Rattle.tables.proofs.ListLaws.{homeFrom, memberFrom, homePart, homeBack, memberPart, memberBack, home-part, member-part, home-back, member-back, home-count, member-count, home-below, member-below, row-room, row-below, pushed-room, pushed-below, pulled-room, pulled-below}
 use Rattle.acts.specs.Tell.{InLists, Pair, ListsTold}
 
 -- what the leaves say
@@ -125,3 +126,10 @@ module _ {z : Sizes} {g c : ℕ} {l : List ℕ} (hg : g < z .grains) (hc : c < z
             (pulled-room c (homeRow s g) (row-room (S .homes) g hg) (p .1))
             (pulled-below (z .cells) c (homeRow s g) (row-below (S .homes) g hg)),
       )
+
+-- ---- a part that shows a list names grains, or cells
+pub members-named : {z : Sizes} {l k : List ℕ} (c : ℕ) (s : State) → InLists z l s → c < z .cells → k ≡ listed s c → Every (λ (g : ℕ). g < z .grains) k
+members-named {z} c s S h e = subst (Every (λ (g : ℕ). g < z .grains)) (sym e) (member-below S c h)
+
+pub cells-named : {z : Sizes} {l k : List ℕ} (g : ℕ) (s : State) → InLists z l s → g < z .grains → k ≡ home s g → Every (λ (c : ℕ). c < z .cells) k
+cells-named {z} g s S h e = subst (Every (λ (c : ℕ). c < z .cells)) (sym e) (home-below S g h)

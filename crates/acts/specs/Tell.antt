@@ -5,6 +5,7 @@ use mathlib.Core.Bool.{true}
 use mathlib.Core.List.{List}
 use lib.Ieee.{Float}
 use Rattle.halting.specs.Out.{Out}
+use Rattle.model.specs.declared.Domain.{Domain}
 use Rattle.model.specs.State.{State, has, home, listed}
 use Rattle.tables.specs.declared.Sizes.{Sizes}
 use Rattle.tables.specs.Holds.{Listed, Grained}
@@ -35,3 +36,7 @@ Grains z t = (s : State) × InGrains z t s
 
 abbrev pub GrainsTold : Sizes → List Float → ℕ → Out State → Type 0
 GrainsTold z t r o = (r ≡ o .num) × InGrains z t (o .st)
+
+-- the box and the clock, which travel by value, are the state's
+abbrev pub At : Domain → Float → State → Type 0
+At b t s = (s .box ≡ b) × (s .clock ≡ t)

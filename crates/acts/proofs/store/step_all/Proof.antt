@@ -1,0 +1,22 @@
+use Rattle.acts.proofs.StoreLaws.{all-told}
+use Rattle.acts.specs.Tell.{InGrains}
+use Rattle.model.specs.Doing.{stepGrain}
+use native.Mathlib.Omega.{arith}
+use borrow.Author.Needs.{needs}
+use Rattle.acts.proofs.store.step_all.Statement.{statement}
+use Rattle.acts.proofs.store.step_all.Tie as tie
+use Rattle.acts.proofs.store.step_all.Reads as reads
+use Rattle.acts.proofs.store.step_all.Lts as lts
+use Rattle.acts.proofs.store.step_from.Reads as step-from-reads
+
+step-from-requires : tie.Need-step-from-requires
+step-from-requires c κs = search needs
+
+same-length : tie.Need-same-length
+same-length c = search needs
+
+returns : tie.Need-returns
+returns c = let b = c .before .before .before .before .before in let a = b .args in λ s S t. all-told (InGrains (a .z) (c .before .before .step-from .last .0)) stepGrain s (S .many) (c .before .before .step-from .ensures s S t)
+
+pub step-all-spec : {M : Type 1} → statement M
+step-all-spec = tie.close (tie.spec step-from-requires same-length returns)

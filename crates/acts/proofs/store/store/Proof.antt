@@ -1,0 +1,31 @@
+use Rattle.acts.proofs.StoreLaws.{store-refused, store-done}
+use Rattle.tables.proofs.GrainLaws.{grain-fits}
+use borrow.Author.Tests.{not-true, not-false}
+use mathlib.Core.Path.{sym, _∙_}
+use native.Mathlib.Omega.{arith}
+use borrow.Author.Needs.{needs}
+use Rattle.acts.proofs.store.store.Statement.{statement}
+use Rattle.acts.proofs.store.store.Tie as tie
+use Rattle.acts.proofs.store.store.Reads as reads
+use Rattle.acts.proofs.store.store.Lts as lts
+use Rattle.particle.proofs.fine_grain.Reads as fine-grain-reads
+use Rattle.tables.proofs.grains.put_grain.Reads as put-grain-reads
+
+fine-grain-requires : tie.Need-fine-grain-requires
+fine-grain-requires c κs = search needs
+
+returns : tie.Need-returns
+returns c = let b = c .before .before .before in let a = b .args in store-refused (a .g) (a .p) (sym (c .before .fine-grain .ensures) ∙ not-true _ (c .if1 .taken))
+
+put-grain-requires : tie.Need-put-grain-requires
+put-grain-requires c κs = let b = c .before .before .before .before in let a = b .args in grain-fits (b .pre .0 .1) (b .pre .1) (a .g) (b .pre .2)
+
+same-length : tie.Need-same-length
+same-length c = search needs
+
+returns-2 : tie.Need-returns-2
+returns-2 c = let b = c .before .before .before .before .before .before .before in let a = b .args in store-done (a .g) (a .p) (sym (c .before .before .before .before .before .fine-grain .ensures) ∙ not-false _ (c .before .before .before .before .if1 .left)) (c .before .before .put-grain .ensures)
+
+pub store-spec : {M : Type 1} → statement M
+store-spec =
+    tie.close (tie.spec fine-grain-requires returns put-grain-requires same-length returns-2)
