@@ -1,0 +1,7 @@
+-- The laws of the tables' reading and of the tests.
+pub mod Bools
+pub mod Cut
+pub mod Lists
+pub mod OneRow
+pub mod OnePlace
+pub mod Order
