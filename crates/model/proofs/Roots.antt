@@ -13,7 +13,7 @@ use lib.Ieee.{Float, binary64, ofBits, add, neg, le, lt, isNan, fits}
 use lib.Ieee.Scale.{finite}
 use borrow.Author.Tests.{ltb-true, eq-eqb}
 use Rattle.scheduler.specs.declared.Scheduler.{Scheduler}
-use Rattle.scheduler.specs.Heap.{swap, swapAt, timeAt, parent, parentOf, up, upshifted, updated}
+use Rattle.scheduler.specs.Heap.{swap, swapAt, timeAt, parent, parentIn, parentOf, up, upshifted, updated}
 use Rattle.scheduler.proofs.Laws.{time-in}
 use Rattle.order.specs.Numbers.{fzero, half, last}
 use Rattle.order.proofs.Order.{lt→le, lt-left, lt-not-le}
@@ -51,7 +51,7 @@ use Rattle.model.proofs.Plans.{Late, late-collide, not-below}
 -- ---- the heap: where no head is earlier than cell 0's, which is the root, an upshift leaves it there
 module _ (h : ℕ → Float) (late : (k : ℕ) → lt (h k) (h 0) ≡ false) where
   stays : (s : Scheduler) (c : ℕ) → getD (s .heap) 0 0 ≡ 0 → (parentOf h s c ≡ c) ⊎ ((0 < c) × (0 < parentOf h s c))
-  unfolding parentOf
+  unfolding parentIn
   stays s c z = by (ltb c (s .cells) && lt (timeAt h s c) (timeAt h s (parent c))) refl
     where
       apart′ : (ltb c (s .cells) && lt (timeAt h s c) (timeAt h s (parent c))) ≡ true → parent c ≡ 0 → ⊥

@@ -14,7 +14,7 @@ use Rattle.halting.specs.Out.{each, eachOf}
 use Rattle.halting.specs.Every.{every}
 use Rattle.order.specs.Numbers.{fzero}
 use Rattle.myvec.specs.Vec.{vec}
-use Rattle.scheduler.specs.Heap.{timeIn, swapAt, childIn, down, downshifted, parentOf, up, upshifted, updated, numbered, start as startHeap}
+use Rattle.scheduler.specs.Heap.{timeIn, swapAt, childIn, down, downshifted, parentIn, up, upshifted, updated, numbered, start as startHeap}
 use Rattle.model.specs.declared.Domain.{Domain}
 use Rattle.model.specs.declared.Particle.{Particle}
 use Rattle.model.specs.Grid.{boxOf, across, position}
@@ -75,7 +75,7 @@ tested (turned r i) = false
 tested (started s) = same (kinds 12 s) expected && (syncedAfter 1 (runAll rate 1 s) && syncedAfter 11 (runAll rate 65536 ((runAll rate 1 s) .state)))
 
 computed : T (tested (start box 16 grains))
-unfolding round add sub mul div neg lt le eq ofInt toUnsigned ofBits rootOf sqrtOf near root leadingZeros across position insertBy keepBy goneBy finePlace newPos apart upFrom reached rows cellsOfGrain heads requeued has but fineGrain store insert cancelled enter leave taken later collision toNeighbour outOfCell wall eachOf others stepGrain boundaries scheduleWith scheduleEvents again forget doCollision doNeighbour doOut doWall doSync event step firstBad clear goesIn pairs initCell begin start each timeIn swapAt childIn down downshifted parentOf up upshifted updated numbered startHeap every syncs sound standing runFrom runAll
+unfolding round add sub mul div neg lt le eq ofInt toUnsigned ofBits rootOf sqrtOf near root leadingZeros across position insertBy keepBy goneBy finePlace newPos apart upFrom reached rows cellsOfGrain heads requeued has but fineGrain store insert cancelled enter leave taken later collision toNeighbour outOfCell wall eachOf others stepGrain boundaries scheduleWith scheduleEvents again forget doCollision doNeighbour doOut doWall doSync event step firstBad clear goesIn pairs initCell begin start each timeIn swapAt childIn down downshifted parentIn up upshifted updated numbered startHeap every syncs sound standing runFrom runAll
 computed = tt
 
 box-fits : Fits box
