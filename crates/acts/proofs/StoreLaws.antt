@@ -16,7 +16,7 @@ use Rattle.model.specs.Doing.{stepGrain}
 use Rattle.tables.specs.declared.Sizes.{Sizes}
 use Rattle.tables.specs.Holds.{Grained}
 use Rattle.acts.specs.Tell.{At, InGrains, GrainsTold}
-use Rattle.acts.proofs.Told.{Tells}
+use Rattle.acts.proofs.InTurn.{Tells}
 
 pub store-refused : {z : Sizes} {t : List Float} (g : ℕ) (p : Particle) → fineGrain p ≡ false → (s : State) → InGrains z t s → GrainsTold z t 5 (store g p s)
 unfolding store

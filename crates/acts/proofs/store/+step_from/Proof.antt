@@ -1,6 +1,6 @@
 use Rattle.acts.proofs.StoreLaws.{timed}
 use Rattle.acts.proofs.Touch.{step-only, at-on}
-use Rattle.acts.proofs.Told.{each-end, each-stop, each-on}
+use Rattle.acts.proofs.InTurn.{each-end, each-stop, each-on}
 use Rattle.acts.specs.Tell.{InGrains}
 use Rattle.model.specs.Doing.{stepGrain}
 use mathlib.Core.Path.{refl, _∙_}

@@ -1,6 +1,6 @@
 use Rattle.acts.proofs.StoreLaws.{timed}
 use Rattle.acts.proofs.Touch.{step-only, at-on}
-use Rattle.acts.proofs.Told.{others-none, others-skip, others-stop, others-on, every-tail, tail-less}
+use Rattle.acts.proofs.InTurn.{others-none, others-skip, others-stop, others-on, every-tail, tail-less}
 use Rattle.acts.specs.Tell.{InGrains}
 use Rattle.model.specs.Doing.{stepGrain}
 use mathlib.Core.Path.{refl, _∙_}
