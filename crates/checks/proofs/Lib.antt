@@ -5,3 +5,8 @@ pub mod Lists
 pub mod OneRow
 pub mod OnePlace
 pub mod Order
+pub mod Tests
+pub mod Turns
+pub mod Heads
+pub mod Same
+pub mod Stages

@@ -61,14 +61,14 @@ unfoldable pub counted : ℕ → ℕ → ℕ → List ℕ → Bool
 counted v w zero l = true
 counted v w (suc n) l = leb (getD l 0 0) v && counted v w n (drop w l)
 
-abbrev pub legibleBy : Sizes → Tables → Bool
-legibleBy z t =
-    (leb (getD (t .lists) 4 0) 1 && leb (getD (t .lists) 5 0) 1) &&
-    (counted homeRoom (homeRoom + 1) (z .grains) (homesPart (t .lists)) &&
-    (counted memberRoom (memberRoom + 1) (z .cells) (membersPart (z .grains) (t .lists)) && counted (z .room) (z .room * 4 + 1) (z .cells) (t .queue)))
+abbrev pub legibleBy : Sizes → List ℕ → List ℕ → Bool
+legibleBy z l q =
+    (leb (getD l 4 0) 1 && leb (getD l 5 0) 1) &&
+    (counted homeRoom (homeRoom + 1) (z .grains) (homesPart l) &&
+    (counted memberRoom (memberRoom + 1) (z .cells) (membersPart (z .grains) l) && counted (z .room) (z .room * 4 + 1) (z .cells) q))
 
 abbrev pub legible : Tables → Bool
-legible t = legibleBy (sizesOf (t .lists)) t
+legible t = legibleBy (sizesOf (t .lists)) (t .lists) (t .queue)
 
 unfoldable pub standing : Tables → Bool
 standing t = legible t && model.standing (decoded t)

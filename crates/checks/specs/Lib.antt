@@ -1,4 +1,5 @@
--- The tables read as a state (Decode), what a run tests before it does anything (Check), and what the code's tests over rows ask (Walk).
+-- The tables read as a state (Decode), what a run tests before it does anything (Check), and the same as the code goes through the tables (Walk, Parts).
 pub mod Decode
 pub mod Check
 pub mod Walk
+pub mod Parts

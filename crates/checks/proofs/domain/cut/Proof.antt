@@ -1,0 +1,35 @@
+use mathlib.Core.Path.{sym, subst}
+use mathlib.Core.Bool.{Bool, not}
+use lib.Dec.{T}
+use lib.Ieee.{ofBits, neg, lt}
+use Rattle.order.proofs.Order.{lt-right}
+use Rattle.order.proofs.Cut.{cut-below, cut-not-below}
+use native.Mathlib.Omega.{arith}
+use borrow.Author.Needs.{needs}
+use Rattle.checks.proofs.domain.cut.Statement.{statement}
+use Rattle.checks.proofs.domain.cut.Tie as tie
+use Rattle.checks.proofs.domain.cut.Reads as reads
+use Rattle.checks.proofs.domain.cut.Lts as lts
+use Rattle.std.proofs.num.truncating_f64_to_u64.Reads as truncating-f64-to-u64-reads
+
+-- src/domain.rt:15:17
+truncating-f64-to-u64-requires : tie.Need-truncating-f64-to-u64-requires
+unfolding ofBits neg
+truncating-f64-to-u64-requires c κs = (subst T (sym (c .before .if1 .taken)) tt, subst T (sym (c .if2 .taken)) tt)
+
+-- src/domain.rt:16:13
+returns : tie.Need-returns
+returns c = search needs
+
+-- src/domain.rt:18:9
+returns-2 : tie.Need-returns-2
+unfolding ofBits neg
+returns-2 c = let x = c .before .before .args .x in sym (cut-not-below 64 x (lt-right _ x (subst T (sym (c .before .if1 .taken)) tt)) (subst (λ (b : Bool). T (not b)) (sym (c .if2 .left)) tt))
+
+-- src/domain.rt:10:1
+returns-3 : tie.Need-returns-3
+unfolding ofBits neg
+returns-3 c = sym (cut-below 64 (c .before .args .x) (subst (λ (b : Bool). T (not b)) (sym (c .if1 .left)) tt))
+
+pub cut-spec : {M : Type 1} → statement M
+cut-spec = tie.close (tie.spec truncating-f64-to-u64-requires returns returns-2 returns-3)
