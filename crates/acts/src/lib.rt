@@ -1,4 +1,5 @@
-// The acts, one function for each, over the lent tables: the heap in its table (heap), the queues of events (queue), entering and leaving a cell (links), the grains' numbers (store).
+// The acts, one function for each, over the lent tables: the heap in its table (heap), the queues of events (queue), entering and leaving a cell (links),
+// and the grains' numbers (store).
 pub mod heap;
 pub mod links;
 pub mod queue;
