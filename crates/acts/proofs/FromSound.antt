@@ -11,7 +11,8 @@ use Rattle.order.specs.Numbers.{last}
 use Rattle.model.specs.declared.Place.{Place}
 use Rattle.model.specs.State.{Row, none, State, listed}
 use Rattle.model.specs.Grid.{cells}
-use Rattle.model.specs.Standing.{Sound, Held, Queue, All}
+use Rattle.model.specs.Sound.{Sound, Held, Queue}
+use Rattle.model.specs.Standing.{All}
 use Rattle.tables.specs.declared.Sizes.{Sizes}
 use Rattle.tables.specs.Layout.{queueNums, queueReals, orderBytes}
 use Rattle.tables.specs.Holds.{Good, Ranged, Tabled, Heaped, Queued}

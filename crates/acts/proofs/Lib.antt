@@ -1,10 +1,9 @@
 -- Laws of the acts: the scheduler in its table (Loaded), one row of events (Rows), all of them with the heap (Queues), lists (LinkLaws) and grains (StoreLaws);
--- for callers, acts in turn (InTurn, Told), what an act leaves as it was (Frame, Touch), and tables that hold a sound state (FromSound).
+-- for callers, acts in turn (InTurn), what an act leaves as it was (Touch, and Frame for the queues'), and tables that hold a sound state (FromSound).
 pub mod Loaded
 pub mod Rows
 pub mod Queues
 pub mod InTurn
-pub mod Told
 pub mod Frame
 pub mod Touch
 pub mod FromSound

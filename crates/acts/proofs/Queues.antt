@@ -4,7 +4,7 @@ use Prim.Native.Nat.{ℕ, zero, suc, _+_, _-_, _*_, _≤_, _<_}
 use native.Mathlib.Nat.{suc-ne-zero, suc-mul, zero-mul}
 use native.Mathlib.Omega.{arith}
 use mathlib.Core.List.{List, [], _∷_, _++_}
-use mathlib.Core.Bool.{Bool, true, false, cond}
+use mathlib.Core.Bool.{Bool, true, false, not, cond}
 use lib.Dec.{eqb, ltb}
 use lib.ListN.{length, getD, set, length-set, List·getD-append}
 use lib.Seq.{getD-set-same, getD-append-add}
@@ -27,8 +27,17 @@ use Rattle.tables.specs.Layout.{places, placeReals, queueNums, queueReals, orde
 use Rattle.tables.specs.Holds.{Ranged, InRow, Good, Tabled, Heaped, Queued, Told}
 use Rattle.tables.proofs.Runs.{nums-long, reals-long}
 use Rattle.acts.specs.Queues.{placed, without, headless, Rowed, loaded}
-use Rattle.acts.proofs.Rows.{good-placed, good-without, good-headless}
+use Rattle.acts.proofs.Rows.{clash, good-placed, good-without, good-headless}
 use Rattle.acts.proofs.Loaded.{heaped-is, heaped-long, heaped-new}
+
+-- what a negated test says of the definition that a call's answer is
+pub no-of : (r : Bool) {d : Bool} → r ≡ d → not r ≡ true → d ≡ false
+no-of true e n = absurd (clash n)
+no-of false e n = sym e
+
+pub yes-of : (r : Bool) {d : Bool} → r ≡ d → not r ≡ false → d ≡ true
+yes-of true e n = sym e
+yes-of false e n = absurd (clash (sym n))
 
 pub on-yes : {A : Type 0} (P : A → Type 0) (b : Bool) (x y : A) → b ≡ true → P x → P (pick b x y)
 on-yes P b x y e p = subst (λ (t : Bool). P (pick t x y)) (sym e) p

@@ -86,7 +86,7 @@ take-row n (y ∷ live) spare en got pulled h l =
 
 -- ---- good rows
 
-clash : false ≡ true → ⊥
+pub clash : false ≡ true → ⊥
 clash p = let z : _≡_ {A = ℕ} 1 0 = ap (λ (b : Bool). pick b 0 1) p in omega arith
 
 and-l : (a b : Bool) → (a && b) ≡ true → a ≡ true

@@ -5,34 +5,32 @@ use native.Mathlib.Nat.{suc-ne-zero}
 use native.Mathlib.Omega.{arith}
 use mathlib.Core.List.{List, [], _∷_, _++_, append-assoc}
 use lib.ListN.{length, replicate, length-append}
-use lib.Ieee.{Float, le}
-use mathlib.Core.Bool.{Bool, true, false, not, _||_}
+use lib.Ieee.{Float, le, lt}
+use lib.Ieee.Scale.{finite}
+use mathlib.Core.Bool.{Bool, true, false, _&&_, _||_}
 use lib.Dec.{eqb}
 use borrow.Author.Tests.{eq-eqb, ne-eqb}
 use borrow.Rule.Slice.PartMut.{midOf, putMid}
 use Rattle.chunks.specs.Flat.{flat}
 use Rattle.chunks.proofs.Laws.{mid-tail, put-tail, row-long}
-use Rattle.halting.specs.Out.{pick}
+use Rattle.order.specs.Numbers.{last}
 use Rattle.model.specs.declared.Place.{Place}
 use Rattle.model.specs.declared.Event.{Event}
 use Rattle.model.specs.declared.Event.the-variants.{Synchronisation}
-use Rattle.model.specs.Events.{insertBy, zeroP, keepBy, goneBy, names, eventOf}
+use Rattle.model.specs.Events.{insertBy, zeroP, keepBy, goneBy, names, eventOf, fineV, finePlace}
 use Rattle.tables.specs.Layout.{placeNums, placeReals}
 use Rattle.tables.specs.Holds.{Run}
 
--- ---- tests
+-- ---- rule 5 of a place, in the order in which it is tested
 
-clash : false ≡ true → ⊥
-clash p = let z : _≡_ {A = ℕ} 1 0 = ap (λ (b : Bool). pick b 0 1) p in omega arith
+and-assoc : (a b c : Bool) → (a && b) && c ≡ a && (b && c)
+and-assoc true b c = refl
+and-assoc false b c = refl
 
--- what a negated test says of the definition that a call's answer is
-pub no-of : (r : Bool) {d : Bool} → r ≡ d → not r ≡ true → d ≡ false
-no-of true e n = absurd (clash n)
-no-of false e n = sym e
-
-pub yes-of : (r : Bool) {d : Bool} → r ≡ d → not r ≡ false → d ≡ true
-yes-of true e n = sym e
-yes-of false e n = absurd (clash (sym n))
+pub fine-is : (s : Place)
+    → finePlace s ≡ finite (s .time) && (lt (s .time) last && (fineV (s .a) && (fineV (s .b) && (fineV (s .c) && (fineV (s .d) && finite (s .val))))))
+unfolding finePlace
+fine-is s = and-assoc (finite (s .time)) (lt (s .time) last) (fineV (s .a) && (fineV (s .b) && (fineV (s .c) && (fineV (s .d) && finite (s .val)))))
 
 -- ---- one place of a run
 

@@ -3,8 +3,7 @@ ghost use mathlib.Core.Path.{_≡_};
 ghost use Prim.Native.Nat.{ℕ, _+_, _*_, _<_, _≤_};
 ghost use mathlib.Core.List.{List, _∷_, _++_};
 ghost use lib.ListN.{length, replicate};
-ghost use lib.Ieee.Scale.{finite};
-ghost use Rattle.model.specs.Events.{placeOf, eventOf, names, insertBy, keepBy, goneBy, zeroP, fineV, finePlace};
+ghost use Rattle.model.specs.Events.{placeOf, eventOf, names, insertBy, keepBy, goneBy, zeroP, finePlace};
 ghost use Rattle.model.specs.declared.Place.{Place as PlaceV};
 ghost use Rattle.tables.specs.Holds.{Run};
 use model::Event;
@@ -12,45 +11,17 @@ use model::Pending;
 use model::Place;
 use myvec::MyVec;
 
-pub fn is_finite(x: f64) -> bool
-    ensures { λ r. ⌜ r ≡ finite x ⌝ }
-{
-    x - x == 0.0
-}
-
-pub fn fine_vec(v: MyVec) -> bool
-    ensures { λ r. ⌜ r ≡ fineV v ⌝ }
-{
-    if !is_finite(v.x) {
-        return false;
-    }
-    is_finite(v.y)
-}
-
 // Whether every number of a place is finite, and its time below f64::MAX.
 pub fn fine_place(s: Place) -> bool
     ensures { λ r. ⌜ r ≡ finePlace s ⌝ }
 {
     let time = s.time;
-    if !is_finite(time) {
-        return false;
-    }
-    if !(time < 1.7976931348623157e308) {
-        return false;
-    }
-    if !fine_vec(s.a) {
-        return false;
-    }
-    if !fine_vec(s.b) {
-        return false;
-    }
-    if !fine_vec(s.c) {
-        return false;
-    }
-    if !fine_vec(s.d) {
-        return false;
-    }
-    is_finite(s.val)
+    particle::is_finite(time)
+        && (time < 1.7976931348623157e308
+            && (particle::fine_vec(s.a)
+                && (particle::fine_vec(s.b)
+                    && (particle::fine_vec(s.c)
+                        && (particle::fine_vec(s.d) && particle::is_finite(s.val))))))
 }
 
 pub fn zero_place() -> Place

@@ -1,4 +1,5 @@
-use Rattle.acts.proofs.Told.{each-none, each-stop, each-on, every-tail, tail-less}
+use Rattle.tables.specs.Holds.{Queued}
+use Rattle.acts.proofs.InTurn.{of-none, of-stop, of-on, every-tail, tail-less}
 use Rattle.model.specs.Acts.{cancel, cancelled}
 use lib.ListN.{length, getD}
 use mathlib.Core.Path.{_≡_, refl, sym, ap, _∙_}
@@ -29,7 +30,7 @@ abbrev Rd : ℕ → cancel-each-lts.Claims
 Rd t = (cancel-reads.Asked, cancel-reads.Learnt, cancel-each-below t, cancel-each.Post)
 
 cancel-each-returns : (t : ℕ) → cancel-each-lts.Need-returns (Rd t) (cancel-each-at t) cancel-each.Post
-cancel-each-returns t c = let b = c .before .before .before .before .before in let a = b .args in λ s q. each-none (λ n. cancel (a .g) n) s (a .list .now) (c .if1 .taken) q
+cancel-each-returns t c = let b = c .before .before .before .before .before in let a = b .args in λ s q. of-none (λ n. cancel (a .g) n) s (Queued (a .z) (a .queue .now) (a .events .now) (a .order .now)) (a .list .now) (c .if1 .taken) q
 
 cancel-each-shared-slice-read-cancel : (t : ℕ) → cancel-each-lts.Need-shared-slice-read-cancel (Rd t) (cancel-each-at t) cancel-each.Post
 cancel-each-shared-slice-read-cancel t c = search needs
@@ -47,7 +48,7 @@ cancel-each-same-length-3 : (t : ℕ) → cancel-each-lts.Need-same-length-3 (Rd
 cancel-each-same-length-3 t c = c .before .before .before .before .before .before .before .cancel .kept .1 .1 .0
 
 cancel-each-returns-2 : (t : ℕ) → cancel-each-lts.Need-returns-2 (Rd t) (cancel-each-at t) cancel-each.Post
-cancel-each-returns-2 t c = let b = c .before .before .before .before .before .before .before .before .before .before .before .before .before .before .before .before .before in let a = b .args in λ s q. each-stop (λ n. cancel (a .g) n) s (a .list .now) (c .before .before .before .before .before .before .before .before .before .before .before .before .if1 .left) (c .before .before .before .before .before .before .before .cancel .ensures s q) (c .if2 .taken)
+cancel-each-returns-2 t c = let b = c .before .before .before .before .before .before .before .before .before .before .before .before .before .before .before .before .before in let a = b .args in λ s q. of-stop (λ n. cancel (a .g) n) s (Queued (a .z) (c .before .before .before .before .before .before .before .cancel .last .0) (c .before .before .before .before .before .before .before .cancel .last .1 .0) (c .before .before .before .before .before .before .before .cancel .last .1 .1 .0)) (a .list .now) (c .before .before .before .before .before .before .before .before .before .before .before .before .if1 .left) (c .before .before .before .before .before .before .before .cancel .ensures s q) (c .if2 .taken)
 
 cancel-each-sub-cancel-each : (t : ℕ) → cancel-each-lts.Need-sub-cancel-each (Rd t) (cancel-each-at t) cancel-each.Post
 cancel-each-sub-cancel-each t c = search needs
@@ -71,7 +72,7 @@ cancel-each-same-length-6 : (t : ℕ) → cancel-each-lts.Need-same-length-6 (Rd
 cancel-each-same-length-6 t c = c .before .before .before .before .before .before .cancel-each .kept .1 .1 .0 ∙ c .before .before .before .before .before .before .before .before .before .before .before .before .before .before .before .before .before .before .cancel .kept .1 .1 .0
 
 cancel-each-returns-3 : (t : ℕ) → cancel-each-lts.Need-returns-3 (Rd t) (cancel-each-at t) cancel-each.Post
-cancel-each-returns-3 t c = let b = c .before .before .before .before .before .before .before .before .before .before .before .before .before .before .before .before .before .before .before .before .before .before .before .before .before .before .before .before in let a = b .args in λ s q. each-on (λ n. cancel (a .g) n) s (a .list .now) (c .before .before .before .before .before .before .before .before .before .before .before .before .before .before .before .before .before .before .before .before .before .before .before .if1 .left) (c .before .before .before .before .before .before .before .before .before .before .before .before .before .before .before .before .before .before .cancel .ensures s q) (c .before .before .before .before .before .before .before .before .before .before .before .if2 .left) (c .before .before .before .before .before .before .cancel-each .ensures (cancelled (a .g) (getD (a .list .now) 0 0) s) (c .before .before .before .before .before .before .before .before .before .before .before .before .before .before .before .before .before .before .cancel .ensures s q .1))
+cancel-each-returns-3 t c = let b = c .before .before .before .before .before .before .before .before .before .before .before .before .before .before .before .before .before .before .before .before .before .before .before .before .before .before .before .before in let a = b .args in λ s q. of-on (λ n. cancel (a .g) n) s (Queued (a .z) (c .before .before .before .before .before .before .before .before .before .before .before .before .before .before .before .before .before .before .cancel .last .0) (c .before .before .before .before .before .before .before .before .before .before .before .before .before .before .before .before .before .before .cancel .last .1 .0) (c .before .before .before .before .before .before .before .before .before .before .before .before .before .before .before .before .before .before .cancel .last .1 .1 .0)) (Queued (a .z) (c .before .before .before .before .before .before .cancel-each .last .0) (c .before .before .before .before .before .before .cancel-each .last .1 .0) (c .before .before .before .before .before .before .cancel-each .last .1 .1 .0)) (a .list .now) (c .before .before .before .before .before .before .before .before .before .before .before .before .before .before .before .before .before .before .before .before .before .before .before .if1 .left) (c .before .before .before .before .before .before .before .before .before .before .before .before .before .before .before .before .before .before .cancel .ensures s q) (c .before .before .before .before .before .before .before .before .before .before .before .if2 .left) (c .before .before .before .before .before .before .cancel-each .ensures (cancelled (a .g) (getD (a .list .now) 0 0) s) (c .before .before .before .before .before .before .before .before .before .before .before .before .before .before .before .before .before .before .cancel .ensures s q .1))
 
 pub +cancel-each-spec : {M : Type 1} → statement M
 +cancel-each-spec = close μ-cancel-each λ t. cancel-each-lts.spec (Rd t)

@@ -1,5 +1,4 @@
-use Rattle.acts.proofs.Queues.{in-nums, in-reals, rowed, roomy, update-fits, insert-five, insert-six, insert-tables, insert-done}
-use Rattle.tables.proofs.Runs.{no-of, yes-of}
+use Rattle.acts.proofs.Queues.{no-of, yes-of, in-nums, in-reals, rowed, roomy, update-fits, insert-five, insert-six, insert-tables, insert-done}
 use Rattle.tables.specs.Layout.{places}
 use Rattle.model.specs.Events.{finePlace}
 use mathlib.Core.Bool.{true}
