@@ -116,6 +116,10 @@ pub is-cell : (b : Domain) (k : Cell) (c : ℕ) → k ≡ cellOf b c → IsCell 
 unfolding cellOf
 is-cell b k c e = rw e
 
+pub index-cell : (b : Domain) (k : Cell) (c : ℕ) → k ≡ cellOf b c → k .index ≡ c
+unfolding cellOf
+index-cell b k c e = ap (λ (k : Cell). k .index) e
+
 pub along-cell : (b : Domain) (k : Cell) (d : ℕ) → IsCell b k → alongIn k d ≡ cellAlong d b (k .index)
 along-cell b k d e = ap (λ (k : Cell). alongIn k d) e ∙ by d (k .index)
   where

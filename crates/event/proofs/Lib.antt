@@ -1,0 +1,5 @@
+-- The ways through the functions, over plain values.
+mod Course
+mod Moves
+mod Collision
+mod Places

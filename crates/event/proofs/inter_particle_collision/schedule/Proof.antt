@@ -1,0 +1,58 @@
+-- The plan by when the two touch. Assumes nothing.
+use borrow.Author.Needs.{needs}
+use Rattle.event.proofs.Collision.{plan-never, plan-due, plan-refused}
+use Rattle.event.proofs.inter_particle_collision.schedule.Statement.{statement}
+use Rattle.event.proofs.inter_particle_collision.schedule.Tie as tie
+
+sub-requires : tie.Need-sub-requires
+sub-requires c κs = search needs
+
+apart-requires : tie.Need-apart-requires
+apart-requires c κs = search needs
+
+sub-requires-2 : tie.Need-sub-requires-2
+sub-requires-2 c κs = search needs
+
+contact-requires : tie.Need-contact-requires
+contact-requires c κs = search needs
+
+enum-told : tie.Need-enum-told
+enum-told c = search needs
+
+enum-known-dt : tie.Need-enum-known-dt
+enum-known-dt c = search needs
+
+struck-requires : tie.Need-struck-requires
+struck-requires c κs = search needs
+
+due-requires : tie.Need-due-requires
+due-requires c κs = search needs
+
+enum-told-2 : tie.Need-enum-told-2
+enum-told-2 c = search needs
+
+returns : tie.Need-returns
+returns c = plan-never _ _ _ _ _ _ _ _ _ _ _ (c .before .before .before .before .before .sub .ensures) (c .before .before .before .before .apart .ensures) (c .before .before .before .sub2 .ensures) (c .before .before .contact .ensures) (c .enum-told .given .1)
+
+returns-2 : tie.Need-returns-2
+returns-2 c = plan-due _ _ _ _ _ _ _ _ _ _ _ (c .before .before .before .before .before .before .before .before .sub .ensures) (c .before .before .before .before .before .before .before .apart .ensures) (c .before .before .before .before .before .before .sub2 .ensures) (c .before .before .before .before .before .contact .ensures) _ _ _ (c .before .before .before .dt .given .1) (c .before .struck .ensures) (c .due .ensures)
+
+returns-3 : tie.Need-returns-3
+returns-3 c = plan-refused _ _ _ _ _ _ _ _ _ _ _ (c .before .before .before .before .before .sub .ensures) (c .before .before .before .before .apart .ensures) (c .before .before .before .sub2 .ensures) (c .before .before .contact .ensures) (c .enum-told2 .given .1)
+
+pub schedule-spec : {M : Type 1} → statement M
+schedule-spec =
+    tie.close
+    (tie.spec
+    sub-requires
+    apart-requires
+    sub-requires-2
+    contact-requires
+    enum-told
+    enum-known-dt
+    struck-requires
+    due-requires
+    enum-told-2
+    returns
+    returns-2
+    returns-3)

@@ -1,0 +1,139 @@
+// When two grains of a cell touch, and what they then are.
+ghost use mathlib.Core.Path.{_≡_};
+ghost use Rattle.model.specs.Collision as collision;
+ghost use Rattle.cell.specs.Cell.{IsCell};
+use crate::util;
+use cell::Cell;
+use model::Contact;
+use model::Domain;
+use model::Event;
+use model::Particle;
+use model::Plan;
+use myvec::MyVec;
+use root::Root;
+
+// The earlier solution, from the root of the discriminant d.
+fn time_of(d: f64, a: f64, b: f64) -> Contact
+    ensures { λ r. ⌜ r ≡ collision.timeOf d a b ⌝ }
+{
+    match root::square_root(d) {
+        Root::Value(s) => {
+            let dt = (1.0 / a) * (-s - b);
+            if dt < 0.0 {
+                Contact::Never
+            } else {
+                Contact::After(dt)
+            }
+        }
+        Root::Refused => Contact::Refused,
+    }
+}
+
+// When two grains touch that are dpos apart and whose velocities differ by dvel: a dt² + 2 b dt + c = 0.
+fn contact(dpos: MyVec, dvel: MyVec) -> Contact
+    ensures { λ r. ⌜ r ≡ collision.collide dpos dvel ⌝ }
+{
+    let a = dvel.dot(dvel);
+    let b = dvel.dot(dpos);
+    let reach = Particle::RADIUS + Particle::RADIUS;
+    let c = dpos.dot(dpos) - reach * reach;
+    let d = b * b - a * c;
+    // their velocities are nearly equal
+    if a < 2.220446049250313e-16 {
+        return Contact::Never;
+    }
+    // they move apart
+    if 0.0 <= b {
+        return Contact::Never;
+    }
+    // they overlap
+    if c < 0.0 {
+        return Contact::Never;
+    }
+    // they pass each other
+    if d < 0.0 {
+        return Contact::Never;
+    }
+    time_of(d, a, b)
+}
+
+// Gravity in a direction, by whether it is periodic.
+fn pull(periodic: bool) -> f64
+    ensures { λ r. ⌜ r ≡ collision.pull periodic ⌝ }
+{
+    if periodic { 0.0 } else { -0.5 }
+}
+
+// The velocity of the two together, with the gravity that their mean value feels.
+fn centre(domain: Domain, p: Particle, q: Particle) -> MyVec
+    ensures { λ r. ⌜ r ≡ collision.centre domain p q ⌝ }
+{
+    let gravity = MyVec::new(pull(domain.periodic0), pull(domain.periodic1));
+    p.vel
+        .times(0.5)
+        .add(q.vel.times(0.5))
+        .add(gravity.times(mean(p, q) - 0.5))
+}
+
+fn mean(p: Particle, q: Particle) -> f64
+    ensures { λ r. ⌜ r ≡ collision.mean p q ⌝ }
+{
+    0.5 * p.val + 0.5 * q.val
+}
+
+// The difference of their velocities afterwards, n being the unit vector from the one to the other.
+fn bounced(dvel: MyVec, n: MyVec) -> MyVec
+    ensures { λ r. ⌜ r ≡ collision.bounced dvel n ⌝ }
+{
+    dvel.sub(n.times((1.0 + Event::RESTITUTION) * dvel.dot(n)))
+}
+
+// The unit vector from the one to the other at their new positions.
+fn normal(domain: Domain, cell: Cell, x: MyVec, y: MyVec) -> MyVec
+    requires { ⌜ IsCell domain cell ⌝ }
+    ensures { λ r. ⌜ r ≡ collision.normal domain (cell .index) x y ⌝ }
+{
+    cell.apart(domain, y.sub(x))
+        .over(Particle::RADIUS + Particle::RADIUS)
+}
+
+// What is stored of the two after dt.
+fn struck(domain: Domain, cell: Cell, i: u64, j: u64, p: Particle, q: Particle, dt: f64) -> Event
+    requires { ⌜ IsCell domain cell ⌝ }
+    ensures { λ r. ⌜ r ≡ collision.struck domain (cell .index) i j p q dt ⌝ }
+{
+    let p_pos = particle::get_new_pos(domain, p.pos, p.vel, dt);
+    let q_pos = particle::get_new_pos(domain, q.pos, q.vel, dt);
+    let gvel = centre(domain, p, q);
+    let dvel = bounced(q.vel.sub(p.vel), normal(domain, cell, p_pos, q_pos)).times(0.5);
+    Event::InterParticleCollision {
+        p: i,
+        q: j,
+        p_pos,
+        q_pos,
+        p_vel: gvel.sub(dvel),
+        q_vel: gvel.add(dvel),
+        val: mean(p, q),
+    }
+}
+
+pub fn schedule(
+    domain: Domain,
+    time: f64,
+    cell: Cell,
+    i: u64,
+    j: u64,
+    p: Particle,
+    q: Particle,
+) -> Plan
+    requires { ⌜ IsCell domain cell ⌝ }
+    ensures { λ r. ⌜ r ≡ collision.collision domain time (cell .index) i j p q ⌝ }
+{
+    let dpos = cell.apart(domain, q.pos.sub(p.pos));
+    let dvel = q.vel.sub(p.vel);
+    match contact(dpos, dvel) {
+        Contact::Never => Plan::Nothing,
+        Contact::After(dt) => util::due(time, dt, struck(domain, cell, i, j, p, q, dt)),
+        Contact::Refused => Plan::Refused,
+    }
+}

@@ -1,0 +1,36 @@
+// When a grain enters the neighbour of a cell that it moves to in a direction.
+ghost use mathlib.Core.Path.{_≡_};
+ghost use Rattle.model.specs.Moves.{toNeighbour};
+ghost use Rattle.cell.specs.Cell.{IsCell};
+use crate::util;
+use crate::util::Course;
+use cell::Cell;
+use model::Domain;
+use model::Event;
+use model::Particle;
+use model::Plan;
+
+pub fn schedule(domain: Domain, time: f64, cell: Cell, dim: usize, i: u64, p: Particle) -> Plan
+    requires { ⌜ IsCell domain cell ⌝ }
+    ensures { λ r. ⌜ r ≡ toNeighbour dim domain time (cell .index) i p ⌝ }
+{
+    let course = Course::new(domain, cell, dim, p);
+    if course.shut() {
+        return Plan::Nothing;
+    }
+    let dt = course.dt(Particle::RADIUS);
+    if dt <= 0.0 {
+        return Plan::Nothing;
+    }
+    let pos = particle::get_new_pos(domain, p.pos, p.vel, dt);
+    let neighbour = course.aside() as u64;
+    util::due(
+        time,
+        dt,
+        Event::MoveToNeighbour {
+            p: i,
+            pos,
+            cell: neighbour,
+        },
+    )
+}
