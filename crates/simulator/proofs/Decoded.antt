@@ -1,19 +1,25 @@
 -- Tables that hold a state are read as that state, whatever lies beyond. Assumes nothing.
-use Prim.Native.Nat.{ℕ, suc, _+_, _*_}
-use mathlib.Core.Path.{_≡_, refl, sym, ap, _∙_}
+use Prim.Native.Nat.{ℕ, suc, _+_, _*_, _<_}
+use mathlib.Core.Path.{_≡_, refl, sym, ap, _∙_, subst}
 use mathlib.Core.Bool.{Bool, true, false}
 use mathlib.Core.List.{List, [], _∷_, _++_, append-assoc}
 use native.Mathlib.Numerals.{add-one}
-use lib.ListN.{length, take, drop}
+use native.Mathlib.Omega.{arith}
+use lib.ListN.{length, getD, take, drop, length-append}
 use lib.Seq.{take-at, drop-at, drop-drop}
 use lib.Ieee.{Float}
 use Rattle.chunks.specs.Flat.{flat, Every}
 use Rattle.chunks.proofs.Laws.{length-flat, every-wide}
 use Rattle.scheduler.specs.declared.Scheduler.{Scheduler}
+use Rattle.model.specs.declared.Domain.{Domain}
 use Rattle.model.specs.declared.Particle.{Particle}
 use Rattle.model.specs.declared.Place.{Place}
 use Rattle.model.specs.Sizes.{memberRoom, homeRoom}
-use Rattle.model.specs.State.{Row, row, State}
+use Rattle.model.specs.State.{Row, row, none, State}
+use Rattle.model.specs.Sound.{Side, Sound}
+use Rattle.model.specs.Check.{Fits}
+use Rattle.model.specs.Start.{started, start}
+use Rattle.model.proofs.Starts.{WellBegun, start-stands}
 use Rattle.tables.specs.declared.Sizes.{Sizes}
 use Rattle.tables.specs.Holds.{Good, Holds}
 use Rattle.tables.specs.Layout.{places, grainReals, rowNums, placeNums, placeReals, queueNums, queueReals, orderBytes}
@@ -168,3 +174,29 @@ held-shaped {s = s} H =
       heap-long = d .heap .heap-long;
       lookups-long = d .heap .lookups-long;
     }
+
+every-of : {A : Type 0} (P : A → Type 0) (d : A) (xs : List A) → ((i : ℕ) → i < length xs → P (getD xs i d)) → Every P xs
+every-of P d [] f = tt
+every-of P d (x ∷ xs) f = (f 0 (omega arith), every-of P d xs (λ i h. f (suc i) (omega (arith, h))))
+
+side-wide : (m n k : ℕ) (rs : List (Row ℕ)) → Side m n k rs → Every (λ (r : Row ℕ). length (places r) ≡ k) rs
+side-wide m n k rs S =
+    every-of (λ (r : Row ℕ). length (places r) ≡ k) none rs
+    (λ i h. length-append ((getD rs i none) .live) ((getD rs i none) .spare) ∙ S .each i (omega (arith, S .long, h)) .full)
+
+pub sound-shaped : (s : State) → Sound s → Shaped s
+sound-shaped s S = record {
+  homes-many = S .lists .homes .long;
+  homes-wide = side-wide _ _ homeRoom (s .homes) (S .lists .homes);
+  members-many = S .lists .members .long ∙ sym (S .heap .cells);
+  members-wide = side-wide _ _ memberRoom (s .members) (S .lists .members);
+  queues-many = S .long ∙ sym (S .heap .cells);
+  queues-wide = every-of (λ (r : Row Place). length (places r) ≡ s .room) none (s .queues)
+      (λ c h. length-append ((getD (s .queues) c none) .live) ((getD (s .queues) c none) .spare) ∙ S .queues c (omega (arith, S .long, h)) .full);
+  heap-long = S .heap .inverse .heap-long;
+  lookups-long = S .heap .inverse .lookups-long;
+}
+
+-- THE TABLES THAT AN ACCEPTED START LEAVES ARE READ AS THE STATE THAT THE DEFINITION GIVES, halted or not
+pub started-read : (b : Domain) (room : ℕ) (gs : List Particle) (s : State) (t : Tables) → Fits b → start b room gs ≡ started s → decoded (encoded s t) ≡ s
+started-read b room gs s t f e = decoded-encoded s t (sound-shaped s (subst WellBegun e (start-stands b room gs f) .0))

@@ -1,5 +1,8 @@
--- Laws of this crate: a table filled from the front (Fills), the start numbers (InputLaws), the cells that a grain enters (EntryLaws), a grain that goes in (GoLaws) and what it leaves as it was (OnlyIn);
--- places in front of a table (Over), cleared tables hold the cleared state (Zeros), and tables that hold a state are read as it (Decoded).
+-- Theorems: tables that hold a state are read as it (Decoded), and what a start's answers say (Answers).
+-- Laws: a table filled from the front (Fills), the start numbers (InputLaws), the cells that a grain enters (EntryLaws), a grain that goes in (GoLaws) and what it leaves as it was (OnlyIn),
+-- places in front of a table (Over), cleared tables hold the cleared state (Zeros), an accepted start (BeginLaws), and a start by its tests (StartLaws).
+pub mod Decoded
+pub mod Answers
 pub mod Fills
 pub mod InputLaws
 pub mod EntryLaws
@@ -7,4 +10,5 @@ pub mod GoLaws
 pub mod OnlyIn
 pub mod Over
 pub mod Zeros
-pub mod Decoded
+pub mod BeginLaws
+pub mod StartLaws

@@ -1,5 +1,6 @@
 // The public calls, over five lent tables of any length and any content: a start.
-pub mod clear;
-pub mod entries;
-pub mod grains;
-pub mod inputs;
+mod clear;
+mod entries;
+mod grains;
+mod inputs;
+pub mod start;
