@@ -17,8 +17,8 @@ use Rattle.model.specs.Standing.{All}
 use Rattle.model.specs.Check.{halt, Fitted}
 use Rattle.model.specs.Check as model
 use Rattle.model.proofs.Queue.{and-l, and-r}
-use Rattle.model.proofs.Reflect.{says-stands}
-use Rattle.model.proofs.Stands.{standing as standing-facts}
+use Rattle.model.proofs.Stands.{stands}
+use Rattle.model.proofs.Reflect.{says-standing}
 use Rattle.checks.specs.Decode.{Tables, mark, sizesOf, decoded, cutBoth, grainAt, grainsPart, placesOf, queuesOf}
 use Rattle.checks.specs.Check.{sized, legible, standing, checked}
 use Rattle.checks.specs.Held.{Fits, Answered, Accepted}
@@ -88,8 +88,9 @@ accepted rate t r A e = from (checked-means rate t (sym (A .is) ∙ e))
         let S = sized-means t (p .sizes) in
         let b = both t (p .stands) in
         let L = legible-means z (t .lists) (t .queue) (b .0) in
-        let F = says-stands (decoded t) (fitted t (A .grains-fit) (A .events-fit)) .means (b .1) in
-        record { sized = S; hold = record { sizes = refl; mark-is = refl; box-is = refl; clock-is = refl; body = held z t S L F }; standing = standing-facts (decoded t) F }
+        let f = fitted t (A .grains-fit) (A .events-fit) in
+        let F = stands (decoded t) f (says-standing (decoded t) f .means (b .1)) in
+        record { sized = S; hold = record { sizes = refl; mark-is = refl; flags = (L .flag0, L .flag1); box-is = refl; clock-is = refl; body = held z t S L F }; stands = F }
 
 -- tables that pass check 2 pass it as a state
 pub sized-model : (t : Tables) → sized t ≡ true → model.sized (decoded t) ≡ true

@@ -1,13 +1,11 @@
--- Tables that hold a state are read as that state, and are legible. Assumes nothing.
+-- Tables that hold a state are read as that state. Assumes nothing.
 use mathlib.Core.Path.{_≡_, refl, sym, ap, _∙_}
-use Prim.Native.Nat.{ℕ, zero, suc, _+_, _-_, _*_, _≤_}
+use Prim.Native.Nat.{ℕ, zero, suc, _+_, _-_, _*_}
 use native.Mathlib.Nat.{suc-ne-zero}
 use native.Mathlib.Numerals.{add-one}
 use native.Mathlib.Omega.{arith}
 use mathlib.Core.List.{List, [], _∷_, _++_, append-assoc}
-use mathlib.Core.Bool.{Bool, true, _&&_}
-use lib.ListN.{length, getD, take, drop, length-append, take-append-drop}
-use borrow.Author.Tests.{le-leb}
+use lib.ListN.{length, take, drop, take-append-drop}
 use lib.Seq.{take-at, drop-at, drop-drop}
 use lib.Ieee.{Float}
 use Rattle.chunks.specs.Flat.{flat, Every}
@@ -21,7 +19,7 @@ use Rattle.tables.specs.declared.Sizes.{Sizes}
 use Rattle.tables.specs.Layout.{places, grainReals, rowNums, placeNums, placeReals, queueNums, queueReals}
 use Rattle.tables.specs.Holds.{Rows, Good}
 use Rattle.checks.specs.Decode.{Tables, decoded, decodedBy, cut, cutBoth, rowOf, grainAt, grainsOf, rowAt, rowsOf, placeAt, placesOf, queueAt, queuesOf, schedulerOf}
-use Rattle.checks.specs.Check.{listsNeed, grainsNeed, queueNeed, eventsNeed, counted, legibleBy}
+use Rattle.checks.specs.Check.{listsNeed, grainsNeed, queueNeed, eventsNeed}
 use Rattle.checks.specs.Held.{Hold}
 
 -- ---- records that are written are read back, whatever follows them
@@ -128,27 +126,6 @@ scheduler-back n o h e a b c = same first second (sym c)
     same : {x y : List ℕ} {m : ℕ} → x ≡ h .heap → y ≡ h .lookups → m ≡ h .cells → _≡_ {A = Scheduler} (record { heap = x; lookups = y; cells = m }) h
     same p q r = rw (p, q, r)
 
--- ---- counts of records that are written
-module _ {A : Type 0} (enc : A → List ℕ) (v w : ℕ) (P : A → Type 0) (small : (x : A) (y : List ℕ) → P x → getD (enc x ++ y) 0 0 ≤ v) (wide : (x : A) → P x → length (enc x) ≡ w) where
-  counted-flat : (n : ℕ) (xs : List A) (y : List ℕ) → length xs ≡ n → Every P xs → counted v w n (flat enc xs ++ y) ≡ true
-  unfolding counted
-  counted-flat zero xs y e f = refl
-  counted-flat (suc n) [] y e f = absurd (suc-ne-zero n (sym e))
-  counted-flat (suc n) (x ∷ xs) y e f =
-      ap (counted v w (suc n)) (append-assoc (enc x) (flat enc xs) y)
-      ∙ ap (λ (b : Bool). b && counted v w n (drop w (enc x ++ (flat enc xs ++ y)))) (le-leb (getD (enc x ++ (flat enc xs ++ y)) 0 0) v (small x (flat enc xs ++ y) (f .0)))
-      ∙ ap (counted v w n) (drop-at (enc x) (flat enc xs ++ y) w (wide x (f .0))) ∙ counted-flat n xs y (omega arith) (f .1)
-
-live-small : {A : Type 0} (k : ℕ) (r : Row A) → length (places r) ≡ k → length (r .live) ≤ k
-live-small k r e = let a = length-append (r .live) (r .spare) in omega (arith, a, e)
-
-counted-rows : (k : ℕ) {m n : ℕ} (rs : List (Row ℕ)) (y : List ℕ) → Rows m k n rs → counted k (k + 1) m (flat rowNums rs ++ y) ≡ true
-counted-rows k {m = m} rs y R =
-    counted-flat rowNums k (k + 1) (λ (r : Row ℕ). length (places r) ≡ k) (λ r y e. live-small k r e) (λ r e. ap suc e ∙ sym (add-one k)) m rs y (R .many) (R .wide)
-
-counted-queues : (room n : ℕ) (qs : List (Row Place)) (y : List ℕ) → length qs ≡ n → Every (Good room) qs → counted room (room * 4 + 1) n (flat queueNums qs ++ y) ≡ true
-counted-queues room n qs y e f = counted-flat queueNums room (room * 4 + 1) (Good room) (λ r y g. live-small room r (g .full)) (λ r g. long-nums room r (g .full)) n qs y e f
-
 -- ---- all
 abbrev stateOf : Domain → Float → ℕ → ℕ → List Particle → List (Row ℕ) → List (Row ℕ) → List (Row Place) → Scheduler → State
 stateOf b c m r g h l q s = record { box = b; clock = c; mark = m; room = r; grains = g; homes = h; members = l; queues = q; sched = s }
@@ -158,10 +135,10 @@ same-state : {b b′ : Domain} {c c′ : Float} {m m′ r r′ : ℕ} {g g′ : 
 same-state b c m r g h l q s = rw (b, c, m, r, g, h, l, q, s)
 
 module _ (z : Sizes) (t : Tables) (s : State) (H : Hold z t s) where
-  abbrev beyond : List ℕ
+  abbrev pub beyond : List ℕ
   beyond = drop (listsNeed z - 6) (drop 6 (t .lists))
 
-  lists-cut : drop 6 (t .lists) ≡ flat rowNums (s .homes) ++ (flat rowNums (s .members) ++ beyond)
+  pub lists-cut : drop 6 (t .lists) ≡ flat rowNums (s .homes) ++ (flat rowNums (s .members) ++ beyond)
   lists-cut =
       sym (take-append-drop (listsNeed z - 6) (drop 6 (t .lists))) ∙ ap (λ (l : List ℕ). l ++ beyond) (H .body .listed .is)
       ∙ append-assoc (flat rowNums (s .homes)) (flat rowNums (s .members)) beyond
@@ -169,7 +146,7 @@ module _ (z : Sizes) (t : Tables) (s : State) (H : Hold z t s) where
   homes-back : rowsOf 8 (z .grains) (drop 6 (t .lists)) ≡ s .homes
   homes-back = ap (rowsOf 8 (z .grains)) lists-cut ∙ rows-back 8 (s .homes) (flat rowNums (s .members) ++ beyond) (H .body .listed .homes)
 
-  members-cut : drop (6 + z .grains * 9) (t .lists) ≡ flat rowNums (s .members) ++ beyond
+  pub members-cut : drop (6 + z .grains * 9) (t .lists) ≡ flat rowNums (s .members) ++ beyond
   members-cut =
       let R = H .body .listed .homes in
       let long : length (flat rowNums (s .homes)) ≡ z .grains * 9 = length-flat rowNums 9 (s .homes) (row-wide 8 (s .homes) (R .wide)) ∙ ap (λ (n : ℕ). n * 9) (R .many) in
@@ -183,7 +160,7 @@ module _ (z : Sizes) (t : Tables) (s : State) (H : Hold z t s) where
       ap (grainsOf (z .grains)) (sym (take-append-drop (grainsNeed z - 3) (drop 3 (t .grains))) ∙ ap (λ (l : List Float). l ++ drop (grainsNeed z - 3) (drop 3 (t .grains))) (H .body .grained .is))
       ∙ grains-back (z .grains) (s .grains) (drop (grainsNeed z - 3) (drop 3 (t .grains))) (H .body .grained .many)
 
-  queue-cut : t .queue ≡ flat queueNums (s .queues) ++ drop (queueNeed z) (t .queue)
+  pub queue-cut : t .queue ≡ flat queueNums (s .queues) ++ drop (queueNeed z) (t .queue)
   queue-cut = sym (take-append-drop (queueNeed z) (t .queue)) ∙ ap (λ (l : List ℕ). l ++ drop (queueNeed z) (t .queue)) (H .body .queued .tables .queue-is)
 
   all-queues-back : queuesOf (z .room) (z .cells) (t .queue) (t .events) ≡ s .queues
@@ -200,16 +177,3 @@ module _ (z : Sizes) (t : Tables) (s : State) (H : Hold z t s) where
       ap (λ (y : Sizes). decodedBy y t) (sym (H .sizes))
       ∙ same-state (H .box-is) (H .clock-is) (H .mark-is) (sym (H .body .queued .room-is)) all-grains-back homes-back members-back all-queues-back
       (scheduler-back (z .cells) (t .order) (s .sched) (H .body .queued .heap .is) (H .body .queued .heap .heap-long) (H .body .queued .heap .lookups-long) (H .body .queued .heap .cells-is))
-
-  -- and every count is within its room
-  pub held-legible : getD (t .lists) 4 0 ≤ 1 → getD (t .lists) 5 0 ≤ 1 → legibleBy z (t .lists) (t .queue) ≡ true
-  held-legible p q =
-      let L = H .body .listed in
-      let T = H .body .queued .tables in
-      rw (
-        le-leb (getD (t .lists) 4 0) 1 p,
-        le-leb (getD (t .lists) 5 0) 1 q,
-        ap (counted 8 9 (z .grains)) lists-cut ∙ counted-rows 8 (s .homes) (flat rowNums (s .members) ++ beyond) (L .homes),
-        ap (counted 32 33 (z .cells)) members-cut ∙ counted-rows 32 (s .members) beyond (L .members),
-        ap (counted (z .room) (z .room * 4 + 1) (z .cells)) queue-cut ∙ counted-queues (z .room) (z .cells) (s .queues) (drop (queueNeed z) (t .queue)) (T .many) (T .good),
-      )

@@ -13,3 +13,5 @@ pub mod Stages
 pub mod Holding
 pub mod Back
 pub mod Accepts
+pub mod Again
+pub mod Needs

@@ -5,14 +5,7 @@ ghost use lib.ListN.{length, getD};
 ghost use lib.Ieee.{nan};
 ghost use lib.Ieee.Scale.{finite};
 ghost use Rattle.halting.specs.Every.{every};
-ghost use Rattle.model.specs.Sizes.{within};
 ghost use Rattle.checks.specs.Held.{Fits};
-
-pub fn finite(x: f64) -> bool
-    ensures { λ r. ⌜ r ≡ finite x ⌝ }
-{
-    x - x == 0.0
-}
 
 // Whether each of the first n is finite.
 pub fn all_finite(reals: &[f64], n: usize) -> bool
@@ -21,22 +14,12 @@ pub fn all_finite(reals: &[f64], n: usize) -> bool
 {
     let mut i: usize = 0;
     while i < n {
-        if !finite(reals[i]) {
+        if !particle::is_finite(reals[i]) {
             return false;
         }
         i += 1;
     }
     true
-}
-
-// Whether x lies in a range, ends included; a NaN lies in none.
-pub fn within(low: f64, high: f64, x: f64) -> bool
-    ensures { λ r. ⌜ r ≡ within low high x ⌝ }
-{
-    if low <= x {
-        return x <= high;
-    }
-    false
 }
 
 // The floats of a table are 64-bit ones, whatever they are: reading one tells it of all.

@@ -85,7 +85,7 @@ pub fn halt(mark: u64) -> bool
 pub fn rated(rate: f64) -> bool
     ensures { λ r. ⌜ r ≡ rated rate ⌝ }
 {
-    floats::within(0.00000095367431640625, 1048576.0, rate)
+    cell::within(0.00000095367431640625, 1048576.0, rate)
 }
 
 // Are the flags 0 or 1, and is every list count within its room?
@@ -122,7 +122,7 @@ fn settled(lists: &[u64], grains: &[f64], z: Sizes) -> bool
         return false;
     }
     let clock = grains[2];
-    if !floats::finite(clock) {
+    if !particle::is_finite(clock) {
         return false;
     }
     if !domain::boxed(grains[0], grains[1], z.cells) {

@@ -1,5 +1,6 @@
 -- The theorems of demand 3 over the definitions of document 01, and what leads to them: acts, a step, a run, a start, the checks; then what is claimed.
 pub mod Cases
+pub mod Places
 pub mod Lists
 pub mod Inserts
 pub mod Queue

@@ -23,12 +23,12 @@ returns c = rw (ne-eqb _ _ (c .if1 .taken))
 shared-slice-read-clock : tie.Need-shared-slice-read-clock
 shared-slice-read-clock c = let b = c .before .before .before .before .before in let h = b .pre .1 in omega arith
 
-finite-requires : tie.Need-finite-requires
-finite-requires c κs = search needs
+is-finite-requires : tie.Need-is-finite-requires
+is-finite-requires c κs = search needs
 
 returns-2 : tie.Need-returns-2
 unfolding settled
-returns-2 c = rw (eq-eqb _ _ (c .before .before .before .if1 .left), sym (c .before .finite .ensures) ∙ not-true _ (c .if2 .taken))
+returns-2 c = rw (eq-eqb _ _ (c .before .before .before .if1 .left), sym (c .before .is-finite .ensures) ∙ not-true _ (c .if2 .taken))
 
 shared-slice-read-boxed : tie.Need-shared-slice-read-boxed
 shared-slice-read-boxed c = let b = c .before .before .before .before .before .before .before .before in let h = b .pre .1 in omega arith
@@ -41,7 +41,7 @@ boxed-requires c κs = search needs
 
 returns-3 : tie.Need-returns-3
 unfolding settled
-returns-3 c = rw (eq-eqb _ _ (c .before .before .before .before .before .before .before .if1 .left), sym (c .before .before .before .before .before .finite .ensures) ∙ not-false _ (c .before .before .before .before .if2 .left), sym (c .before .boxed .ensures) ∙ not-true _ (c .if3 .taken))
+returns-3 c = rw (eq-eqb _ _ (c .before .before .before .before .before .before .before .if1 .left), sym (c .before .before .before .before .before .is-finite .ensures) ∙ not-false _ (c .before .before .before .before .if2 .left), sym (c .before .boxed .ensures) ∙ not-true _ (c .if3 .taken))
 
 sub-settled : tie.Need-sub-settled
 sub-settled c = let b = c .before .before .before .before .before .before .before .before .before .before .before in let h = b .pre .1 in omega arith
@@ -57,7 +57,7 @@ settled-requires c κs = let b = c .before .before .before .before .before .befo
 
 returns-4 : tie.Need-returns-4
 unfolding settled
-returns-4 c = rw (eq-eqb _ _ (c .before .before .before .before .before .before .before .before .before .if1 .left), sym (c .before .before .before .before .before .before .before .finite .ensures) ∙ not-false _ (c .before .before .before .before .before .before .if2 .left), sym (c .before .before .before .boxed .ensures) ∙ not-false _ (c .before .before .if3 .left)) (c .settled .ensures ∙ ap (λ (x : List Float). all (grainOk (getD (c .before .before .before .before .before .before .before .before .before .before .before .before .before .args .grains .now) 2 nan)) (grainsOf (c .before .before .before .before .before .before .before .before .before .before .before .before .before .args .z .grains) x)) (tail-is 3 (c .before .before .before .before .before .before .before .before .before .before .before .before .before .args .grains .now)))
+returns-4 c = rw (eq-eqb _ _ (c .before .before .before .before .before .before .before .before .before .if1 .left), sym (c .before .before .before .before .before .before .before .is-finite .ensures) ∙ not-false _ (c .before .before .before .before .before .before .if2 .left), sym (c .before .before .before .boxed .ensures) ∙ not-false _ (c .before .before .if3 .left)) (c .settled .ensures ∙ ap (λ (x : List Float). all (grainOk (getD (c .before .before .before .before .before .before .before .before .before .before .before .before .before .args .grains .now) 2 nan)) (grainsOf (c .before .before .before .before .before .before .before .before .before .before .before .before .before .args .z .grains) x)) (tail-is 3 (c .before .before .before .before .before .before .before .before .before .before .before .before .before .args .grains .now)))
 
 pub settled-spec : {M : Type 1} → statement M
 settled-spec =
@@ -66,7 +66,7 @@ settled-spec =
     shared-slice-read-if1
     returns
     shared-slice-read-clock
-    finite-requires
+    is-finite-requires
     returns-2
     shared-slice-read-boxed
     shared-slice-read-boxed-2

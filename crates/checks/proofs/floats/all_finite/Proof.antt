@@ -22,17 +22,17 @@ abbrev μ-loop : tie.MeasureT-loop
 loop-holds : tie.Need-loop-holds Inv-loop μ-loop
 loop-holds c = (omega arith, rw sub-zero)
 
-mul-finite : tie.Need-mul-finite Inv-loop μ-loop
-mul-finite c = search needs
+mul-is-finite : tie.Need-mul-is-finite Inv-loop μ-loop
+mul-is-finite c = search needs
 
-shared-slice-read-finite : tie.Need-shared-slice-read-finite Inv-loop μ-loop
-shared-slice-read-finite c = search needs
+shared-slice-read-is-finite : tie.Need-shared-slice-read-is-finite Inv-loop μ-loop
+shared-slice-read-is-finite c = search needs
 
-finite-requires : tie.Need-finite-requires Inv-loop μ-loop
-finite-requires c κs = search needs
+is-finite-requires : tie.Need-is-finite-requires Inv-loop μ-loop
+is-finite-requires c κs = search needs
 
 returns : tie.Need-returns Inv-loop μ-loop
-returns c = let l = c .before .before .before .before .before .before .args .reals .now in sym (failed (λ j. finite (getD l j nan)) _ _ (c .before .before .before .loop-test .taken) (sym (c .before .finite .ensures) ∙ not-true _ (c .if1 .taken))) ∙ c .before .before .before .before .loop .inv .1
+returns c = let l = c .before .before .before .before .before .before .args .reals .now in sym (failed (λ j. finite (getD l j nan)) _ _ (c .before .before .before .loop-test .taken) (sym (c .before .is-finite .ensures) ∙ not-true _ (c .if1 .taken))) ∙ c .before .before .before .before .loop .inv .1
 
 add-i : tie.Need-add-i Inv-loop μ-loop
 add-i c = search needs
@@ -41,7 +41,7 @@ loop-less : tie.Need-loop-less Inv-loop μ-loop
 loop-less c = search needs
 
 loop-again : tie.Need-loop-again Inv-loop μ-loop
-loop-again c = let l = c .before .before .before .before .before .before .args .reals .now in let h = c .before .before .before .loop-test .taken in (omega (arith, h), sym (passed (λ j. finite (getD l j nan)) _ _ h (sym (c .before .finite .ensures) ∙ not-false _ (c .if1 .left))) ∙ c .before .before .before .before .loop .inv .1)
+loop-again c = let l = c .before .before .before .before .before .before .args .reals .now in let h = c .before .before .before .loop-test .taken in (omega (arith, h), sym (passed (λ j. finite (getD l j nan)) _ _ h (sym (c .before .is-finite .ensures) ∙ not-false _ (c .if1 .left))) ∙ c .before .before .before .before .loop .inv .1)
 
 returns-2 : tie.Need-returns-2 Inv-loop μ-loop
 returns-2 c = let l = c .before .before .before .args .reals .now in sym (ended (λ j. finite (getD l j nan)) _ _ (c .loop-test .left)) ∙ c .before .loop .inv .1
@@ -53,9 +53,9 @@ all-finite-spec =
     Inv-loop
     μ-loop
     loop-holds
-    mul-finite
-    shared-slice-read-finite
-    finite-requires
+    mul-is-finite
+    shared-slice-read-is-finite
+    is-finite-requires
     returns
     add-i
     loop-less
