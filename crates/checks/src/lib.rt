@@ -49,7 +49,14 @@ pub fn sized(lists: &[u64], grains: usize, queue: usize, events: usize, order: u
 }
 
 // Are the tables as long as these counts need?
-fn long(z: Sizes, lists: usize, grains: usize, queue: usize, events: usize, order: usize) -> bool
+pub fn long(
+    z: Sizes,
+    lists: usize,
+    grains: usize,
+    queue: usize,
+    events: usize,
+    order: usize,
+) -> bool
     requires { ⌜ (z .grains ≤ 256) × (z .cells ≤ 256) × (z .room ≤ 256) ⌝ }
     ensures { λ r. ⌜ r ≡ long z lists grains queue events order ⌝ }
 {

@@ -1,0 +1,5 @@
+// The public calls, over five lent tables of any length and any content: a start.
+pub mod clear;
+pub mod entries;
+pub mod grains;
+pub mod inputs;
