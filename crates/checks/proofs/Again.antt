@@ -49,7 +49,7 @@ rows-counted k {m = m} rs y R =
     counted-flat rowNums k (k + 1) (λ (r : Row ℕ). length (rowNums r) ≡ k + 1) (λ r p. p) (λ r y p. live-few r (omega arith)) m rs y (R .many) (row-wide k rs (R .wide))
 
 module _ (z : Sizes) (t : Tables) (s : State) (H : Hold z t s) where
-  legible-held : legibleBy z (t .lists) (t .queue) ≡ true
+  pub legible-held : legibleBy z (t .lists) (t .queue) ≡ true
   legible-held =
       let room = z .room in
       rw (

@@ -86,7 +86,7 @@ module _ (room : ℕ) (r : Row Place) (f : length (places r) ≡ room) where
   pub long-nums : length (queueNums r) ≡ room * 4 + 1
   long-nums = ap suc (wide-nums (places r) ∙ ap (λ (n : ℕ). n * 4) f) ∙ sym (add-one (room * 4))
 
-  long-reals : length (queueReals r) ≡ room * 10
+  pub long-reals : length (queueReals r) ≡ room * 10
   long-reals = wide-reals (places r) ∙ ap (λ (n : ℕ). n * 10) f
 
   queue-back : (y : List ℕ) (z : List Float) → queueAt room (queueNums r ++ y) (queueReals r ++ z) ≡ r

@@ -135,7 +135,7 @@ held-tops n c l [] a = tt
 held-tops n c l (p ∷ ps) a = (lt-asym (p .time) last (of-T (lt (p .time) last) (fine-top p (a .0 .fine))), held-tops n c l ps (a .1))
 
 -- a side of the lists
-side-rows : (k : ℕ) (rs : List (Row ℕ)) {a b m n : ℕ} → a ≡ m → b ≡ n → Side a b k rs → Rows m k n rs
+pub side-rows : (k : ℕ) (rs : List (Row ℕ)) {a b m n : ℕ} → a ≡ m → b ≡ n → Side a b k rs → Rows m k n rs
 side-rows k rs {m = m} {n = n} p q u = rows (rw (p, q) at u)
   where
     wide : (r : Row ℕ) → Numbers n k r → length (places r) ≡ k

@@ -1,0 +1,256 @@
+-- DEMAND 3 AND THE HALTS OVER THE TABLES: on tables that hold a sound state the public run is the model's, so what is proved of reached states holds of
+-- reached tables. Assumes nothing.
+use Prim.Native.Nat.{ℕ, suc, _+_, _*_, _≤_, _<_}
+use mathlib.Core.Path.{_≡_, refl, sym, ap, _∙_, subst}
+use mathlib.Core.Bool.{Bool, true, false, _&&_}
+use mathlib.Core.List.{List, [], _∷_}
+use native.Mathlib.Omega.{arith}
+use native.Mathlib.Decide.{ℕ-discrete}
+use lib.Dec.{eqb, leb}
+use lib.ListN.{length, length-replicate}
+use lib.Ieee.{Float}
+use borrow.Author.Tests.{leb-true}
+use Rattle.halting.specs.Out.{pick}
+use Rattle.order.specs.Numbers.{fzero}
+use Rattle.model.specs.declared.Domain.{Domain}
+use Rattle.model.specs.declared.Started.the-variants as answer
+use Rattle.model.specs.Grid.{cells}
+use Rattle.model.specs.Sizes.{boxOk, countsOk, rated}
+use Rattle.model.specs.State.{State, zeroG}
+use Rattle.model.specs.Sound.{Sound}
+use Rattle.model.specs.Acts.{taken}
+use Rattle.model.specs.Doing.{Moved, Whole}
+use Rattle.model.specs.Run.{How, synchronised, spent, refused, Ran, runFrom}
+use Rattle.model.specs.Start.{Begun, started, start, clear, begin}
+use Rattle.model.specs.Start as begun
+use Rattle.model.specs.Check.{refusal, runAll}
+use Rattle.model.specs.Reached.{most, Call, after, Reached, steps}
+use Rattle.model.proofs.Queue.{and-l, and-r}
+use Rattle.model.proofs.Whole.{runs}
+use Rattle.model.proofs.Counts.{Ended, counts}
+use Rattle.model.proofs.Reached.{Well, runAll-well, reached-well, counted-runs}
+use Rattle.model.proofs.Demand3.{AfterStep, after-each-step, splits}
+use Rattle.model.proofs.Performs.{begin-acted}
+use Rattle.model.proofs.Halts.{Halt, run-halts, accepted, reached-halted}
+use Rattle.tables.specs.declared.Sizes.{Sizes}
+use Rattle.checks.specs.Decode.{Tables, mark, decoded}
+use Rattle.checks.specs.Check.{listsNeed, grainsNeed, queueNeed, eventsNeed, long}
+use Rattle.checks.proofs.Cut.{cut-long}
+use Rattle.simulator.specs.Inputs.{inputAt, inputsOf}
+use Rattle.simulator.specs.Encode.{sizesIn, encoded}
+use Rattle.simulator.specs.Start.{sizesFor, fits, cleared, with, byNumber, leaving, startAll}
+use Rattle.simulator.specs.Run.{RanTables, beside, runTables}
+use Rattle.simulator.specs.Reached.{Taken, afterCalls, ReachedTables}
+use Rattle.simulator.proofs.Kept.{does-kept, all-kept}
+use Rattle.simulator.proofs.Encoded.{Long, decoded-encoded}
+use Rattle.simulator.proofs.Ran.{sizes-same, run-over}
+
+-- ---- 1. reached tables hold a reached state
+pub record Reaches (t : Tables) : Type 0 where
+  pub state : State
+  pub reached : Reached state
+  pub ground : Tables
+  pub long : Long (sizesIn state) ground
+  pub is : t ≡ encoded state ground
+
+-- what a start leaves
+pub record Begins (b : Domain) (n room : ℕ) (inputs : List Float) (t u : Tables) : Type 0 where
+  pub state : State
+  pub accepted : start b room (inputsOf n inputs) ≡ started state
+  pub fits-in : long (sizesFor b n room) (length (t .lists)) (length (t .grains)) (length (t .queue)) (length (t .events)) (length (t .order)) ≡ true
+  pub is : u ≡ encoded state (cleared t)
+
+not-taken : (r g : ℕ) → Taken (byNumber r g) → ⊥
+not-taken r g x = by (eqb r 4) x
+  where
+    by : (c : Bool) → Taken (pick c (answer.BadGrain g) (answer.Refused r)) → ⊥
+    by true x = x
+    by false x = x
+
+begins : (b : Domain) (n room : ℕ) (inputs : List Float) (t : Tables) → Taken ((startAll b n room inputs t) .answer) → Begins b n room inputs t ((startAll b n room inputs t) .after)
+unfolding startAll fits
+begins b n room inputs t = by (boxOk b) (countsOk room n) (leb (n * 5) (length inputs)) (long (sizesFor b n room) (length (t .lists)) (length (t .grains)) (length (t .queue)) (length (t .events)) (length (t .order))) refl (start b room (inputsOf n inputs)) refl
+  where
+    by : (x y w v : Bool) → long (sizesFor b n room) (length (t .lists)) (length (t .grains)) (length (t .queue)) (length (t .events)) (length (t .order)) ≡ v → (o : Begun) → start b room (inputsOf n inputs) ≡ o
+        → Taken ((pick x (pick (y && (w && v)) (leaving o t) (with (answer.Refused 2) t)) (with (answer.Refused 1) t)) .answer)
+        → Begins b n room inputs t ((pick x (pick (y && (w && v)) (leaving o t) (with (answer.Refused 2) t)) (with (answer.Refused 1) t)) .after)
+    by true true true true e (started s) f k = record { state = s; accepted = f; fits-in = e; is = refl }
+    by true true true true e (begun.refused r g) f k = absurd (not-taken r g k)
+    by true true true false e o f k = absurd k
+    by true true false v e o f k = absurd k
+    by true false w v e o f k = absurd k
+    by false y w v e o f k = absurd k
+
+start-kept : (b : Domain) (room : ℕ) (n : ℕ) (inputs : List Float) (s : State) → start b room (inputsOf n inputs) ≡ started s → (s .box ≡ b) × (s .room ≡ room) × (length (s .grains) ≡ n)
+unfolding clear
+start-kept b room n inputs s e =
+    let gs = inputsOf n inputs in
+    let a = begin-acted b room gs in
+    let k = does-kept (a .acts) (clear b room (length gs)) ((begin b room gs) .st) (a .did) in
+    let q = accepted b room gs s e .is in
+    (ap (λ (u : State). u .box) q ∙ k .box, ap (λ (u : State). u .room) q ∙ k .room, ap (λ (u : State). length (u .grains)) q ∙ k .few ∙ length-replicate (length gs) zeroG ∙ cut-long inputAt 5 n inputs)
+
+long-apart : (z : Sizes) (t : Tables) → long z (length (t .lists)) (length (t .grains)) (length (t .queue)) (length (t .events)) (length (t .order)) ≡ true → Long z (cleared t)
+long-apart z t e =
+    let a = leb (listsNeed z) (length (t .lists)) in
+    let b = leb (grainsNeed z) (length (t .grains)) in
+    let c = leb (queueNeed z) (length (t .queue)) in
+    let d = leb (eventsNeed z) (length (t .events)) in
+    let o = leb 512 (length (t .order)) in
+    let f = and-l (a && b) ((c && d) && o) e in
+    let g = and-r (a && b) ((c && d) && o) e in
+    let h = and-l (c && d) o g in
+    record {
+      lists = let w = leb-true (listsNeed z) (length (t .lists)) (and-l a b f) in let r = length-replicate {A = ℕ} (length (t .lists)) 0 in omega (arith, w, r);
+      grains = let w = leb-true (grainsNeed z) (length (t .grains)) (and-r a b f) in let r = length-replicate (length (t .grains)) fzero in omega (arith, w, r);
+      queue = let w = leb-true (queueNeed z) (length (t .queue)) (and-l c d h) in let r = length-replicate {A = ℕ} (length (t .queue)) 0 in omega (arith, w, r);
+      events = let w = leb-true (eventsNeed z) (length (t .events)) (and-r c d h) in let r = length-replicate (length (t .events)) fzero in omega (arith, w, r);
+      order = let w = leb-true 512 (length (t .order)) (and-r (c && d) o g) in let r = length-replicate {A = ℕ} (length (t .order)) 0 in omega (arith, w, r);
+    }
+
+-- what calls leave
+calls-over : (ks : List Call) (s : State) (t : Tables) → Well s → Long (sizesIn s) t → (afterCalls ks (encoded s t) ≡ encoded (after ks s) t) × Long (sizesIn (after ks s)) t
+unfolding afterCalls after
+calls-over [] s t w F = (refl, F)
+calls-over (k ∷ ks) s t w F =
+    let u = (runAll (k .rate) (k .budget) s) .state in
+    let v = runAll-well (k .rate) (k .budget) s w in
+    let e = sizes-same s u (w .sound) (v .sound) (all-kept (k .rate) (k .budget) s) in
+    let q = calls-over ks u t v (subst (λ (z : Sizes). Long z t) (sym e) F) in
+    (ap (λ (x : RanTables). afterCalls ks (x .after)) (run-over s t (w .sound) F (k .rate) (k .budget)) ∙ q .0, q .1)
+
+pub reaches : (t : Tables) → ReachedTables t → Reaches t
+reaches t r =
+    let g = begins (r .box) (r .count) (r .room) (r .inputs) (r .lent) (r .taken) in
+    let s = g .state in
+    let first : Reached s = record { box = r .box; fits = r .fits; room = r .room; grains = inputsOf (r .count) (r .inputs); begun = s; accepted = g .accepted; calls = []; there = unfold after in refl } in
+    let w = reached-well s first in
+    let k = start-kept (r .box) (r .room) (r .count) (r .inputs) s (g .accepted) in
+    let z : sizesFor (r .box) (r .count) (r .room) ≡ sizesIn s = λ i. record { grains = sym (k .2) i; cells = sym (w .sound .heap .cells ∙ ap cells (k .0)) i; room = sym (k .1) i } in
+    let q = calls-over (r .calls) s (cleared (r .lent)) w (subst (λ (y : Sizes). Long y (cleared (r .lent))) z (long-apart (sizesFor (r .box) (r .count) (r .room)) (r .lent) (g .fits-in))) in
+    record {
+      state = after (r .calls) s;
+      reached = record { box = r .box; fits = r .fits; room = r .room; grains = inputsOf (r .count) (r .inputs); begun = s; accepted = g .accepted; calls = r .calls; there = refl };
+      ground = cleared (r .lent);
+      long = q .1;
+      is = sym (r .there) ∙ ap (afterCalls (r .calls)) (g .is) ∙ q .0;
+    }
+
+-- ---- 2. so every run on reached tables is the model's run on the state that they are read as
+module _ (t : Tables) (h : Reaches t) where
+  sound : Sound (h .state)
+  sound = reached-well (h .state) (h .reached) .sound
+
+  pub read-is : decoded t ≡ h .state
+  read-is = ap decoded (h .is) ∙ decoded-encoded (h .state) sound (h .ground) (h .long)
+
+  pub run-is : (rate : Float) (b : ℕ) → runTables rate b t ≡ beside (runAll rate b (h .state)) (encoded ((runAll rate b (h .state)) .state) (h .ground))
+  run-is rate b = ap (runTables rate b) (h .is) ∙ run-over (h .state) (h .ground) sound (h .long) rate b
+
+  -- the tables that a run leaves are reached too, over the same ground
+  abbrev left : Float → ℕ → State
+  left rate b = (runAll rate b (h .state)) .state
+
+  left-sound : (rate : Float) (b : ℕ) → Sound (left rate b)
+  left-sound rate b = runAll-well rate b (h .state) (reached-well (h .state) (h .reached)) .sound
+
+  left-long : (rate : Float) (b : ℕ) → Long (sizesIn (left rate b)) (h .ground)
+  left-long rate b = subst (λ (z : Sizes). Long z (h .ground)) (sym (sizes-same (h .state) (left rate b) sound (left-sound rate b) (all-kept rate b (h .state)))) (h .long)
+
+  left-read : (rate : Float) (b : ℕ) → decoded ((runTables rate b t) .after) ≡ left rate b
+  left-read rate b = ap (λ (x : RanTables). decoded (x .after)) (run-is rate b) ∙ decoded-encoded (left rate b) (left-sound rate b) (h .ground) (left-long rate b)
+
+  -- the answer, and the state that the tables hold afterwards
+  pub model-run : (rate : Float) (b : ℕ) → beside (runAll rate b (decoded t)) ((runTables rate b t) .after) ≡ runTables rate b t
+  model-run rate b = ap (λ (s : State). beside (runAll rate b s) ((runTables rate b t) .after)) read-is ∙ ap (λ (x : RanTables). beside (runAll rate b (h .state)) (x .after)) (run-is rate b) ∙ sym (run-is rate b)
+
+  pub model-left : (rate : Float) (b : ℕ) → decoded ((runTables rate b t) .after) ≡ (runAll rate b (decoded t)) .state
+  model-left rate b = left-read rate b ∙ ap (λ (s : State). (runAll rate b s) .state) (sym read-is)
+
+-- ---- 3. DEMAND 3: a run of j + k events is a run of j and, if that was spent, a run of k
+pub record SplitsTables (rate : Float) (j k : ℕ) (t : Tables) : Type 0 where
+  pub followed : (runTables rate j t) .how ≡ spent
+      → let u = (runTables rate j t) .after in runTables rate (j + k) t ≡ record { how = (runTables rate k u) .how; clock = (runTables rate k u) .clock; count = (runTables rate j t) .count + (runTables rate k u) .count; after = (runTables rate k u) .after }
+  pub synchronises : (runTables rate j t) .how ≡ synchronised → runTables rate (j + k) t ≡ runTables rate j t
+  pub halts : (r : ℕ) → (runTables rate j t) .how ≡ refused r → runTables rate (j + k) t ≡ runTables rate j t
+
+pub splits-tables : (t : Tables) → ReachedTables t → (rate : Float) → rated rate ≡ true → (j k : ℕ) → j + k ≤ most → SplitsTables rate j k t
+splits-tables t r rate R j k B =
+    let w = splits s (h .reached) rate R j k B in
+    record {
+      followed = λ e. run-is t h rate (j + k) ∙ ap over-g (w .followed (sym how ∙ e)) ∙ sym (λ i. record { how = then-run i .how; clock = then-run i .clock; count = (run-is t h rate j i) .count + then-run i .count; after = then-run i .after });
+      synchronises = λ e. run-is t h rate (j + k) ∙ ap over-g (w .synchronises (sym how ∙ e)) ∙ sym (run-is t h rate j);
+      halts = λ n e. run-is t h rate (j + k) ∙ ap over-g (w .halts n (sym how ∙ e)) ∙ sym (run-is t h rate j);
+    }
+  where
+    h : Reaches t
+    h = reaches t r
+
+    s : State
+    s = h .state
+
+    u : State
+    u = (runAll rate j s) .state
+
+    over-g : Ran → RanTables
+    over-g x = beside x (encoded (x .state) (h .ground))
+
+    how : (runTables rate j t) .how ≡ (runAll rate j s) .how
+    how = ap (λ (x : RanTables). x .how) (run-is t h rate j)
+
+    then-run : runTables rate k ((runTables rate j t) .after) ≡ over-g (runAll rate k u)
+    then-run = ap (λ (x : RanTables). runTables rate k (x .after)) (run-is t h rate j) ∙ run-over u (h .ground) (left-sound t h rate j) (left-long t h rate j) rate k
+
+-- ---- 4. DEMAND 3: after each unhalted step of all these runs. The tables after n events are what a run with budget n leaves
+state-at : (rate : Float) (s : State) (b n : ℕ) → n ≤ (runFrom rate b 0 s) .count → (runFrom rate n 0 s) .state ≡ steps rate n s
+state-at rate s b n N = by ((runFrom rate n 0 s) .how) ((counts rate s n) .ended)
+  where
+    c : ℕ
+    c = (runFrom rate n 0 s) .count
+
+    by : (x : How) → Ended rate s n x ((runFrom rate n 0 s) .count) ((runFrom rate n 0 s) .state) → (runFrom rate n 0 s) .state ≡ steps rate n s
+    by spent e = e .1 ∙ ap (λ (k : ℕ). steps rate k s) (e .0)
+    by synchronised e =
+        let small = (counts rate s n) .small in
+        let d = e .1 in
+        e .3 ∙ ap (λ (k : ℕ). steps rate k s) (elim (ℕ-discrete c n) [
+          | yes z ↦ z
+          | no z ↦ let q = (counts rate s b) .last (e .0) (omega arith) (omega (arith, small, d)) (e .2) .0 in absurd (z (omega (arith, small, d, q)))
+        ])
+    by (refused r) e = absurd (subst (λ (m : Moved). Whole (m .how)) (e .1) ((counts rate s b) .whole c (omega arith) (let f = e .0 in omega (arith, f))))
+
+pub after-each-step-tables : (t : Tables) → ReachedTables t → (k : Call) (n : ℕ) → n < (runTables (k .rate) (k .budget) t) .count
+    → AfterStep (decoded ((runTables (k .rate) n t) .after)) (decoded ((runTables (k .rate) (suc n) t) .after))
+after-each-step-tables t r k n N =
+    let h = reaches t r in
+    let s = h .state in
+    let c : n < (runAll (k .rate) (k .budget) s) .count = subst (λ (x : RanTables). n < x .count) (run-is t h (k .rate) (k .budget)) N in
+    let w = counted-runs (k .rate) (k .budget) s n (sound t h) c in
+    let at : (m : ℕ) → m ≤ suc n → decoded ((runTables (k .rate) m t) .after) ≡ steps (k .rate) m s =
+    λ m M. left-read t h (k .rate) m ∙ ap (λ (x : Ran). x .state) (runs (k .rate) m s (w .0) (w .1))
+    ∙ state-at (k .rate) s (k .budget) m (subst (λ (x : Ran). m ≤ x .count) (runs (k .rate) (k .budget) s (w .0) (w .1)) (omega (arith, c))) in
+    after-each-step (decoded ((runTables (k .rate) n t) .after)) (decoded ((runTables (k .rate) (suc n) t) .after))
+    (record { from = s; reached = h .reached; call = k; n = n; counted = c; before = sym (at n (omega arith)); after′ = sym (at (suc n) (omega arith)) })
+
+-- ---- 5. HALTS: a run that halts leaves the acts before the refused one done and its number as the mark, and every later run gives it again and changes nothing
+pub halts-tables : (t : Tables) → ReachedTables t → (rate : Float) → rated rate ≡ true → mark (t .lists) ≡ 0 → (b r : ℕ) → (runTables rate b t) .how ≡ refused r
+    → Halt r (taken (steps rate ((runTables rate b t) .count) (decoded t))) (decoded ((runTables rate b t) .after))
+halts-tables t q rate R m b r e =
+    let h = reaches t q in
+    let s = h .state in
+    let z : s .mark ≡ 0 = sym (ap (λ (x : State). x .mark) (read-is t h)) ∙ m in
+    let st = reached-well s (h .reached) .stands z in
+    let a : runAll rate b s ≡ runFrom rate b 0 s = runs rate b s R st in
+    let f : (runFrom rate b 0 s) .how ≡ refused r = sym (ap (λ (x : RanTables). x .how) (run-is t h rate b) ∙ ap (λ (x : Ran). x .how) a) ∙ e in
+    let c : (runTables rate b t) .count ≡ (runFrom rate b 0 s) .count = ap (λ (x : RanTables). x .count) (run-is t h rate b) ∙ ap (λ (x : Ran). x .count) a in
+    let v : decoded ((runTables rate b t) .after) ≡ (runFrom rate b 0 s) .state = left-read t h rate b ∙ ap (λ (x : Ran). x .state) a in
+    let n : taken (steps rate ((runTables rate b t) .count) (decoded t)) ≡ taken (steps rate ((runFrom rate b 0 s) .count) s) = λ i. taken (steps rate (c i) (read-is t h i)) in
+    subst (λ (x : State). Halt r x (decoded ((runTables rate b t) .after))) (sym n) (subst (Halt r (taken (steps rate ((runFrom rate b 0 s) .count) s))) (sym v) (run-halts rate b s r f))
+
+pub halted-again-tables : (t : Tables) → ReachedTables t → (mark (t .lists) ≡ 0 → ⊥) → (rate : Float) (b : ℕ) → runTables rate b t ≡ beside (refusal (mark (t .lists)) (decoded t)) t
+halted-again-tables t q n rate b =
+    let h = reaches t q in
+    let s = h .state in
+    let m : s .mark ≡ mark (t .lists) = sym (ap (λ (x : State). x .mark) (read-is t h)) in
+    run-is t h rate b ∙ ap (λ (x : Ran). beside x (encoded (x .state) (h .ground))) (reached-halted s (h .reached) (λ z. n (sym m ∙ z)) rate b)
+    ∙ (λ i. beside (refusal (m i) s) (sym (h .is) i))

@@ -1,0 +1,37 @@
+-- The tables that an accepted start and any runs after it reach, each run at its own rate and budget. Assumes nothing: these are definitions.
+use Prim.Native.Nat.{ℕ}
+use mathlib.Core.Path.{_≡_}
+use mathlib.Core.List.{List, [], _∷_}
+use lib.Ieee.{Float}
+use Rattle.model.specs.declared.Domain.{Domain}
+use Rattle.model.specs.declared.Started.{Started}
+use Rattle.model.specs.declared.Started.the-variants.{Accepted, Halted, Refused, BadGrain}
+use Rattle.model.specs.Check.{Fits}
+use Rattle.model.specs.Reached.{Call}
+use Rattle.checks.specs.Decode.{Tables}
+use Rattle.simulator.specs.Start.{startAll}
+use Rattle.simulator.specs.Run.{runTables}
+
+-- a start that was not refused, halted or not
+abbrev pub Taken : Started → Type 0
+Taken Accepted = Unit {0}
+Taken (Halted r) = Unit {0}
+Taken (Refused r) = ⊥
+Taken (BadGrain g) = ⊥
+
+-- what calls, one after another, leave
+unfoldable pub afterCalls : List Call → Tables → Tables
+afterCalls [] t = t
+afterCalls (k ∷ ks) t = afterCalls ks ((runTables (k .rate) (k .budget) t) .after)
+
+-- any box of 64-bit floats, counts, start numbers and tables that a start takes, and then any calls
+pub record ReachedTables (t : Tables) : Type 0 where
+  pub box : Domain
+  pub fits : Fits box
+  pub count : ℕ
+  pub room : ℕ
+  pub inputs : List Float
+  pub lent : Tables
+  pub taken : Taken ((startAll box count room inputs lent) .answer)
+  pub calls : List Call
+  pub there : afterCalls calls ((startAll box count room inputs lent) .after) ≡ t
