@@ -1,5 +1,5 @@
 -- What it means that the tables hold a state of this box at this clock, and what an act over them answers and leaves. Assumes nothing: these are definitions.
-use Prim.Native.Nat.{ℕ, _<_}
+use Prim.Native.Nat.{ℕ, zero, suc, _<_}
 use mathlib.Core.Path.{_≡_}
 use mathlib.Core.Bool.{Bool, true, false}
 use mathlib.Core.List.{List}
@@ -17,7 +17,7 @@ use Rattle.model.specs.Grid.{cells}
 use Rattle.model.specs.Moves.{toNeighbour, outOfCell}
 use Rattle.model.specs.Walls.{wall}
 use Rattle.model.specs.State.{State, listed}
-use Rattle.model.specs.Doing.{Finder}
+use Rattle.model.specs.Doing.{Finder, Stepped, done, synchronised, halted}
 use Rattle.tables.specs.declared.Sizes.{Sizes}
 use Rattle.tables.specs.Holds.{Grained, Listed, Queued}
 use Rattle.step.specs.declared.World.{World}
@@ -89,3 +89,8 @@ isSync Synchronisation = true
 
 abbrev pub worldAt : Domain → Grid → Float → World
 worldAt b g t = record { domain = b; grid = g; clock = t }
+
+-- how a step of the definition ended, from the number and the flag that a step answers
+abbrev pub howOf : ℕ → Bool → Stepped
+howOf zero b = pick b synchronised done
+howOf (suc r) b = halted (suc r)

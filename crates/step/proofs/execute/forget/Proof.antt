@@ -1,3 +1,5 @@
+use native.Mathlib.Omega.{arith}
+use mathlib.Core.Path.{sym, subst}
 use Rattle.step.proofs.Executions.{cancels-do}
 use Rattle.step.proofs.Scheduling.{forget-does}
 use Rattle.step.proofs.Leaves.{homes-below}
@@ -5,7 +7,6 @@ use Rattle.chunks.specs.Flat.{Every}
 use borrow.Rule.Slice.PartMut.{midOf}
 use Prim.Native.Nat.{_-_, _<_}
 use mathlib.Core.Path.{sym, subst}
-use borrow.Author.Needs.{needs}
 use Rattle.step.proofs.execute.forget.Statement.{statement}
 use Rattle.step.proofs.execute.forget.Tie as tie
 
@@ -13,16 +14,16 @@ cells-of-requires : tie.Need-cells-of-requires
 cells-of-requires c κs = let b = c .before .before .before .before in let a = b .args in let o = b .pre .0 in ((o .0, o .1 .listed), o .1 .queued .ranged, b .pre .1)
 
 mul-cancel-each : tie.Need-mul-cancel-each
-mul-cancel-each c = search needs
+mul-cancel-each c = let f = c .before .before .before .before .before .before .before .before .fits in let k = c .before .before .before .cells-of .ensures .0 in let m = c .before .before .before .cells-of .ensures .1 in omega arith
 
 sub-cancel-each : tie.Need-sub-cancel-each
-sub-cancel-each c = search needs
+sub-cancel-each c = let f = c .before .before .before .before .before .before .before .before .fits in let k = c .before .before .before .cells-of .ensures .0 in let m = c .before .before .before .cells-of .ensures .1 in omega arith
 
 part-cancel-each-start : tie.Need-part-cancel-each-start
-part-cancel-each-start c = search needs
+part-cancel-each-start c = let f = c .before .before .before .before .before .before .before .before .fits in let k = c .before .before .before .cells-of .ensures .0 in let m = c .before .before .before .cells-of .ensures .1 in omega arith
 
 part-cancel-each-end : tie.Need-part-cancel-each-end
-part-cancel-each-end c = search needs
+part-cancel-each-end c = let f = c .before .before .before .before .before .before .before .before .fits in let k = c .before .before .before .cells-of .ensures .0 in let m = c .before .before .before .cells-of .ensures .1 in omega arith
 
 cancel-each-requires : tie.Need-cancel-each-requires
 cancel-each-requires c κs = let b = c .before .before .before .before .before .before .before .before .before in let a = b .args in let o = b .pre .0 in ((o .0, o .1 .queued), subst (Every (λ n. n < a .z .cells)) (sym (c .before .before .before .before .cells-of .ensures .2 (o .0) (o .1 .listed))) (homes-below (o .0) (o .1 .listed) (a .p) (b .pre .1)))

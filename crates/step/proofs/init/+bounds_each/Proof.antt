@@ -1,10 +1,10 @@
+use mathlib.Core.Path.{_∙_}
 use Rattle.acts.proofs.InTurn.{every-tail, tail-less}
 use Rattle.step.proofs.Does.{list-none, list-stop, list-on, after}
 use Rattle.model.specs.Doing.{boundaries}
 use lib.ListN.{length}
 use mathlib.Core.Path.{_∙_}
 use native.Mathlib.Omega.{arith}
-use borrow.Author.Needs.{needs}
 use Prim.Native.Nat.{ℕ, _<_}
 use borrow.Fn.Kinds.{In}
 use borrow.Fn.PlainCycle.{Measures, is, falls, and}
@@ -33,7 +33,7 @@ bounds-each-returns : (t : ℕ) → bounds-each-lts.Need-returns (Rd t) (bounds-
 bounds-each-returns t c = let b = c .before .before .before .before .before .before in let a = b .args in list-none (λ n. boundaries (a .cell .index) n) (a .list .now) (c .if1 .taken)
 
 bounds-each-shared-slice-read-schedule-bounds : (t : ℕ) → bounds-each-lts.Need-shared-slice-read-schedule-bounds (Rd t) (bounds-each-at t) bounds-each.Post
-bounds-each-shared-slice-read-schedule-bounds t c = search needs
+bounds-each-shared-slice-read-schedule-bounds t c = omega arith
 
 bounds-each-schedule-bounds-requires : (t : ℕ) → bounds-each-lts.Need-schedule-bounds-requires (Rd t) (bounds-each-at t) bounds-each.Post
 bounds-each-schedule-bounds-requires t c κs = let b = c .before .before .before .before .before .before .before .before .before .before in let a = b .args in (b .pre .1 .0, b .pre .1 .1, every-tail (λ n. n < a .z .grains) (a .list .now) (b .pre .1 .2) (c .before .before .before .before .if1 .left) .0)
@@ -51,13 +51,13 @@ bounds-each-returns-2 : (t : ℕ) → bounds-each-lts.Need-returns-2 (Rd t) (bou
 bounds-each-returns-2 t c = let b = c .before .before .before .before .before .before .before .before .before .before .before .before .before .before .before .before .before .before in let a = b .args in list-stop (λ n. boundaries (a .cell .index) n) (a .list .now) (c .before .before .before .before .before .before .before .before .before .before .before .before .if1 .left) (c .if2 .taken) (c .before .before .before .before .before .before .before .schedule-bounds .ensures)
 
 bounds-each-sub-bounds-each : (t : ℕ) → bounds-each-lts.Need-sub-bounds-each (Rd t) (bounds-each-at t) bounds-each.Post
-bounds-each-sub-bounds-each t c = search needs
+bounds-each-sub-bounds-each t c = omega arith
 
 bounds-each-part-bounds-each-start : (t : ℕ) → bounds-each-lts.Need-part-bounds-each-start (Rd t) (bounds-each-at t) bounds-each.Post
-bounds-each-part-bounds-each-start t c = search needs
+bounds-each-part-bounds-each-start t c = omega arith
 
 bounds-each-part-bounds-each-end : (t : ℕ) → bounds-each-lts.Need-part-bounds-each-end (Rd t) (bounds-each-at t) bounds-each.Post
-bounds-each-part-bounds-each-end t c = search needs
+bounds-each-part-bounds-each-end t c = omega arith
 
 bounds-each-bounds-each-requires : (t : ℕ) → bounds-each-lts.Need-bounds-each-requires (Rd t) (bounds-each-at t) bounds-each.Post
 bounds-each-bounds-each-requires t c κs = let b = c .before .before .before .before .before .before .before .before .before .before .before .before .before .before .before .before .before .before .before .before .before .before in let a = b .args in (omega (arith, tail-less (a .list .now) (c .before .before .before .before .before .before .before .before .before .before .before .before .before .before .before .before .if1 .left), b .pre .0), (after (c .before .before .before .before .before .before .before .before .before .before .before .schedule-bounds .ensures) (b .pre .1 .0), b .pre .1 .1, every-tail (λ n. n < a .z .grains) (a .list .now) (b .pre .1 .2) (c .before .before .before .before .before .before .before .before .before .before .before .before .before .before .before .before .if1 .left) .1))

@@ -1,10 +1,10 @@
+use mathlib.Core.Path.{_∙_}
 use Rattle.acts.proofs.InTurn.{every-tail, tail-less}
 use Rattle.step.proofs.Starting.{pairs-none, pairs-stop, pairs-on}
 use Rattle.step.proofs.Does.{after}
 use lib.ListN.{length}
 use mathlib.Core.Path.{_∙_}
 use native.Mathlib.Omega.{arith}
-use borrow.Author.Needs.{needs}
 use Prim.Native.Nat.{ℕ, _<_}
 use borrow.Fn.Kinds.{In}
 use borrow.Fn.PlainCycle.{Measures, is, falls, and}
@@ -31,16 +31,16 @@ pairs-returns : (t : ℕ) → pairs-lts.Need-returns (Rd t) (pairs-at t) pairs.P
 pairs-returns t c = let b = c .before .before .before .before .before .before in let a = b .args in pairs-none (a .cell .index) (a .list .now) (c .if1 .taken)
 
 pairs-sub-schedule-collisions : (t : ℕ) → pairs-lts.Need-sub-schedule-collisions (Rd t) (pairs-at t) pairs.Post
-pairs-sub-schedule-collisions t c = search needs
+pairs-sub-schedule-collisions t c = omega arith
 
 pairs-part-schedule-collisions-start : (t : ℕ) → pairs-lts.Need-part-schedule-collisions-start (Rd t) (pairs-at t) pairs.Post
-pairs-part-schedule-collisions-start t c = search needs
+pairs-part-schedule-collisions-start t c = omega arith
 
 pairs-part-schedule-collisions-end : (t : ℕ) → pairs-lts.Need-part-schedule-collisions-end (Rd t) (pairs-at t) pairs.Post
-pairs-part-schedule-collisions-end t c = search needs
+pairs-part-schedule-collisions-end t c = omega arith
 
 pairs-shared-slice-read-schedule-collisions : (t : ℕ) → pairs-lts.Need-shared-slice-read-schedule-collisions (Rd t) (pairs-at t) pairs.Post
-pairs-shared-slice-read-schedule-collisions t c = search needs
+pairs-shared-slice-read-schedule-collisions t c = omega arith
 
 pairs-schedule-collisions-requires : (t : ℕ) → pairs-lts.Need-schedule-collisions-requires (Rd t) (pairs-at t) pairs.Post
 pairs-schedule-collisions-requires t c κs = let b = c .before .before .before .before .before .before .before .before .before .before .before in let a = b .args in let t = every-tail (λ n. n < a .z .grains) (a .list .now) (b .pre .1 .2) (c .before .before .before .before .before .if1 .left) in (b .pre .1 .0, b .pre .1 .1, t .0, t .1)
@@ -58,13 +58,13 @@ pairs-returns-2 : (t : ℕ) → pairs-lts.Need-returns-2 (Rd t) (pairs-at t) pai
 pairs-returns-2 t c = let b = c .before .before .before .before .before .before .before .before .before .before .before .before .before .before .before .before .before .before .before in let a = b .args in pairs-stop (a .z .grains) (a .cell .index) (a .list .now) (c .before .before .before .before .before .before .before .before .before .before .before .before .before .if1 .left) (every-tail (λ n. n < a .z .grains) (a .list .now) (b .pre .1 .2) (c .before .before .before .before .before .before .before .before .before .before .before .before .before .if1 .left) .1) (c .if2 .taken) (c .before .before .before .before .before .before .before .schedule-collisions .ensures)
 
 pairs-sub-pairs : (t : ℕ) → pairs-lts.Need-sub-pairs (Rd t) (pairs-at t) pairs.Post
-pairs-sub-pairs t c = search needs
+pairs-sub-pairs t c = omega arith
 
 pairs-part-pairs-start : (t : ℕ) → pairs-lts.Need-part-pairs-start (Rd t) (pairs-at t) pairs.Post
-pairs-part-pairs-start t c = search needs
+pairs-part-pairs-start t c = omega arith
 
 pairs-part-pairs-end : (t : ℕ) → pairs-lts.Need-part-pairs-end (Rd t) (pairs-at t) pairs.Post
-pairs-part-pairs-end t c = search needs
+pairs-part-pairs-end t c = omega arith
 
 pairs-pairs-requires : (t : ℕ) → pairs-lts.Need-pairs-requires (Rd t) (pairs-at t) pairs.Post
 pairs-pairs-requires t c κs = let b = c .before .before .before .before .before .before .before .before .before .before .before .before .before .before .before .before .before .before .before .before .before .before .before in let a = b .args in (omega (arith, tail-less (a .list .now) (c .before .before .before .before .before .before .before .before .before .before .before .before .before .before .before .before .before .if1 .left), b .pre .0), (after (c .before .before .before .before .before .before .before .before .before .before .before .schedule-collisions .ensures) (b .pre .1 .0), b .pre .1 .1, every-tail (λ n. n < a .z .grains) (a .list .now) (b .pre .1 .2) (c .before .before .before .before .before .before .before .before .before .before .before .before .before .before .before .before .before .if1 .left) .1))

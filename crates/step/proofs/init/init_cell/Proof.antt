@@ -1,3 +1,4 @@
+use mathlib.Core.Path.{sym, _∙_, subst}
 use Rattle.step.proofs.Starting.{sync-held, pairs-held, bounds-held, init-first, init-second, init-third}
 use Rattle.step.proofs.Scheduling.{made-index, made-cell}
 use Rattle.step.proofs.Leaves.{members-below}
@@ -7,7 +8,6 @@ use borrow.Rule.Slice.PartMut.{midOf}
 use Prim.Native.Nat.{_-_, _<_}
 use mathlib.Core.Path.{sym, _∙_, subst}
 use native.Mathlib.Omega.{arith}
-use borrow.Author.Needs.{needs}
 use Rattle.step.proofs.init.init_cell.Statement.{statement}
 use Rattle.step.proofs.init.init_cell.Tie as tie
 
@@ -36,13 +36,13 @@ mul-pairs : tie.Need-mul-pairs
 mul-pairs c = let f = c .before .before .before .before .before .before .before .before .before .before .before .before .before .before .before .before .before .before .fits in let g = c .before .before .before .before .before .before .before .before .before .before .before .before .before .before .before .before .before .before .good in let k = c .before .members-of .ensures .0 in let m = c .before .members-of .ensures .1 in omega arith
 
 sub-pairs : tie.Need-sub-pairs
-sub-pairs c = search needs
+sub-pairs c = let k = c .before .members-of .ensures .0 in let m = c .before .members-of .ensures .1 in omega arith
 
 part-pairs-start : tie.Need-part-pairs-start
-part-pairs-start c = search needs
+part-pairs-start c = let k = c .before .members-of .ensures .0 in let m = c .before .members-of .ensures .1 in omega arith
 
 part-pairs-end : tie.Need-part-pairs-end
-part-pairs-end c = search needs
+part-pairs-end c = let k = c .before .members-of .ensures .0 in let m = c .before .members-of .ensures .1 in omega arith
 
 pairs-requires : tie.Need-pairs-requires
 pairs-requires c κs = let b = c .before .before .before .before .before .before .before .before .before .before .before .before .before .before .before .before .before .before .before .before .before .before in let a = b .args in let o = b .pre .0 in let u = after (sync-held (a .cell) (c .before .before .before .before .before .before .before .before .before .before .before .before .before .sync-in .ensures)) o in ((u .0, u .1 .seen), made-cell (a .cell) (c .before .before .before .before .new .ensures) (b .pre .2), (subst (Every (λ n. n < a .z .grains)) (sym (c .before .before .before .before .before .members-of .ensures .2 (o .0) (o .1 .listed))) (members-below (o .0) (o .1 .listed) (a .cell) (b .pre .2))))
@@ -63,13 +63,13 @@ mul-bounds-each : tie.Need-mul-bounds-each
 mul-bounds-each c = let f = c .before .before .before .before .before .before .before .before .before .before .before .before .before .before .before .before .before .before .before .before .before .before .before .before .before .before .before .before .before .before .fits in let g = c .before .before .before .before .before .before .before .before .before .before .before .before .before .before .before .before .before .before .before .before .before .before .before .before .before .before .before .before .before .before .good in let k = c .before .before .before .before .before .before .before .before .before .before .before .before .before .members-of .ensures .0 in let m = c .before .before .before .before .before .before .before .before .before .before .before .before .before .members-of .ensures .1 in omega arith
 
 sub-bounds-each : tie.Need-sub-bounds-each
-sub-bounds-each c = search needs
+sub-bounds-each c = let k = c .before .before .before .before .before .before .before .before .before .before .before .before .before .members-of .ensures .0 in let m = c .before .before .before .before .before .before .before .before .before .before .before .before .before .members-of .ensures .1 in omega arith
 
 part-bounds-each-start : tie.Need-part-bounds-each-start
-part-bounds-each-start c = search needs
+part-bounds-each-start c = let k = c .before .before .before .before .before .before .before .before .before .before .before .before .before .members-of .ensures .0 in let m = c .before .before .before .before .before .before .before .before .before .before .before .before .before .members-of .ensures .1 in omega arith
 
 part-bounds-each-end : tie.Need-part-bounds-each-end
-part-bounds-each-end c = search needs
+part-bounds-each-end c = let k = c .before .before .before .before .before .before .before .before .before .before .before .before .before .members-of .ensures .0 in let m = c .before .before .before .before .before .before .before .before .before .before .before .before .before .members-of .ensures .1 in omega arith
 
 bounds-each-requires : tie.Need-bounds-each-requires
 bounds-each-requires c κs = let b = c .before .before .before .before .before .before .before .before .before .before .before .before .before .before .before .before .before .before .before .before .before .before .before .before .before .before .before .before .before .before .before .before .before .before in let a = b .args in let o = b .pre .0 in let u = after (pairs-held (midOf (c .before .before .before .before .before .before .before .before .before .before .before .before .before .before .before .before .before .members-of .result .from) (c .before .before .before .before .before .before .before .before .before .before .before .before .before .before .before .before .before .members-of .result .to - c .before .before .before .before .before .before .before .before .before .before .before .before .before .before .before .before .before .members-of .result .from) (a .lists .now)) (made-index (a .w .domain) (a .cell) (c .before .before .before .before .before .before .before .before .before .before .before .before .before .before .before .before .new .ensures)) (c .before .before .before .before .before .before .before .before .before .before .before .pairs .ensures)) (after (sync-held (a .cell) (c .before .before .before .before .before .before .before .before .before .before .before .before .before .before .before .before .before .before .before .before .before .before .before .before .before .sync-in .ensures)) o) in ((u .0, u .1 .seen), made-cell (a .cell) (c .before .before .before .before .before .before .before .before .before .before .before .before .before .before .before .before .new .ensures) (b .pre .2), (subst (Every (λ n. n < a .z .grains)) (sym (c .before .before .before .before .before .before .before .before .before .before .before .before .before .before .before .before .before .members-of .ensures .2 (o .0) (o .1 .listed))) (members-below (o .0) (o .1 .listed) (a .cell) (b .pre .2))))

@@ -1,10 +1,10 @@
+use mathlib.Core.Path.{_∙_}
 use Rattle.acts.proofs.InTurn.{every-tail, tail-less}
 use Rattle.step.proofs.Does.{but-none, but-stop, but-on, after}
 use Rattle.model.specs.Doing.{scheduleCollision}
 use lib.ListN.{length}
 use mathlib.Core.Path.{_∙_}
 use native.Mathlib.Omega.{arith}
-use borrow.Author.Needs.{needs}
 use Prim.Native.Nat.{ℕ, _<_}
 use borrow.Fn.Kinds.{In}
 use borrow.Fn.PlainCycle.{Measures, is, falls, and}
@@ -41,7 +41,7 @@ schedule-collisions-returns : (t : ℕ) → schedule-collisions-lts.Need-returns
 schedule-collisions-returns t c = let b = c .before .before .before .before .before .before in let a = b .args in but-none (a .but) (scheduleCollision (a .cell .index) (a .p)) (a .list .now) (c .if1 .taken)
 
 schedule-collisions-shared-slice-read-schedule-collision : (t : ℕ) → schedule-collisions-lts.Need-shared-slice-read-schedule-collision (Rd t) (schedule-collisions-at t) schedule-collisions.Post
-schedule-collisions-shared-slice-read-schedule-collision t c = search needs
+schedule-collisions-shared-slice-read-schedule-collision t c = omega arith
 
 schedule-collisions-schedule-collision-requires : (t : ℕ) → schedule-collisions-lts.Need-schedule-collision-requires (Rd t) (schedule-collisions-at t) schedule-collisions.Post
 schedule-collisions-schedule-collision-requires t c κs = let b = c .before .before .before .before .before .before .before .before .before .before in let a = b .args in (b .pre .1 .0, b .pre .1 .1, b .pre .1 .2, every-tail (λ n. n < a .z .grains) (a .list .now) (b .pre .1 .3) (c .before .before .before .before .if1 .left) .0)
@@ -59,13 +59,13 @@ schedule-collisions-returns-2 : (t : ℕ) → schedule-collisions-lts.Need-retur
 schedule-collisions-returns-2 t c = let b = c .before .before .before .before .before .before .before .before .before .before .before .before .before .before .before .before .before .before in let a = b .args in but-stop (a .but) (scheduleCollision (a .cell .index) (a .p)) (a .list .now) (c .before .before .before .before .before .before .before .before .before .before .before .before .if1 .left) (c .if2 .taken) (c .before .before .before .before .before .before .before .schedule-collision .ensures)
 
 schedule-collisions-sub-schedule-collisions : (t : ℕ) → schedule-collisions-lts.Need-sub-schedule-collisions (Rd t) (schedule-collisions-at t) schedule-collisions.Post
-schedule-collisions-sub-schedule-collisions t c = search needs
+schedule-collisions-sub-schedule-collisions t c = omega arith
 
 schedule-collisions-part-schedule-collisions-start : (t : ℕ) → schedule-collisions-lts.Need-part-schedule-collisions-start (Rd t) (schedule-collisions-at t) schedule-collisions.Post
-schedule-collisions-part-schedule-collisions-start t c = search needs
+schedule-collisions-part-schedule-collisions-start t c = omega arith
 
 schedule-collisions-part-schedule-collisions-end : (t : ℕ) → schedule-collisions-lts.Need-part-schedule-collisions-end (Rd t) (schedule-collisions-at t) schedule-collisions.Post
-schedule-collisions-part-schedule-collisions-end t c = search needs
+schedule-collisions-part-schedule-collisions-end t c = omega arith
 
 schedule-collisions-schedule-collisions-requires : (t : ℕ) → schedule-collisions-lts.Need-schedule-collisions-requires (Rd t) (schedule-collisions-at t) schedule-collisions.Post
 schedule-collisions-schedule-collisions-requires t c κs = let b = c .before .before .before .before .before .before .before .before .before .before .before .before .before .before .before .before .before .before .before .before .before .before in let a = b .args in (omega (arith, tail-less (a .list .now) (c .before .before .before .before .before .before .before .before .before .before .before .before .before .before .before .before .if1 .left), b .pre .0), (after (c .before .before .before .before .before .before .before .before .before .before .before .schedule-collision .ensures) (b .pre .1 .0), b .pre .1 .1, b .pre .1 .2, every-tail (λ n. n < a .z .grains) (a .list .now) (b .pre .1 .3) (c .before .before .before .before .before .before .before .before .before .before .before .before .before .before .before .before .if1 .left) .1))

@@ -1,10 +1,10 @@
+use mathlib.Core.Path.{_∙_}
 use Rattle.acts.proofs.InTurn.{every-tail, tail-less}
 use Rattle.step.proofs.Does.{list-none, list-stop, list-on, after}
 use Rattle.model.specs.Doing.{scheduleEvents}
 use lib.ListN.{length}
 use mathlib.Core.Path.{_∙_}
 use native.Mathlib.Omega.{arith}
-use borrow.Author.Needs.{needs}
 use Prim.Native.Nat.{ℕ, _<_}
 use borrow.Fn.Kinds.{In}
 use borrow.Fn.PlainCycle.{Measures, is, falls, and}
@@ -37,7 +37,7 @@ schedule-each-returns : (t : ℕ) → schedule-each-lts.Need-returns (Rd t) (sch
 schedule-each-returns t c = let b = c .before .before .before .before .before .before .before in let a = b .args in list-none (λ n. scheduleEvents (a .p) n) (a .list .now) (c .if1 .taken)
 
 schedule-each-shared-slice-read-schedule-events : (t : ℕ) → schedule-each-lts.Need-shared-slice-read-schedule-events (Rd t) (schedule-each-at t) schedule-each.Post
-schedule-each-shared-slice-read-schedule-events t c = search needs
+schedule-each-shared-slice-read-schedule-events t c = omega arith
 
 schedule-each-schedule-events-requires : (t : ℕ) → schedule-each-lts.Need-schedule-events-requires (Rd t) (schedule-each-at t) schedule-each.Post
 schedule-each-schedule-events-requires t c κs = let b = c .before .before .before .before .before .before .before .before .before .before .before .before in let a = b .args in (b .pre .1 .0, b .pre .1 .1, b .pre .1 .2, every-tail (λ n. n < a .z .cells) (a .list .now) (b .pre .1 .3) (c .before .before .before .before .before .if1 .left) .0)
@@ -58,13 +58,13 @@ schedule-each-returns-2 : (t : ℕ) → schedule-each-lts.Need-returns-2 (Rd t) 
 schedule-each-returns-2 t c = let b = c .before .before .before .before .before .before .before .before .before .before .before .before .before .before .before .before .before .before .before .before .before .before in let a = b .args in list-stop (λ n. scheduleEvents (a .p) n) (a .list .now) (c .before .before .before .before .before .before .before .before .before .before .before .before .before .before .before .if1 .left) (c .if2 .taken) (c .before .before .before .before .before .before .before .before .before .schedule-events .ensures)
 
 schedule-each-sub-schedule-each : (t : ℕ) → schedule-each-lts.Need-sub-schedule-each (Rd t) (schedule-each-at t) schedule-each.Post
-schedule-each-sub-schedule-each t c = search needs
+schedule-each-sub-schedule-each t c = omega arith
 
 schedule-each-part-schedule-each-start : (t : ℕ) → schedule-each-lts.Need-part-schedule-each-start (Rd t) (schedule-each-at t) schedule-each.Post
-schedule-each-part-schedule-each-start t c = search needs
+schedule-each-part-schedule-each-start t c = omega arith
 
 schedule-each-part-schedule-each-end : (t : ℕ) → schedule-each-lts.Need-part-schedule-each-end (Rd t) (schedule-each-at t) schedule-each.Post
-schedule-each-part-schedule-each-end t c = search needs
+schedule-each-part-schedule-each-end t c = omega arith
 
 schedule-each-schedule-each-requires : (t : ℕ) → schedule-each-lts.Need-schedule-each-requires (Rd t) (schedule-each-at t) schedule-each.Post
 schedule-each-schedule-each-requires t c κs = let b = c .before .before .before .before .before .before .before .before .before .before .before .before .before .before .before .before .before .before .before .before .before .before .before .before .before .before .before in let a = b .args in (omega (arith, tail-less (a .list .now) (c .before .before .before .before .before .before .before .before .before .before .before .before .before .before .before .before .before .before .before .before .if1 .left), b .pre .0), (after (c .before .before .before .before .before .before .before .before .before .before .before .before .before .before .schedule-events .ensures) (b .pre .1 .0), b .pre .1 .1, b .pre .1 .2, every-tail (λ n. n < a .z .cells) (a .list .now) (b .pre .1 .3) (c .before .before .before .before .before .before .before .before .before .before .before .before .before .before .before .before .before .before .before .before .if1 .left) .1))

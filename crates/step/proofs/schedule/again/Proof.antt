@@ -1,10 +1,11 @@
+use native.Mathlib.Omega.{arith}
+use mathlib.Core.Path.{sym, subst}
 use Rattle.step.proofs.Scheduling.{again-does}
 use Rattle.step.proofs.Leaves.{homes-below}
 use Rattle.chunks.specs.Flat.{Every}
 use borrow.Rule.Slice.PartMut.{midOf}
 use Prim.Native.Nat.{_-_, _<_}
 use mathlib.Core.Path.{sym, subst}
-use borrow.Author.Needs.{needs}
 use Rattle.step.proofs.schedule.again.Statement.{statement}
 use Rattle.step.proofs.schedule.again.Tie as tie
 
@@ -12,16 +13,16 @@ cells-of-requires : tie.Need-cells-of-requires
 cells-of-requires c κs = let b = c .before .before .before .before .before in let a = b .args in let o = b .pre .0 in ((o .0, o .1 .listed), o .1 .seen .queued .ranged, b .pre .2)
 
 mul-schedule-each : tie.Need-mul-schedule-each
-mul-schedule-each c = search needs
+mul-schedule-each c = let f = c .before .before .before .before .before .before .fits in let k = c .cells-of .ensures .0 in let m = c .cells-of .ensures .1 in omega arith
 
 sub-schedule-each : tie.Need-sub-schedule-each
-sub-schedule-each c = search needs
+sub-schedule-each c = let f = c .before .before .before .before .before .before .fits in let k = c .cells-of .ensures .0 in let m = c .cells-of .ensures .1 in omega arith
 
 part-schedule-each-start : tie.Need-part-schedule-each-start
-part-schedule-each-start c = search needs
+part-schedule-each-start c = let f = c .before .before .before .before .before .before .fits in let k = c .cells-of .ensures .0 in let m = c .cells-of .ensures .1 in omega arith
 
 part-schedule-each-end : tie.Need-part-schedule-each-end
-part-schedule-each-end c = search needs
+part-schedule-each-end c = let f = c .before .before .before .before .before .before .fits in let k = c .cells-of .ensures .0 in let m = c .cells-of .ensures .1 in omega arith
 
 schedule-each-requires : tie.Need-schedule-each-requires
 schedule-each-requires c κs = let b = c .before .before .before .before .before .before .before .before .before .before .before in let a = b .args in let o = b .pre .0 in (o, b .pre .1, b .pre .2, subst (Every (λ n. n < a .z .cells)) (sym (c .before .before .before .before .before .cells-of .ensures .2 (o .0) (o .1 .listed))) (homes-below (o .0) (o .1 .listed) (a .p) (b .pre .2)))

@@ -1,3 +1,6 @@
+use mathlib.Core.Path.{sym, subst}
+use native.Mathlib.Omega.{arith}
+use mathlib.Core.Path.{sym, subst}
 use Rattle.acts.proofs.Frame.{queues-along}
 use Rattle.acts.proofs.Touch.{each-step-only}
 use Rattle.acts.specs.Tell.{InLists}
@@ -11,7 +14,6 @@ use Rattle.halting.specs.Out.{then, eachOf}
 use borrow.Rule.Slice.PartMut.{midOf}
 use Prim.Native.Nat.{_-_}
 use mathlib.Core.Path.{sym, subst}
-use borrow.Author.Needs.{needs}
 use Rattle.step.proofs.schedule.schedule_events.Statement.{statement}
 use Rattle.step.proofs.schedule.schedule_events.Tie as tie
 
@@ -19,16 +21,16 @@ members-of-requires : tie.Need-members-of-requires
 members-of-requires c κs = let b = c .before .before .before .before .before in let a = b .args in let o = b .pre .0 in ((o .0, o .1 .listed), o .1 .seen .queued .ranged, b .pre .3)
 
 mul-step-others : tie.Need-mul-step-others
-mul-step-others c = search needs
+mul-step-others c = let f = c .before .before .before .before .before .before .before .fits in let g = c .before .before .before .before .before .before .before .good in let k = c .before .members-of .ensures .0 in let m = c .before .members-of .ensures .1 in omega arith
 
 sub-step-others : tie.Need-sub-step-others
-sub-step-others c = search needs
+sub-step-others c = let f = c .before .before .before .before .before .before .before .fits in let g = c .before .before .before .before .before .before .before .good in let k = c .before .members-of .ensures .0 in let m = c .before .members-of .ensures .1 in omega arith
 
 part-step-others-start : tie.Need-part-step-others-start
-part-step-others-start c = search needs
+part-step-others-start c = let f = c .before .before .before .before .before .before .before .fits in let g = c .before .before .before .before .before .before .before .good in let k = c .before .members-of .ensures .0 in let m = c .before .members-of .ensures .1 in omega arith
 
 part-step-others-end : tie.Need-part-step-others-end
-part-step-others-end c = search needs
+part-step-others-end c = let f = c .before .before .before .before .before .before .before .fits in let g = c .before .before .before .before .before .before .before .good in let k = c .before .members-of .ensures .0 in let m = c .before .members-of .ensures .1 in omega arith
 
 step-others-requires : tie.Need-step-others-requires
 step-others-requires c κs = let b = c .before .before .before .before .before .before .before .before in let a = b .args in let o = b .pre .0 in ((o .0, o .1 .seen .grained), o .1 .seen .queued .ranged, (subst (Every (λ n. n < a .z .grains)) (sym (c .before .before .members-of .ensures .2 (o .0) (o .1 .listed))) (members-below (o .0) (o .1 .listed) (a .cell) (b .pre .3))))
@@ -43,16 +45,16 @@ new-requires : tie.Need-new-requires
 new-requires c κs = let b = c .before .before .before .before .before .before .before .before .before .before .before .before in let a = b .args in let k = b .pre .3 in (b .pre .1 .laid, rw (b .pre .1 .cells-are) k)
 
 mul-schedule-stepped : tie.Need-mul-schedule-stepped
-mul-schedule-stepped c = search needs
+mul-schedule-stepped c = let f = c .before .before .before .before .before .before .before .before .before .before .before .before .before .fits in let g = c .before .before .before .before .before .before .before .before .before .before .before .before .before .good in let k = c .before .before .before .before .before .before .before .members-of .ensures .0 in let m = c .before .before .before .before .before .before .before .members-of .ensures .1 in omega arith
 
 sub-schedule-stepped : tie.Need-sub-schedule-stepped
-sub-schedule-stepped c = search needs
+sub-schedule-stepped c = let f = c .before .before .before .before .before .before .before .before .before .before .before .before .before .fits in let g = c .before .before .before .before .before .before .before .before .before .before .before .before .before .good in let k = c .before .before .before .before .before .before .before .members-of .ensures .0 in let m = c .before .before .before .before .before .before .before .members-of .ensures .1 in omega arith
 
 part-schedule-stepped-start : tie.Need-part-schedule-stepped-start
-part-schedule-stepped-start c = search needs
+part-schedule-stepped-start c = let f = c .before .before .before .before .before .before .before .before .before .before .before .before .before .fits in let g = c .before .before .before .before .before .before .before .before .before .before .before .before .before .good in let k = c .before .before .before .before .before .before .before .members-of .ensures .0 in let m = c .before .before .before .before .before .before .before .members-of .ensures .1 in omega arith
 
 part-schedule-stepped-end : tie.Need-part-schedule-stepped-end
-part-schedule-stepped-end c = search needs
+part-schedule-stepped-end c = let f = c .before .before .before .before .before .before .before .before .before .before .before .before .before .fits in let g = c .before .before .before .before .before .before .before .before .before .before .before .before .before .good in let k = c .before .before .before .before .before .before .before .members-of .ensures .0 in let m = c .before .before .before .before .before .before .before .members-of .ensures .1 in omega arith
 
 schedule-stepped-requires : tie.Need-schedule-stepped-requires
 schedule-stepped-requires c κs = let b = c .before .before .before .before .before .before .before .before .before .before .before .before .before .before .before .before .before .before in let a = b .args in let o = b .pre .0 in let u = after (grains-do (eachOf stepGrain (others (a .p) (midOf (c .before .before .before .before .before .before .before .before .before .before .before .before .members-of .result .from) (c .before .before .before .before .before .before .before .before .before .before .before .before .members-of .result .to - c .before .before .before .before .before .before .before .before .before .before .before .before .members-of .result .from) (a .lists .now)))) (λ s. each-step-only (others (a .p) (midOf (c .before .before .before .before .before .before .before .before .before .before .before .before .members-of .result .from) (c .before .before .before .before .before .before .before .before .before .before .before .before .members-of .result .to - c .before .before .before .before .before .before .before .before .before .before .before .before .members-of .result .from) (a .lists .now))) s) (c .before .before .before .before .before .before .before .before .before .step-others .ensures)) o in ((u .0, u .1 .seen), made-cell (a .cell) (c .before .before .before .before .before .new .ensures) (b .pre .3), b .pre .2, (subst (Every (λ n. n < a .z .grains)) (sym (c .before .before .before .before .before .before .before .before .before .before .before .before .members-of .ensures .2 (o .0) (o .1 .listed))) (members-below (o .0) (o .1 .listed) (a .cell) (b .pre .3))))
