@@ -1,0 +1,20 @@
+-- A NaN's pattern is told by the bits below the sign. Assumes nothing.
+use mathlib.Core.Path.{sym}
+use lib.Ieee.{ofBits, div}
+use borrow.Author.Needs.{needs}
+use Rattle.words.proofs.Floats.{pattern-no-nan, pattern-nan}
+use Rattle.words.proofs.float.Statement.{statement}
+use Rattle.words.proofs.float.Tie as tie
+
+float-from-bits-result : tie.Need-float-from-bits-result
+float-from-bits-result c = pattern-no-nan (c .before .args .b) (c .if1 .taken)
+
+returns : tie.Need-returns
+returns c = search needs
+
+returns-2 : tie.Need-returns-2
+unfolding ofBits div
+returns-2 c = sym (pattern-nan (c .before .args .b) (c .if1 .left))
+
+pub float-spec : {M : Type 1} → statement M
+float-spec = tie.close (tie.spec float-from-bits-result returns returns-2)
