@@ -1,5 +1,5 @@
 -- Laws of tests joined by `and`. Assumes nothing.
-use mathlib.Core.Path.{_≡_, refl, sym, ap, _∙_}
+use mathlib.Core.Path.{_≡_, refl}
 use mathlib.Core.Bool.{Bool, true, false, _&&_}
 use Rattle.halting.specs.Out.{pick}
 
@@ -27,15 +27,3 @@ to-end true true false = refl
 to-end true false true = refl
 to-end true false false = refl
 to-end false l r = refl
-
-pub and-right : (a : Bool) → (a && true) ≡ a
-and-right true = refl
-and-right false = refl
-
-pub and-false : (a : Bool) → (a && false) ≡ false
-and-false true = refl
-and-false false = refl
-
-pub and-assoc : (a b c : Bool) → ((a && b) && c) ≡ (a && (b && c))
-and-assoc true b c = refl
-and-assoc false b c = refl

@@ -1,13 +1,13 @@
 -- Laws of records one after another, and of rows with counts: the first, the rest, and the one with a number. Assumes nothing.
 use mathlib.Core.Path.{_≡_, refl, sym, ap, _∙_, subst}
 use Prim.Native.Nat.{ℕ, zero, suc, _+_, _-_, _*_, _≤_, _<_}
-use native.Mathlib.Nat.{suc-ne-zero, suc-mul, zero-mul, not-suc-le-zero, le-of-suc-le-suc, mul-le-mul-right}
+use native.Mathlib.Nat.{suc-mul, zero-mul, not-suc-le-zero, le-of-suc-le-suc, mul-le-mul-right}
 use native.Mathlib.Omega.{arith}
-use mathlib.Core.List.{List, [], _∷_, _++_}
-use mathlib.Core.Bool.{Bool, true, false, _&&_}
+use mathlib.Core.List.{List, [], _∷_}
+use mathlib.Core.Bool.{Bool, true, false}
 use lib.Dec.{leb}
 use lib.ListN.{length, getD, take, drop, length-drop}
-use lib.Seq.{take-all, take-take, drop-drop, getD-drop}
+use lib.Seq.{take-all, drop-drop}
 use borrow.Author.Tests.{leb-true, le-leb, lt-leb}
 use borrow.Rule.Slice.PartMut.{midOf}
 use Rattle.model.proofs.Queue.{and-l, and-r}
@@ -34,7 +34,7 @@ one-off : (n : ℕ) → n ≡ suc n - 1
 one-off n = omega arith
 
 -- the record after c others
-drop-next : {B : Type 0} (c w : ℕ) (l : List B) → drop (c * w) (drop w l) ≡ drop (suc c * w) l
+pub drop-next : {B : Type 0} (c w : ℕ) (l : List B) → drop (c * w) (drop w l) ≡ drop (suc c * w) l
 drop-next c w l = let e : w + c * w ≡ suc c * w = (let s = suc-mul c w in omega arith) in drop-drop (c * w) w l ∙ ap (λ (k : ℕ). drop k l) e
 
 -- ---- the first numbers of a list

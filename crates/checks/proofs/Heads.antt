@@ -1,10 +1,10 @@
 -- The head time of a cell, read in the tables and in the state that they are read as. Assumes nothing.
-use mathlib.Core.Path.{_≡_, refl, sym, ap, _∙_, subst}
+use mathlib.Core.Path.{_≡_, refl, sym, ap, _∙_}
 use Prim.Native.Nat.{ℕ, zero, suc, _+_, _*_, _≤_, _<_}
 use native.Mathlib.Nat.{suc-ne-zero, not-suc-le-zero, le-of-suc-le-suc, suc-mul, mul-le-mul-right, add-zero}
 use native.Mathlib.Omega.{arith}
 use mathlib.Core.List.{List, [], _∷_}
-use mathlib.Core.Bool.{Bool, true, false, cond}
+use mathlib.Core.Bool.{Bool, cond}
 use lib.Dec.{eqb}
 use lib.ListN.{length, getD, take, drop}
 use lib.Seq.{getD-drop}
@@ -15,7 +15,7 @@ use Rattle.scheduler.specs.Heap.{headIn}
 use Rattle.model.specs.declared.Place.{Place}
 use Rattle.model.specs.Events.{headTime}
 use Rattle.model.specs.State.{Row, none, heads}
-use Rattle.checks.specs.Decode.{cutBoth, placeAt, placesOf, queueAt, queuesOf}
+use Rattle.checks.specs.Decode.{cutBoth, placesOf, queueAt, queuesOf}
 use Rattle.checks.proofs.Cut.{both-at}
 
 default-free : {A : Type 0} (l : List A) (i : ℕ) (d e : A) → i < length l → getD l i d ≡ getD l i e

@@ -10,3 +10,8 @@ pub mod Turns
 pub mod Heads
 pub mod Same
 pub mod Stages
+pub mod Holding
+pub mod Back
+pub mod Accepts
+pub mod Again
+pub mod Needs

@@ -1,29 +1,27 @@
 -- A place of the tables, a row of them, and the tests of one. Assumes nothing.
-use mathlib.Core.Path.{_≡_, refl, sym, ap, _∙_, subst}
-use Prim.Native.Nat.{ℕ, zero, suc, _+_, _-_, _*_, _≤_, _<_}
-use native.Mathlib.Nat.{not-suc-le-zero}
+use mathlib.Core.Path.{_≡_, refl, sym, ap, _∙_}
+use Prim.Native.Nat.{ℕ, zero, suc, _+_, _-_, _≤_, _<_}
 use native.Mathlib.Omega.{arith}
-use mathlib.Core.List.{List, [], _∷_, _++_}
+use mathlib.Core.List.{List, [], _∷_}
 use mathlib.Core.Bool.{Bool, true, false, not, _&&_}
-use lib.Dec.{leb, eqb, ltb}
+use lib.Dec.{eqb, ltb}
 use lib.ListN.{length, getD, take, drop, take-append-drop, length-append}
 use lib.Ieee.{Float, nan, le, lt}
 use lib.Ieee.Scale.{finite}
-use borrow.Author.Tests.{le-leb, lt-leb, eq-eqb}
+use borrow.Author.Tests.{eq-eqb}
 use borrow.Rule.Slice.PartMut.{midOf}
-use Rattle.halting.specs.Out.{pick}
 use Rattle.halting.specs.Every.{every}
 use Rattle.order.specs.Numbers.{last}
 use Rattle.model.specs.declared.Place.{Place}
 use Rattle.model.specs.declared.Event.{Event}
 use Rattle.model.specs.declared.Event.the-variants.{InterParticleCollision, MoveToNeighbour, MoveOutOfCell, WallReflection, Synchronisation}
 use Rattle.model.specs.Events.{eventOf, finePlace}
-use Rattle.model.specs.State.{Row, has}
+use Rattle.model.specs.State.{has}
 use Rattle.model.specs.Standing.{syncs, one-if}
 use Rattle.model.specs.Check.{all, rising, named, held, queueOk}
-use Rattle.checks.specs.Decode.{rowAt, placeAt, placesOf, queueAt}
+use Rattle.checks.specs.Decode.{placeAt, placesOf, queueAt}
 use Rattle.checks.proofs.Cut.{tail-is, both-take, both-long}
-use Rattle.checks.proofs.Bools.{one, pair, last-one, to-end, and-false, and-right}
+use Rattle.checks.proofs.Bools.{one, pair, last-one, to-end}
 
 -- ---- the tests of a list of places, step by step
 module _ (t : Float) {xs : List Place} where

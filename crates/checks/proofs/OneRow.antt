@@ -1,18 +1,18 @@
 -- A row of numbers in a table, and the tests of one. Assumes nothing.
-use mathlib.Core.Path.{_≡_, refl, sym, ap, _∙_, subst}
-use Prim.Native.Nat.{ℕ, zero, suc, _+_, _-_, _*_, _≤_, _<_}
+use mathlib.Core.Path.{_≡_, sym, ap, _∙_}
+use Prim.Native.Nat.{ℕ, _+_, _-_, _*_, _≤_, _<_}
 use native.Mathlib.Omega.{arith}
-use mathlib.Core.List.{List, [], _∷_, _++_}
+use mathlib.Core.List.{List}
 use mathlib.Core.Bool.{Bool, true, false, _&&_}
-use lib.Dec.{leb, eqb, ltb}
+use lib.Dec.{ltb}
 use lib.ListN.{length, getD, take, drop, length-drop, take-append-drop, length-append, List·getD-eq-default}
-use lib.Seq.{take-take, length-take-le, take-nil}
-use borrow.Author.Tests.{le-leb, lt-leb, eq-eqb}
+use lib.Seq.{take-take, length-take-le}
+use borrow.Author.Tests.{le-leb, eq-eqb}
 use borrow.Rule.Slice.PartMut.{midOf}
 use Rattle.model.specs.State.{Row, has, liveAt, none}
 use Rattle.model.specs.Check.{all, once, numbers}
-use Rattle.checks.specs.Decode.{rowAt, rowsOf, cut}
-use Rattle.checks.specs.Walk.{First, Rowed, housed}
+use Rattle.checks.specs.Decode.{rowAt, rowsOf}
+use Rattle.checks.specs.Walk.{First, housed}
 use Rattle.checks.proofs.Cut.{tail-is, cut-at, cut-long}
 
 -- its places in use are the first that follow the count

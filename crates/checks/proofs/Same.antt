@@ -1,6 +1,6 @@
 -- Check 10 as the code makes it is the test of the standing facts on the state that the tables are read as. Assumes nothing.
 use mathlib.Core.Path.{_≡_, refl, sym, ap, _∙_, subst}
-use Prim.Native.Nat.{ℕ, _+_, _-_, _*_, _/_, _≤_, _<_}
+use Prim.Native.Nat.{ℕ, _+_, _*_, _≤_, _<_}
 use native.Mathlib.Nat.{zero-mul}
 use native.Mathlib.Omega.{arith}
 use mathlib.Core.List.{List}
@@ -8,26 +8,25 @@ use mathlib.Core.Bool.{Bool, true, false, not, _&&_, _||_}
 use lib.Dec.{eqb, leb, ltb}
 use lib.ListN.{length, getD, take, drop, length-drop}
 use lib.Seq.{length-take-le}
-use lib.Ieee.{Float, nan, le, lt}
+use lib.Ieee.{Float, nan, lt}
 use lib.Ieee.Scale.{finite}
 use borrow.Author.Tests.{eqb-true, eq-eqb, le-leb, leb-true, ltb-true}
 use Rattle.halting.specs.Every.{every}
 use Rattle.halting.proofs.Tests.{true-every}
 use Rattle.scheduler.specs.Heap.{headIn, timeIn, parent}
 use Rattle.model.specs.Grid.{cells, cellsOf, across}
-use Rattle.model.specs.Sizes.{boxOk, within}
-use Rattle.model.specs.State.{Row, none, State, grain, home, listed, queue, heads, liveAt, zeroG, has}
-use Rattle.model.specs.Acts.{fineGrain}
+use Rattle.model.specs.Sizes.{boxOk}
+use Rattle.model.specs.State.{Row, none, home, queue, heads, liveAt, zeroG}
 use Rattle.model.specs.declared.Place.{Place}
 use Rattle.model.specs.Standing.{syncs}
-use Rattle.model.specs.Check.{all, numbers, side, back, inverse, queueOk, sound}
+use Rattle.model.specs.Check.{all, numbers, side, back, inverse, sound}
 use Rattle.model.specs.Check as model
 use Rattle.model.proofs.Lists.{clash}
 use Rattle.model.proofs.Queue.{and-l, and-r}
 use Rattle.tables.specs.declared.Sizes.{Sizes}
-use Rattle.checks.specs.Decode.{Tables, mark, sizesOf, decoded, decodedBy, homesPart, membersPart, grainsPart, grainAt, grainsOf, rowAt, rowsOf, placeAt, placesOf, queueAt, queuesOf}
-use Rattle.checks.specs.Check.{Sized, counted, legibleBy, standing}
-use Rattle.checks.specs.Walk.{Rowed, walk, backRow, housed, linked, inOrder}
+use Rattle.checks.specs.Decode.{Tables, mark, decodedBy, homesPart, membersPart, grainsPart, grainAt, grainsOf, rowAt, rowsOf, placesOf, queueAt, queuesOf}
+use Rattle.checks.specs.Check.{Sized, Legible, counted, legibleBy, standing}
+use Rattle.checks.specs.Walk.{walk, backRow, housed, linked, inOrder}
 use Rattle.checks.specs.Parts.{boxed, grainOk, settled, queueIn, queued, heaped, parts}
 use Rattle.checks.proofs.Cut.{tail-is, cut-long, both-long, both-at, counted-at}
 use Rattle.checks.proofs.OnePlace.{queue-live}
@@ -280,13 +279,6 @@ module _ (z : Sizes) (t : Tables) where
   heaped-close a b c = rw (a, b) c
 
 -- ---- counts within their room
-pub record Legible (z : Sizes) (l q : List ℕ) : Type 0 where
-  pub flag0 : getD l 4 0 ≤ 1
-  pub flag1 : getD l 5 0 ≤ 1
-  pub homes : counted 8 9 (z .grains) (homesPart l) ≡ true
-  pub members : counted 32 33 (z .cells) (membersPart (z .grains) l) ≡ true
-  pub events : counted (z .room) (z .room * 4 + 1) (z .cells) q ≡ true
-
 pub legible-means : (z : Sizes) (l q : List ℕ) → legibleBy z l q ≡ true → Legible z l q
 legible-means z l q e =
     let a = counted 8 9 (z .grains) (homesPart l) in

@@ -1,6 +1,6 @@
 -- The stages of check 10 and of the whole check, as the code answers them; what a passed check 2 says; rows as they are lent. Assumes nothing.
 use mathlib.Core.Path.{_≡_, refl, sym, ap, _∙_, subst}
-use Prim.Native.Nat.{ℕ, _+_, _-_, _*_, _≤_, _<_}
+use Prim.Native.Nat.{ℕ, _+_, _-_, _*_}
 use native.Mathlib.Omega.{arith}
 use mathlib.Core.List.{List}
 use mathlib.Core.Bool.{Bool, true, false, _&&_}
@@ -9,18 +9,16 @@ use lib.ListN.{length, getD, length-drop}
 use lib.Ieee.{Float, nan}
 use borrow.Author.Tests.{leb-true, le-leb}
 use borrow.Rule.Slice.PartMut.{midOf}
-use Rattle.halting.specs.Out.{pick}
 use Rattle.model.specs.Sizes.{rated}
 use Rattle.model.specs.Check.{halt}
-use Rattle.model.specs.State.{Row}
 use Rattle.model.proofs.Queue.{and-l, and-r}
 use Rattle.tables.specs.declared.Sizes.{Sizes}
-use Rattle.checks.specs.Decode.{Tables, mark, sizesOf, homesPart, membersPart, rowsOf}
-use Rattle.checks.specs.Check.{ranged, listsNeed, grainsNeed, queueNeed, eventsNeed, long, sizedBy, sized, Sized, legibleBy, standing, checked}
+use Rattle.checks.specs.Decode.{Tables, mark, sizesOf, rowsOf}
+use Rattle.checks.specs.Check.{Legible, ranged, listsNeed, grainsNeed, queueNeed, eventsNeed, long, sizedBy, sized, Sized, legibleBy, standing, checked}
 use Rattle.checks.specs.Walk.{Rowed, linked}
 use Rattle.checks.specs.Parts.{settled, queued, heaped, parts}
 use Rattle.checks.proofs.Cut.{tail-is}
-use Rattle.checks.proofs.Same.{homesIn, membersIn, Legible, parts-are}
+use Rattle.checks.proofs.Same.{homesIn, membersIn}
 
 -- ---- 2
 pub sized-means : (t : Tables) → sized t ≡ true → Sized (sizesOf (t .lists)) t

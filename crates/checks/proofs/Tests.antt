@@ -1,15 +1,14 @@
 -- The tests that join others, as the code answers them; and the floats of a grain. Assumes nothing.
-use mathlib.Core.Path.{_≡_, refl, sym, ap, _∙_}
-use Prim.Native.Nat.{ℕ, _+_, _*_, _≤_}
+use mathlib.Core.Path.{_≡_, sym, ap, _∙_}
+use Prim.Native.Nat.{ℕ, _*_, _≤_}
 use native.Mathlib.Nat.{mul-le-mul}
 use native.Mathlib.Omega.{arith}
-use mathlib.Core.List.{List}
+use mathlib.Core.List.{List, [], _∷_}
 use mathlib.Core.Bool.{Bool, true, false, _&&_}
-use lib.Dec.{T, eqb}
-use lib.ListN.{getD, take, drop}
-use lib.Ieee.{Float, nan, le}
+use lib.Dec.{eqb}
+use lib.ListN.{length, getD, take, drop}
+use lib.Ieee.{Float, nan, le, fits}
 use lib.Ieee.Scale.{finite}
-use Rattle.halting.specs.Out.{pick}
 use Rattle.halting.specs.Every.{every}
 use Rattle.order.specs.Numbers.{nine, fortyeight}
 use Rattle.scheduler.specs.Heap.{headIn}
@@ -24,6 +23,7 @@ use Rattle.model.proofs.Grid.{cells-range}
 use Rattle.tables.specs.declared.Sizes.{Sizes}
 use Rattle.checks.specs.Decode.{grainAt, placesOf, queuesOf}
 use Rattle.checks.specs.Walk.{walk, inOrder}
+use Rattle.checks.specs.Held.{Fits}
 use Rattle.checks.specs.Parts.{queueIn, queued, heaped}
 use Rattle.checks.proofs.Bools.{pair, last-pair}
 
@@ -62,3 +62,9 @@ module _ (z : Sizes) (o q : List ℕ) (e : List Float) where
       → r ≡ every (inOrder (headIn e q (z .room)) (take 256 o) (z .cells)) (z .cells) 0 → r ≡ heaped z o q e
   unfolding heaped
   heaped-more h k i = rw (h, k) i
+
+-- a table with no place
+pub none-fits : (l : List Float) → length l ≤ 0 → Fits l
+unfolding fits
+none-fits [] h i = tt
+none-fits (x ∷ l) h i = absurd (omega arith)

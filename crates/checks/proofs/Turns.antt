@@ -1,5 +1,5 @@
 -- A test of every number that reads a list is a test of each of the list. Assumes nothing.
-use mathlib.Core.Path.{_≡_, refl, sym, ap, _∙_, subst}
+use mathlib.Core.Path.{_≡_, refl, sym, ap, _∙_}
 use Prim.Native.Nat.{ℕ, zero, suc, _+_, _-_, _≤_, _<_}
 use native.Mathlib.Nat.{sub-self, sub-zero}
 use native.Mathlib.Numerals.{add-one}

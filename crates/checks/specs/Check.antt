@@ -1,10 +1,10 @@
 -- 01: "A run checks 2, then the halt mark, then 3, then 10", over the lent tables. Assumes nothing: these are definitions.
-use Prim.Native.Nat.{ℕ, zero, suc, _+_, _*_, _≤_}
+use Prim.Native.Nat.{ℕ, zero, suc, _+_, _-_, _*_, _≤_}
 use mathlib.Core.Path.{_≡_}
-use mathlib.Core.List.{List, [], _∷_}
+use mathlib.Core.List.{List}
 use mathlib.Core.Bool.{Bool, true, _&&_}
 use lib.Dec.{leb}
-use lib.ListN.{length, getD, drop}
+use lib.ListN.{length, getD, take, drop}
 use lib.Ieee.{Float}
 use Rattle.halting.specs.Out.{pick}
 use Rattle.model.specs.Sizes.{memberRoom, homeRoom, rated}
@@ -32,6 +32,22 @@ eventsNeed z = z .cells * (z .room * 10)
 
 abbrev pub orderNeed : ℕ
 orderNeed = 512
+
+-- what the counts need of each table, behind its header
+abbrev pub listsBody : Sizes → List ℕ → List ℕ
+listsBody z l = take (listsNeed z - 6) (drop 6 l)
+
+abbrev pub grainsBody : Sizes → List Float → List Float
+grainsBody z g = take (grainsNeed z - 3) (drop 3 g)
+
+abbrev pub queueBody : Sizes → List ℕ → List ℕ
+queueBody z q = take (queueNeed z) q
+
+abbrev pub eventsBody : Sizes → List Float → List Float
+eventsBody z e = take (eventsNeed z) e
+
+abbrev pub orderBody : List ℕ → List ℕ
+orderBody o = take 512 o
 
 abbrev pub long : Sizes → ℕ → ℕ → ℕ → ℕ → ℕ → Bool
 long z l g q e o = (leb (listsNeed z) l && leb (grainsNeed z) g) && ((leb (queueNeed z) q && leb (eventsNeed z) e) && leb orderNeed o)
@@ -69,6 +85,13 @@ legibleBy z l q =
 
 abbrev pub legible : Tables → Bool
 legible t = legibleBy (sizesOf (t .lists)) (t .lists) (t .queue)
+
+pub record Legible (z : Sizes) (l q : List ℕ) : Type 0 where
+  pub flag0 : getD l 4 0 ≤ 1
+  pub flag1 : getD l 5 0 ≤ 1
+  pub homes : counted homeRoom (homeRoom + 1) (z .grains) (homesPart l) ≡ true
+  pub members : counted memberRoom (memberRoom + 1) (z .cells) (membersPart (z .grains) l) ≡ true
+  pub events : counted (z .room) (z .room * 4 + 1) (z .cells) q ≡ true
 
 unfoldable pub standing : Tables → Bool
 standing t = legible t && model.standing (decoded t)

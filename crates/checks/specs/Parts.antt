@@ -1,9 +1,9 @@
 -- Check 10 in the order in which the code makes it, over the parts of the tables. Assumes nothing: these are definitions.
-use Prim.Native.Nat.{ℕ, _+_, _*_}
+use Prim.Native.Nat.{ℕ, _*_}
 use mathlib.Core.List.{List}
 use mathlib.Core.Bool.{Bool, _&&_}
 use lib.Dec.{eqb}
-use lib.ListN.{length, getD, take, drop}
+use lib.ListN.{getD, take, drop}
 use lib.Ieee.{Float, nan, le}
 use lib.Ieee.Scale.{finite}
 use Rattle.halting.specs.Every.{every}

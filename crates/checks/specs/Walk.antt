@@ -1,5 +1,5 @@
 -- What the tests over rows ask of the tables that they read, and a test of each of a list with its number. Assumes nothing: these are definitions.
-use Prim.Native.Nat.{ℕ, suc, _+_, _*_, _≤_}
+use Prim.Native.Nat.{ℕ, _+_, _*_, _≤_}
 use mathlib.Core.Path.{_≡_}
 use mathlib.Core.List.{List, [], _∷_}
 use mathlib.Core.Bool.{Bool, true, not, _&&_, _||_}

@@ -5,13 +5,7 @@ ghost use lib.ListN.{length, getD};
 ghost use lib.Ieee.{nan};
 ghost use lib.Ieee.Scale.{finite};
 ghost use Rattle.halting.specs.Every.{every};
-ghost use Rattle.model.specs.Sizes.{within};
-
-pub fn finite(x: f64) -> bool
-    ensures { λ r. ⌜ r ≡ finite x ⌝ }
-{
-    x - x == 0.0
-}
+ghost use Rattle.checks.specs.Held.{Fits};
 
 // Whether each of the first n is finite.
 pub fn all_finite(reals: &[f64], n: usize) -> bool
@@ -20,7 +14,7 @@ pub fn all_finite(reals: &[f64], n: usize) -> bool
 {
     let mut i: usize = 0;
     while i < n {
-        if !finite(reals[i]) {
+        if !particle::is_finite(reals[i]) {
             return false;
         }
         i += 1;
@@ -28,12 +22,11 @@ pub fn all_finite(reals: &[f64], n: usize) -> bool
     true
 }
 
-// Whether x lies in a range, ends included; a NaN lies in none.
-pub fn within(low: f64, high: f64, x: f64) -> bool
-    ensures { λ r. ⌜ r ≡ within low high x ⌝ }
+// The floats of a table are 64-bit ones, whatever they are: reading one tells it of all.
+pub fn known(reals: &[f64])
+    ensures { λ _. ⌜ Fits (now (reals .entry)) ⌝ }
 {
-    if low <= x {
-        return x <= high;
+    if 0 < reals.len() {
+        let _first = reals[0];
     }
-    false
 }

@@ -5,7 +5,8 @@ ghost use lib.ListN.{length};
 ghost use Rattle.model.specs.Sizes.{rated};
 ghost use Rattle.model.specs.Check.{halt};
 ghost use Rattle.checks.specs.Decode.{tables, rowsOf};
-ghost use Rattle.checks.specs.Check.{long, sizedBy, Sized, legibleBy, standing, checked, listsNeed, grainsNeed, queueNeed};
+ghost use Rattle.checks.specs.Check.{long, sizedBy, Sized, legibleBy, standing, listsNeed, grainsNeed, queueNeed};
+ghost use Rattle.checks.specs.Held.{Answered};
 ghost use Rattle.checks.specs.Walk.{Rowed};
 ghost use Rattle.checks.specs.Parts.{settled, queued, heaped};
 use tables::Sizes;
@@ -91,7 +92,7 @@ pub fn halt(mark: u64) -> bool
 pub fn rated(rate: f64) -> bool
     ensures { λ r. ⌜ r ≡ rated rate ⌝ }
 {
-    floats::within(0.00000095367431640625, 1048576.0, rate)
+    cell::within(0.00000095367431640625, 1048576.0, rate)
 }
 
 // Are the flags 0 or 1, and is every list count within its room?
@@ -128,7 +129,7 @@ fn settled(lists: &[u64], grains: &[f64], z: Sizes) -> bool
         return false;
     }
     let clock = grains[2];
-    if !floats::finite(clock) {
+    if !particle::is_finite(clock) {
         return false;
     }
     if !domain::boxed(grains[0], grains[1], z.cells) {
@@ -203,8 +204,10 @@ pub fn check(
     order: &[u8],
     rate: f64,
 ) -> u64
-    ensures { λ r. ⌜ r ≡ checked rate (tables (now (lists .entry)) (now (grains .entry)) (now (queue .entry)) (now (events .entry)) (now (order .entry))) ⌝ }
+    ensures { λ r. ⌜ Answered rate (tables (now (lists .entry)) (now (grains .entry)) (now (queue .entry)) (now (events .entry)) (now (order .entry))) r ⌝ }
 {
+    floats::known(grains);
+    floats::known(events);
     if !sized(lists, grains.len(), queue.len(), events.len(), order.len()) {
         return 2;
     }

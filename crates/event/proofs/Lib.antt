@@ -2,4 +2,3 @@
 mod Course
 mod Moves
 mod Collision
-mod Places

@@ -17,8 +17,8 @@ use Rattle.model.specs.Grid.{cellsOf, lengthOf, across, cells}
 use Rattle.model.specs.FromPToC.{width, firstCell, endCell, kernel, reached, cellsOfGrain}
 use Rattle.order.proofs.Mono.{plain, positive-plain, fr→le, sub-is, round-plain, add-mono, sub-mono, add-plain, sub-plain, not-inf, sub-under, div-minus, round-cut, sub-le-add, add-minus-zero, sub-minus-zero}
 use Rattle.order.proofs.Value.{round-own}
-use Rattle.model.proofs.Quarters.{four, Facts, facts}
-use Rattle.model.proofs.Kernels.{lo-last, cut, eight, eight-plain, fortyeight-plain, from-zero, half-plain, hi-in, hi-one, hi-some, inside, lo-far, low, max-cut-le, nine-plain, one-plain, plain-self, zero-le-plain, zero-plain}
+use Rattle.model.proofs.Quarters.{four, Facts, facts, half-plain}
+use Rattle.model.proofs.Kernels.{half-self, lo-last, cut, eight, eight-plain, fortyeight-plain, from-zero, hi-in, hi-one, hi-some, inside, lo-far, low, max-cut-le, nine-plain, one-plain, plain-self, zero-le-plain, zero-plain}
 use Rattle.model.proofs.Few.{few-inside}
 use mathlib.Core.List.{List, _++_}
 use Rattle.halting.specs.Out.{pick}
@@ -95,10 +95,6 @@ zero-48 = tt
 half-48 : T (le half fortyeight)
 unfolding ofBits le
 half-48 = tt
-
-pub half-self : T (le half half)
-unfolding ofBits le
-half-self = tt
 
 -- 9 is not below 8 + 1/2, nor below 1
 not-short : T (lt nine (add binary64 eight half)) → ⊥

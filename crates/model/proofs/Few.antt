@@ -16,12 +16,8 @@ use Rattle.order.proofs.Cut.{cut-mono}
 use Rattle.order.specs.Numbers.{one, half, two, fortyeight}
 use Rattle.model.specs.FromPToC.{width, firstCell, endCell}
 use Rattle.order.proofs.Mono.{plain, positive-plain, le→fr, div-is, add-mono, sub-mono, div-mono, num-pos}
-use Rattle.model.proofs.Quarters.{cnt, Facts, passed, tested, nth, positive-no-nan, quarter}
-use Rattle.model.proofs.Kernels.{cut, max-cut-ge, min-cut-le, cut-count, cnt-is, quotient-plain, one-plain, half-plain, fortyeight-plain}
-
-half-self : T (le half half)
-unfolding ofBits le
-half-self = tt
+use Rattle.model.proofs.Quarters.{cnt, Facts, passed, tested, nth, positive-no-nan, quarter, half-plain}
+use Rattle.model.proofs.Kernels.{cut, half-self, two-positive, max-cut-ge, min-cut-le, cut-count, cnt-is, quotient-plain, one-plain, fortyeight-plain}
 
 -- ---- fractions: A/P ≤ (i+5)/4, i/4 ≤ a/p, a/p < (k+1) c/d, 2 ≤ c/d: then A/P ≤ (k + 15/8) c/d
 far-enough : (A P a p c d i k : ℕ) → 0 < p → A * 4 ≤ (i + 5) * P → i * p ≤ a * 4 → a * d ≤ suc k * (c * p) → 2 * d ≤ c → A * d * 8 ≤ (8 * k + 15) * (c * P)
@@ -71,10 +67,6 @@ caps-at (suc m) k t h = go (leb m k) refl (λ (l : k < m). caps-at m k (and-r (c
 twentyfour : cut (div binary64 fortyeight two) ≡ 24
 unfolding ofBits div toUnsigned
 twentyfour = refl
-
-two-positive : T (positive two)
-unfolding ofBits
-two-positive = tt
 
 two-wide : (w : Float) → T (positive w) → T (le two w) → 2 * den w ≤ num w
 unfolding ofBits

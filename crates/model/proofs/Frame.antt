@@ -5,27 +5,31 @@ use mathlib.Core.List.{List, [], _∷_, _++_}
 use mathlib.Core.Bool.{Bool, true, false, or-true}
 use native.Mathlib.Omega.{arith}
 use native.Mathlib.Decide.{ℕ-discrete}
-use lib.Dec.{T, eqb, ltb, leb}
+use lib.Dec.{T, eqb}
 use lib.ListN.{length, getD, set, drop, replicate, length-set}
 use lib.Ieee.{le}
-use borrow.Author.Tests.{leb-false, eq-eqb}
+use borrow.Author.Tests.{eq-eqb}
 use Rattle.model.specs.declared.Particle.{Particle}
 use Rattle.model.specs.declared.Place.{Place}
 use Rattle.model.specs.declared.Plan.{Plan}
 use Rattle.model.specs.declared.Plan.the-variants.{Nothing, Refused, Due}
 use Rattle.model.specs.declared.Event.{Event}
 use Rattle.model.specs.declared.Event.the-variants.{InterParticleCollision, MoveToNeighbour, MoveOutOfCell, WallReflection, Synchronisation}
-use Rattle.halting.specs.Out.{Out, out, eachOf, pick}
+use Rattle.halting.specs.Out.{Out, eachOf}
 use Rattle.halting.proofs.Laws.{then-sound}
+use Rattle.order.proofs.Order.{le-refl}
+use Rattle.order.proofs.Clock.{finite-no-nan}
 use Rattle.model.specs.Grid.{cells}
-use Rattle.model.specs.Events.{insertBy, keepBy, goneBy, names, eventOf, finePlace, placeOf, zeroP}
+use Rattle.model.specs.Events.{insertBy, keepBy, goneBy, names, eventOf, placeOf, zeroP}
 use Rattle.model.specs.State.{Row, row, none, State, grain, home, listed, queue, liveAt, has, pushed, pulled, requeued, withGrains}
-use Rattle.model.specs.Acts.{fineGrain, store, insert, inserted, put, cancelled, enter, entered, leave, gone, queueRow}
+use Rattle.model.specs.Acts.{store, insert, inserted, put, cancelled, enter, entered, leave, gone, queueRow}
 use Rattle.model.specs.Standing.{All, syncs, one-if}
 use Rattle.model.specs.Sound.{Sound}
 use Rattle.model.proofs.Lists.{clash, live-same, live-other, length-snoc, length-but, has-entered}
+use Rattle.model.proofs.Inserts.{inserted-at}
 use Rattle.model.proofs.Queue.{kept-names}
-use Rattle.model.proofs.Keeps.{on-test, Apt, store-sound, insert-sound, cancelled-sound, enter-sound, leave-sound}
+use Rattle.model.proofs.Cases.{store-case, insert-case, enter-case, leave-case}
+use Rattle.model.proofs.Keeps.{Apt, store-sound, insert-sound, cancelled-sound, enter-sound, leave-sound}
 use Rattle.model.proofs.Plans.{AptPlan}
 
 -- what an act keeps at each of a list, the loop keeps
@@ -99,15 +103,13 @@ one-if-named (MoveOutOfCell p x k) g h = refl
 one-if-named (WallReflection p x v w) g h = refl
 one-if-named Synchronisation g h = clash h
 
+syncs-mid : (e : Place) (bs xs : List Place) → syncs (bs ++ e ∷ xs) ≡ one-if (eventOf (e .kind) e) + syncs (bs ++ xs)
+unfolding syncs
+syncs-mid e [] xs = refl
+syncs-mid e (b ∷ bs) xs = let h = syncs-mid e bs xs in omega (arith, h)
+
 pub syncs-insert : (e : Place) (l : List Place) → syncs (insertBy e l) ≡ one-if (eventOf (e .kind) e) + syncs l
-unfolding insertBy syncs
-syncs-insert e [] = refl
-syncs-insert e (x ∷ xs) = by (le (x .time) (e .time)) refl (syncs-insert e xs)
-  where
-    by : (b : Bool) → le (x .time) (e .time) ≡ b → syncs (insertBy e xs) ≡ one-if (eventOf (e .kind) e) + syncs xs
-        → syncs (insertBy e (x ∷ xs)) ≡ one-if (eventOf (e .kind) e) + (one-if (eventOf (x .kind) x) + syncs xs)
-    by true q ih = rw (q, ih) (omega arith)
-    by false q ih = rw q
+syncs-insert e l = let i = inserted-at e l in ap syncs (i .is) ∙ syncs-mid e (i .before) (i .after) ∙ ap (λ (m : List Place). one-if (eventOf (e .kind) e) + syncs m) (sym (i .was))
 
 pub syncs-keep : (g : ℕ) (l : List Place) → syncs (keepBy g l) ≡ syncs l
 unfolding keepBy syncs
@@ -138,9 +140,12 @@ requeued-frame s c r C h = record {
   members = refl;
 }
 
+pub same-clock : (s : State) → Sound s → T (le (s .clock) (s .clock))
+same-clock s sound = le-refl (s .clock) (finite-no-nan (s .clock) (sound .clock))
+
 -- ---- the acts that leave the lists
 pub store-keeps : (s : State) (g : ℕ) (p : Particle) → Sound s → g < length (s .grains) → T (le (p .time) (s .clock)) → Keeps s ((store g p s) .st)
-store-keeps s g p sound G h = record { sound = store-sound s g p sound G h; frame = unfold store in on-test (λ o. Frame s (o .st)) (fineGrain p) (out 0 (withGrains (set (s .grains) g p) s)) (out 5 s) (λ f. done′) (λ f. frame-refl s) }
+store-keeps s g p sound G h = record { sound = store-sound s g p sound G h; frame = store-case (λ o. Frame s (o .st)) s g p (frame-refl s) (λ f. done′) }
   where
     done′ : Frame s (withGrains (set (s .grains) g p) s)
     done′ = record { near = record { box = refl; clock = refl; mark = refl; room = refl; few = length-set (s .grains) g p; calm = refl; housed = λ i k. k }; homes = refl; members = refl }
@@ -148,9 +153,7 @@ store-keeps s g p sound G h = record { sound = store-sound s g p sound G h; fram
 pub insert-keeps : (s : State) (c : ℕ) (e : Place) → Sound s → c < cells (s .box) → Apt (cells (s .box)) c (listed s c) (s .clock) e → one-if (eventOf (e .kind) e) ≡ 0 → Keeps s ((insert c e s) .st)
 insert-keeps s c e sound C a z = record {
   sound = insert-sound s c e sound C a;
-  frame = unfold insert in
-      on-test (λ o. Frame s (o .st)) (finePlace e) (pick (ltb (length (queue s c)) (s .room)) (out 0 (inserted c e s)) (out 6 s)) (out 5 s)
-      (λ f. on-test (λ o. Frame s (o .st)) (ltb (length (queue s c)) (s .room)) (out 0 (inserted c e s)) (out 6 s) (λ r. done′) (λ r. frame-refl s)) (λ f. frame-refl s);
+  frame = insert-case (λ o. Frame s (o .st)) s c e (frame-refl s) (λ r. frame-refl s) (λ f r. done′);
 }
   where
     done′ : Frame s (inserted c e s)
@@ -205,10 +208,7 @@ longer s g c sound G i h = elim (ℕ-discrete i g) [
 pub enter-goes : (s : State) (g c : ℕ) → Sound s → g < length (s .grains) → c < cells (s .box) → Goes s ((enter g c s) .st)
 enter-goes s g c sound G C = record {
   sound = enter-sound s g c sound G C;
-  near = unfold enter in
-      on-test (λ o. Near s (o .st)) (has g (listed s c)) (out 8 s) (pick (ltb (length (listed s c)) 32) (pick (ltb (length (home s g)) 8) (out 0 (entered g c s)) (out 7 s)) (out 7 s)) (λ a. near-refl s)
-      (λ a. on-test (λ o. Near s (o .st)) (ltb (length (listed s c)) 32) (pick (ltb (length (home s g)) 8) (out 0 (entered g c s)) (out 7 s)) (out 7 s)
-      (λ b. on-test (λ o. Near s (o .st)) (ltb (length (home s g)) 8) (out 0 (entered g c s)) (out 7 s) (λ d. done′) (λ d. near-refl s)) (λ b. near-refl s));
+  near = enter-case (λ o. Near s (o .st)) s g c (λ a. near-refl s) (near-refl s) (λ a b d. done′);
 }
   where
     done′ : Near s (entered g c s)
@@ -216,11 +216,7 @@ enter-goes s g c sound G C = record {
 
 -- done, the cell lists the grain
 pub enter-in : (s : State) (g c : ℕ) → Sound s → g < length (s .grains) → c < cells (s .box) → (enter g c s) .num ≡ 0 → In g c ((enter g c s) .st)
-unfolding enter
-enter-in s g c sound G C =
-    on-test (λ o. o .num ≡ 0 → In g c (o .st)) (has g (listed s c)) (out 8 s) (pick (ltb (length (listed s c)) 32) (pick (ltb (length (home s g)) 8) (out 0 (entered g c s)) (out 7 s)) (out 7 s)) (λ a z. absurd (omega arith))
-    (λ a. on-test (λ o. o .num ≡ 0 → In g c (o .st)) (ltb (length (listed s c)) 32) (pick (ltb (length (home s g)) 8) (out 0 (entered g c s)) (out 7 s)) (out 7 s)
-    (λ b. on-test (λ o. o .num ≡ 0 → In g c (o .st)) (ltb (length (home s g)) 8) (out 0 (entered g c s)) (out 7 s) (λ d z. done′) (λ d z. absurd (omega arith))) (λ b z. absurd (omega arith)))
+enter-in s g c sound G C = enter-case (λ o. o .num ≡ 0 → In g c (o .st)) s g c (λ a z. absurd (omega arith)) (λ z. absurd (omega arith)) (λ a b d z. done′)
   where
     done′ : In g c (entered g c s)
     done′ = record { grain = G; cell = C; there = has-entered (cells (s .box)) (length (s .grains)) 32 (s .members) (sound .lists .members) c g C c g ∙ rw (eq-eqb c c refl, eq-eqb g g refl) (or-true (has g (listed s c))) }
@@ -237,8 +233,7 @@ shorter s g c sound G t k i h = elim (ℕ-discrete i g) [
 pub leave-goes : (s : State) (g c : ℕ) → Sound s → In g c s → All (λ e. names (eventOf (e .kind) e) g ≡ false) (queue s c) → Goes s ((leave g c s) .st)
 leave-goes s g c sound i free = record {
   sound = leave-sound s g c sound (i .grain) (i .cell) (i .there) free;
-  near = unfold leave in
-      on-test (λ o. Near s (o .st)) (leb (length (home s g)) 1) (out 9 s) (out 0 (gone g c s)) (λ a. near-refl s) (λ a. done′ (leb-false _ _ a));
+  near = leave-case (λ o. Near s (o .st)) s g c (near-refl s) done′;
 }
   where
     done′ : 1 < length (home s g) → Near s (gone g c s)

@@ -4,7 +4,7 @@ use mathlib.Core.Path.{_≡_, refl, sym, ap, subst, _∙_}
 use mathlib.Core.List.{List, [], _∷_}
 use mathlib.Core.Bool.{true, false, _||_, or-true}
 use native.Mathlib.Omega.{arith}
-use lib.Dec.{eqb, ltb}
+use lib.Dec.{eqb}
 use lib.ListN.{length, getD}
 use borrow.Author.Tests.{eq-eqb}
 use Rattle.model.specs.declared.Domain.{Domain}
@@ -12,7 +12,7 @@ use Rattle.model.specs.declared.Particle.{Particle}
 use Rattle.model.specs.declared.Place.{Place}
 use Rattle.model.specs.declared.Plan.{Plan}
 use Rattle.model.specs.declared.Plan.the-variants.{Nothing, Due, Refused}
-use Rattle.halting.specs.Out.{Out, out, next, then, each, eachOf, pick}
+use Rattle.halting.specs.Out.{Out, next, then, each, eachOf}
 use Rattle.order.specs.Numbers.{fzero}
 use Rattle.model.specs.Stepping.{grainOf}
 use Rattle.model.specs.Collision.{collision}
@@ -20,9 +20,9 @@ use Rattle.model.specs.Moves.{toNeighbour, outOfCell}
 use Rattle.model.specs.Walls.{wall}
 use Rattle.model.specs.Grid.{cells}
 use Rattle.model.specs.FromPToC.{cellsOfGrain}
-use Rattle.model.specs.Events.{placeOf, finePlace}
-use Rattle.model.specs.State.{Row, State, grain, zeroG, home, listed, queue, liveAt, has, none, pushed}
-use Rattle.model.specs.Acts.{fineGrain, store, insert, inserted, put, enter, entered}
+use Rattle.model.specs.Events.{placeOf}
+use Rattle.model.specs.State.{Row, State, grain, zeroG, home, listed, liveAt, has, none, pushed}
+use Rattle.model.specs.Acts.{store, insert, put, enter, entered}
 use Rattle.model.specs.Doing.{Finder, scheduleCollision, scheduleBy, boundaries, syncAt}
 use Rattle.model.specs.Sizes.{boxOk, grainOk}
 use Rattle.model.specs.Start.{clear, goesIn, pairs, syncIn, initCell, begin}
@@ -30,12 +30,13 @@ use Rattle.model.specs.Standing.{Once}
 use Rattle.model.specs.Sound.{Sound}
 use Rattle.model.specs.Check.{Fits}
 use Rattle.model.proofs.Lists.{clash, eqb-sym, live-other, has-entered}
-use Rattle.model.proofs.Keeps.{on-test}
+use Rattle.model.proofs.Cases.{store-case, insert-case, enter-case}
 use Rattle.model.proofs.Frame.{Goes, near-refl, goes-on, keeps-goes, enter-goes, of-sound}
 use Rattle.halting.proofs.Laws.{then-sound}
 use Rattle.model.proofs.Placed.{Placed}
 use Rattle.model.proofs.Born.{born}
-use Rattle.model.proofs.Starts.{clear-box, clear-few, stored, goesIn-goes, different, empty-live, clear-sound}
+use Rattle.model.proofs.Cleared.{empty-live, clear-sound}
+use Rattle.model.proofs.Starts.{clear-box, clear-few, stored, goesIn-goes, different}
 
 -- a number that is neither 8 nor 9
 pub record Fair (r : ℕ) : Type 0 where
@@ -64,10 +65,7 @@ of-fair act f (x ∷ xs) u = then-fair (act x u) (eachOf act xs) (f x u) (λ z. 
 
 -- ---- insertions and storing: 5 or 6
 insert-fair : (c : ℕ) (e : Place) (u : State) → Fair ((insert c e u) .num)
-unfolding insert
-insert-fair c e u =
-    on-test (λ o. Fair (o .num)) (finePlace e) (pick (ltb (length (queue u c)) (u .room)) (out 0 (inserted c e u)) (out 6 u)) (out 5 u)
-    (λ f. on-test (λ o. Fair (o .num)) (ltb (length (queue u c)) (u .room)) (out 0 (inserted c e u)) (out 6 u) (λ r. fair 0 (omega arith)) (λ r. fair 6 (omega arith))) (λ f. fair 5 (omega arith))
+insert-fair c e u = insert-case (λ o. Fair (o .num)) u c e (fair 5 (omega arith)) (λ r. fair 6 (omega arith)) (λ f r. fair 0 (omega arith))
 
 put-fair : (c : ℕ) (x : Plan) (u : State) → Fair ((put c x u) .num)
 put-fair c Nothing u = fair 0 (omega arith)
@@ -75,8 +73,7 @@ put-fair c (Due e) u = insert-fair c (placeOf e) u
 put-fair c Refused u = fair 5 (omega arith)
 
 store-fair : (g : ℕ) (p : Particle) (u : State) → Fair ((store g p u) .num)
-unfolding store
-store-fair g p u = on-test (λ o. Fair (o .num)) (fineGrain p) _ (out 5 u) (λ f. fair 0 (omega arith)) (λ f. fair 5 (omega arith))
+store-fair g p u = store-case (λ o. Fair (o .num)) u g p (fair 5 (omega arith)) (λ f. fair 0 (omega arith))
 
 by-fair : (f : Finder) (c p d : ℕ) (u : State) → Fair ((scheduleBy f c p d u) .num)
 by-fair f c p d u = put-fair c (f d (u .box) (u .clock) c p (grain u p)) u
@@ -110,19 +107,11 @@ init-fair c u = then-fair (syncIn c u) _ (sync-fair c u) (λ z. rest-fair c ((sy
 
 -- ---- an entry: 8 only if the cell lists the grain
 enter-fair : (g c : ℕ) (u : State) → has g (listed u c) ≡ false → Fair ((enter g c u) .num)
-unfolding enter
-enter-fair g c u new =
-    on-test (λ o. Fair (o .num)) (has g (listed u c)) (out 8 u) _ (λ a. clash (sym new ∙ a))
-    (λ a. on-test (λ o. Fair (o .num)) (ltb (length (listed u c)) 32) _ (out 7 u)
-    (λ b. on-test (λ o. Fair (o .num)) (ltb (length (home u g)) 8) (out 0 (entered g c u)) (out 7 u) (λ d. fair 0 (omega arith)) (λ d. fair 7 (omega arith))) (λ b. fair 7 (omega arith)))
+enter-fair g c u new = enter-case (λ o. Fair (o .num)) u g c (λ a. clash (sym new ∙ a)) (fair 7 (omega arith)) (λ a b d. fair 0 (omega arith))
 
 -- done, the grain's list is one longer; the others' lists stay
 enter-home : (g c : ℕ) (u : State) → Sound u → g < length (u .grains) → (enter g c u) .num ≡ 0 → (x : ℕ) → has x (home ((enter g c u) .st) g) ≡ (has x (home u g) || eqb x c)
-unfolding enter
-enter-home g c u sound G =
-    on-test Then (has g (listed u c)) (out 8 u) _ (λ a z. absurd (omega (arith, z)))
-    (λ a. on-test Then (ltb (length (listed u c)) 32) _ (out 7 u)
-    (λ b. on-test Then (ltb (length (home u g)) 8) (out 0 (entered g c u)) (out 7 u) (λ d z x. done′ x) (λ d z. absurd (omega (arith, z)))) (λ b z. absurd (omega (arith, z))))
+enter-home g c u sound G = enter-case Then u g c (λ a z. absurd (omega (arith, z))) (λ z. absurd (omega (arith, z))) (λ a b d z x. done′ x)
   where
     Then : Out State → Type 0
     Then o = o .num ≡ 0 → (x : ℕ) → has x (home (o .st) g) ≡ (has x (home u g) || eqb x c)
@@ -131,15 +120,10 @@ enter-home g c u sound G =
     done′ x = has-entered (length (u .grains)) (cells (u .box)) 8 (u .homes) (sound .lists .homes) g c G g x ∙ rw (eq-eqb g g refl)
 
 enter-other : (g c : ℕ) (u : State) (j : ℕ) → (j ≡ g → ⊥) → home ((enter g c u) .st) j ≡ home u j
-unfolding enter
-enter-other g c u j d =
-    on-test (λ o. home (o .st) j ≡ home u j) (has g (listed u c)) (out 8 u) _ (λ a. refl)
-    (λ a. on-test (λ o. home (o .st) j ≡ home u j) (ltb (length (listed u c)) 32) _ (out 7 u)
-    (λ b. on-test (λ o. home (o .st) j ≡ home u j) (ltb (length (home u g)) 8) (out 0 (entered g c u)) (out 7 u) (λ e. live-other (u .homes) g j (pushed c (getD (u .homes) g none)) d) (λ e. refl)) (λ b. refl))
+enter-other g c u j d = enter-case (λ o. home (o .st) j ≡ home u j) u g c (λ a. refl) refl (λ a b e. live-other (u .homes) g j (pushed c (getD (u .homes) g none)) d)
 
 store-homes : (g : ℕ) (p : Particle) (u : State) → ((store g p u) .st) .homes ≡ u .homes
-unfolding store
-store-homes g p u = on-test (λ o. (o .st) .homes ≡ u .homes) (fineGrain p) _ (out 5 u) (λ f. refl) (λ f. refl)
+store-homes g p u = store-case (λ o. (o .st) .homes ≡ u .homes) u g p refl (λ f. refl)
 
 -- ---- a grain goes in
 module _ (b : Domain) (room : ℕ) (gs : List Particle) (box : boxOk b ≡ true) where

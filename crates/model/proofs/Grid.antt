@@ -1,53 +1,30 @@
 -- from_p_to_c gives cells of the box; an accepted box has at most 256 cells. Assumes nothing.
-use Prim.Native.Nat.{ℕ, zero, suc, _+_, _-_, _*_, _^_, _≤_, _<_, max}
-use mathlib.Core.Path.{_≡_, refl, sym, ap, subst, _∙_}
+use Prim.Native.Nat.{ℕ, zero, suc, _+_, _-_, _*_, _≤_, _<_}
+use mathlib.Core.Path.{_≡_, refl}
 use mathlib.Core.List.{List, [], _∷_, _++_, map}
-use mathlib.Core.Bool.{Bool, true, false, not, _&&_, _||_, or-assoc}
+use mathlib.Core.Bool.{true, or-true}
 use native.Mathlib.Omega.{arith}
 use native.Mathlib.Nat.{mul-le-mul, le-trans, lt-of-le-of-lt}
 use lib.Dec.{T, eqb, le→leb, lit≤, lit<}
-use lib.IntN.{pos}
-use lib.Ieee.{Float, binary64, add, sub, div, lt, le, isNan, inFloat, ofInt, ofBits, toUnsigned}
-use lib.Ieee.Positive.{positive, between}
-use borrow.Author.Tests.{eqb-true}
+use lib.Ieee.{Float, binary64, add, sub, lt, le, inFloat}
+use borrow.Author.Tests.{eqb-true, eq-eqb}
 use Rattle.myvec.specs.declared.MyVec.{MyVec}
 use Rattle.model.specs.declared.Domain.{Domain}
-use Rattle.halting.specs.Out.{pick}
 use Rattle.model.specs.Grid.{cellsOf, across, cells, cellAt, lengthOf}
-use Rattle.order.proofs.Mono.{div-mono, positive-plain}
-use Rattle.order.proofs.Order.{le-refl}
-use Rattle.order.specs.Numbers.{fzero, half, three, nine, fortyeight}
-use Rattle.order.proofs.Cut.{cut-capped, cut-mono}
+use Rattle.order.specs.Numbers.{fzero, half, nine, fortyeight}
+use Rattle.order.proofs.Cut.{cut-capped}
 use Rattle.model.specs.FromPToC.{upFrom, firstCell, endCell, kernel, reached, rows, cellsOfGrain}
 use Rattle.model.specs.State.{has}
 use Rattle.model.specs.Sizes.{boxOk, within}
-use Rattle.model.proofs.Lists.{clash}
+use Rattle.model.proofs.Lists.{clash, or-case}
 use Rattle.model.proofs.Queue.{T-of, and-l, and-r}
-use Rattle.model.proofs.Keeps.{on-test}
+use Rattle.model.proofs.Cases.{on-test}
+use Rattle.model.proofs.Quarters.{facts}
 use Rattle.model.proofs.Plans.{grid-in}
 
 -- ---- 9 to 48 long: 3 to 16 cells
-nine-pos : T (positive nine)
-unfolding ofBits
-nine-pos = tt
-
-fortyeight-pos : T (positive fortyeight)
-unfolding ofBits
-fortyeight-pos = tt
-
-three-pos : T (positive three)
-unfolding ofBits
-three-pos = tt
-
-sixteen : toUnsigned 64 (div binary64 fortyeight three) ≡ 16
-unfolding ofBits div toUnsigned
-sixteen = refl
-
 pub cells-range : (length : Float) → T (le nine length) → T (le length fortyeight) → (3 ≤ cellsOf length) × (cellsOf length ≤ 16)
-cells-range length h k =
-    let p : T (positive length) = between nine length fortyeight nine-pos fortyeight-pos h k in
-    let q : toUnsigned 64 (div binary64 length three) ≤ toUnsigned 64 (div binary64 fortyeight three) = cut-mono 64 (div binary64 length three) (div binary64 fortyeight three) (div-mono binary64 length fortyeight three three (positive-plain length p) (positive-plain fortyeight fortyeight-pos) three-pos three-pos k (le-refl three (unfold isNan ofBits in tt))) in
-    (omega arith, omega (arith, sixteen))
+cells-range length h k = let q = facts length h k in (q .three-up, q .sixteen-down)
 
 within-range : (l : Float) → within nine fortyeight l ≡ true → (3 ≤ cellsOf l) × (cellsOf l ≤ 16)
 within-range l h = cells-range l (T-of _ (and-l (le nine l) (le l fortyeight) h)) (T-of _ (and-r (le nine l) (le l fortyeight) h))
@@ -63,10 +40,6 @@ pub cells-max : (b : Domain) → boxOk b ≡ true → cells b ≤ 256
 cells-max b h = let m = across-max b h in let p : across 0 b * across 1 b ≤ 16 * 16 = mul-le-mul (m .0) (m .1) in p
 
 -- ---- the numbers of a direction
-pub or-case : (a b : Bool) (P : Type 0) → (a || b) ≡ true → (a ≡ true → P) → (b ≡ true → P) → P
-or-case true b P e f g = f refl
-or-case false b P e f g = g e
-
 abbrev pub Under : ℕ → List ℕ → Type 0
 Under n l = (x : ℕ) → has x l ≡ true → x < n
 
@@ -79,11 +52,7 @@ up-in i (suc k) x h = or-case (eqb x i) (has x (upFrom (suc i) k)) ((i ≤ x) ×
 pub under-append : (n : ℕ) (l m : List ℕ) → Under n l → Under n m → Under n (l ++ m)
 unfolding has
 under-append n [] m a b x h = b x h
-under-append n (y ∷ ys) m a b x h = or-case (eqb x y) (has x (ys ++ m)) (x < n) h (λ e. a x (rw e)) (λ e. under-append n ys m (λ z q. a z (more (eqb z y) (has z ys) q)) b x e)
-  where
-    more : (a b : Bool) → b ≡ true → (a || b) ≡ true
-    more true b e = refl
-    more false b e = e
+under-append n (y ∷ ys) m a b x h = or-case (eqb x y) (has x (ys ++ m)) (x < n) h (λ e. a x (rw e)) (λ e. under-append n ys m (λ z q. a z (rw q (or-true (eqb z y)))) b x e)
 
 kernel-under : (l : Float) (n : ℕ) (lo hi : Float) → n ≤ 16 → Under n (kernel l n lo hi)
 kernel-under l n lo hi N x h =
@@ -106,23 +75,12 @@ unfolding has
 map-under b j [] J a x h = clash h
 map-under b j (i ∷ is) J a x h =
     or-case (eqb x (cellAt b i j)) (has x (map (λ (i : ℕ). cellAt b i j) is)) (x < cells b) h
-    (λ e. rw (eqb-true x (cellAt b i j) e) (grid-in i j (across 0 b) (across 1 b) (a i (rw (eq-self i))) J)) (λ e. map-under b j is J (λ z q. a z (more (eqb z i) (has z is) q)) x e)
-  where
-    eq-self : (i : ℕ) → eqb i i ≡ true
-    eq-self i = borrow.Author.Tests.eq-eqb i i refl
-
-    more : (a b : Bool) → b ≡ true → (a || b) ≡ true
-    more true b e = refl
-    more false b e = e
+    (λ e. rw (eqb-true x (cellAt b i j) e) (grid-in i j (across 0 b) (across 1 b) (a i (rw (eq-eqb i i refl))) J)) (λ e. map-under b j is J (λ z q. a z (rw q (or-true (eqb z i)))) x e)
 
 pub rows-under : (b : Domain) (is js : List ℕ) → Under (across 0 b) is → Under (across 1 b) js → Under (cells b) (rows b is js)
 unfolding has rows
 rows-under b is [] a c x h = clash h
-rows-under b is (j ∷ js) a c x h = under-append (cells b) (map (λ (i : ℕ). cellAt b i j) is) (rows b is js) (map-under b j is (c j (rw (borrow.Author.Tests.eq-eqb j j refl))) a) (rows-under b is js a (λ z q. c z (more (eqb z j) (has z js) q))) x h
-  where
-    more : (a b : Bool) → b ≡ true → (a || b) ≡ true
-    more true b e = refl
-    more false b e = e
+rows-under b is (j ∷ js) a c x h = under-append (cells b) (map (λ (i : ℕ). cellAt b i j) is) (rows b is js) (map-under b j is (c j (rw (eq-eqb j j refl))) a) (rows-under b is js a (λ z q. c z (rw q (or-true (eqb z j))))) x h
 
 pub cells-under : (b : Domain) (x : MyVec) → boxOk b ≡ true → Under (cells b) (cellsOfGrain b x)
 unfolding cellsOfGrain

@@ -12,7 +12,6 @@ use lib.Ieee.{Float}
 use native.Mathlib.Decide.{ℕ-discrete}
 use borrow.Author.Tests.{le-leb, leb-true, eqb-true}
 use Rattle.halting.specs.Out.{Out, out, pick}
-use Rattle.order.specs.Numbers.{fzero}
 use Rattle.model.specs.declared.Domain.{Domain}
 use Rattle.model.specs.declared.Particle.{Particle}
 use Rattle.model.specs.declared.Event.{Event}
@@ -20,10 +19,10 @@ use Rattle.model.specs.State.{State, marked}
 use Rattle.model.specs.Sizes.{boxOk, countsOk, rated, firstBad}
 use Rattle.model.specs.Acts.{taken}
 use Rattle.model.specs.Doing.{halted, Moved, finish, headEvent, event, step}
-use Rattle.model.specs.Run.{How, spent, refused, Ran, runFrom}
+use Rattle.model.specs.Run.{How, spent, refused, runFrom}
 use Rattle.model.specs.Start.{clear, begin, started, startedAt, start}
 use Rattle.model.specs.Start as begun
-use Rattle.model.specs.Check.{standing, sized, halt, refusal, runAll}
+use Rattle.model.specs.Check.{halt, refusal, runAll}
 use Rattle.model.specs.Reached.{Call, after, Reached, steps}
 use Rattle.model.specs.Sound.{Stands}
 use Rattle.model.proofs.Lists.{clash}
@@ -31,6 +30,7 @@ use Rattle.model.proofs.Counts.{Ended, counts}
 use Rattle.model.proofs.Performs.{Act, perform, Does, Refuses, Acted, act-same, execute-acted, begin-acted}
 use Rattle.model.proofs.Runs.{run-stands}
 use Rattle.model.proofs.Stands.{sound-fitted}
+use Rattle.model.proofs.Refusals.{halted-again, run-case}
 use Rattle.model.proofs.Reflect.{says-stands}
 use Rattle.model.proofs.Whole.{rated-later, sound-sized}
 use Rattle.model.proofs.Reached.{Well, halted-mark, runAll-well, reached-well}
@@ -103,24 +103,7 @@ start-halts b room gs s e n =
     subst (λ (u : State). Halt (u .mark) (clear b room (length gs)) u) (sym q)
     (halt-of (clear b room (length gs)) ((begin b room gs) .num) ((begin b room gs) .st) (begin-acted b room gs .acts) (begin-acted b room gs .did) (begin-acted b room gs .refuses) (λ z. n (ap (λ (u : State). u .mark) q ∙ z)))
 
--- ---- 2. a halted state that passes check 2 answers its number, the clock +0 and no events, and changes nothing, for any rate and budget
-pub halted-again : (rate : Float) (b : ℕ) (s : State) → sized s ≡ true → halt (s .mark) ≡ true → runAll rate b s ≡ record { how = refused (s .mark); clock = fzero; count = 0; state = s }
-unfolding runAll
-halted-again rate b s z h = rw (z, h)
-
--- ---- 3. a run refused by 2, 3 or 10 changes nothing, and is so exactly if
-pub run-refused-2 : (rate : Float) (b : ℕ) (s : State) → sized s ≡ false → runAll rate b s ≡ refusal 2 s
-unfolding runAll
-run-refused-2 rate b s z = rw z
-
-pub run-refused-3 : (rate : Float) (b : ℕ) (s : State) → sized s ≡ true → halt (s .mark) ≡ false → rated rate ≡ false → runAll rate b s ≡ refusal 3 s
-unfolding runAll
-run-refused-3 rate b s z h r = rw (z, h, r)
-
-pub run-refused-10 : (rate : Float) (b : ℕ) (s : State) → sized s ≡ true → halt (s .mark) ≡ false → rated rate ≡ true → standing s ≡ false → runAll rate b s ≡ refusal 10 s
-unfolding runAll
-run-refused-10 rate b s z h r t = rw (z, h, r, t)
-
+-- ---- 2. a number that is no halt's leaves all as it was
 refused-is : {a b : ℕ} → refused a ≡ refused b → a ≡ b
 refused-is e = cc
 
@@ -132,38 +115,17 @@ halt-range m h = by (leb 5 m) refl (leb m 9) refl h
     by true e false f g = clash g
     by false e y f g = clash g
 
--- whatever it is handed: a number that is no halt's leaves all as it was
+-- whatever the run is handed
 pub refused-nothing : (rate : Float) (b : ℕ) (s : State) (r : ℕ) → (runAll rate b s) .how ≡ refused r → (5 ≤ r → r ≤ 9 → ⊥) → runAll rate b s ≡ refusal r s
-unfolding runAll
-refused-nothing rate b s r e n = by (sized s) (halt (s .mark)) refl (rated rate) (standing s) e
+refused-nothing rate b s r =
+    run-case (λ f. (f b) .how ≡ refused r → (5 ≤ r → r ≤ 9 → ⊥) → f b ≡ refusal r s) rate s same
+    (λ h q n. let w = halt-range (s .mark) h in let z = refused-is q in absurd (n (let a = w .0 in omega (arith, a, z)) (let a = w .1 in omega (arith, a, z)))) same same
+    (λ h R t q n. let w = run-halts rate b s r q in absurd (n (w .five) (w .nine)))
   where
-    by : (a h : Bool) → halt (s .mark) ≡ h → (x t : Bool)
-        → (pick a (pick h (refusal (s .mark) s) (pick x (pick t (runFrom rate b 0 s) (refusal 10 s)) (refusal 3 s))) (refusal 2 s)) .how ≡ refused r
-        → pick a (pick h (refusal (s .mark) s) (pick x (pick t (runFrom rate b 0 s) (refusal 10 s)) (refusal 3 s))) (refusal 2 s) ≡ refusal r s
-    by true true h x t q = let w = halt-range (s .mark) h in let z = refused-is q in absurd (n (let a = w .0 in omega (arith, a, z)) (let a = w .1 in omega (arith, a, z)))
-    by true false h true true q = let w = run-halts rate b s r q in absurd (n (w .five) (w .nine))
-    by true false h true false q = ap (λ (k : ℕ). refusal k s) (refused-is q)
-    by true false h false t q = ap (λ (k : ℕ). refusal k s) (refused-is q)
-    by false h i x t q = ap (λ (k : ℕ). refusal k s) (refused-is q)
+    same : {k : ℕ} → refused k ≡ refused r → (5 ≤ r → r ≤ 9 → ⊥) → refusal k s ≡ refusal r s
+    same q n = ap (λ (k : ℕ). refusal k s) (refused-is q)
 
--- ---- 4. a start refused by 1, 2 or 4 gives no state, and is so exactly if; any other is accepted
-pub start-refused-1 : (b : Domain) (room : ℕ) (gs : List Particle) → boxOk b ≡ false → start b room gs ≡ begun.refused 1 0
-unfolding start
-start-refused-1 b room gs e = rw e
-
-pub start-refused-2 : (b : Domain) (room : ℕ) (gs : List Particle) → boxOk b ≡ true → countsOk room (length gs) ≡ false → start b room gs ≡ begun.refused 2 0
-unfolding start
-start-refused-2 b room gs e f = rw (e, f)
-
-pub start-refused-4 : (b : Domain) (room : ℕ) (gs : List Particle) → boxOk b ≡ true → countsOk room (length gs) ≡ true → eqb (firstBad b gs) (length gs) ≡ false → start b room gs ≡ begun.refused 4 (firstBad b gs)
-unfolding start
-start-refused-4 b room gs e f g = rw (e, f, g)
-
-pub start-accepted : (b : Domain) (room : ℕ) (gs : List Particle) → boxOk b ≡ true → countsOk room (length gs) ≡ true → eqb (firstBad b gs) (length gs) ≡ true → start b room gs ≡ startedAt (begin b room gs)
-unfolding start
-start-accepted b room gs e f g = rw (e, f, g)
-
--- ---- 5. every reached state has the mark 0 or a halt's, and a halted one gives its number to every later run
+-- ---- 3. every reached state has the mark 0 or a halt's, and a halted one gives its number to every later run
 -- whose mark is 0, or from 5 to 9
 abbrev Marked : State → Type 0
 Marked s = (s .mark ≡ 0) ⊎ (halt (s .mark) ≡ true)
@@ -182,18 +144,8 @@ run-marked rate R b s st = by ((runFrom rate b 0 s) .how) refl
         let m : ((runFrom rate b 0 s) .state) .mark ≡ r = ap (λ (u : State). u .mark) (w .left) in
         inr (rw m (in-range r (w .five) (w .nine)))
 
-gated-marked : (a h r t : Bool) (s : State) (x : Ran) → Marked s → (r ≡ true → t ≡ true → Marked (x .state)) → Marked ((pick a (pick h (refusal (s .mark) s) (pick r (pick t x (refusal 10 s)) (refusal 3 s))) (refusal 2 s)) .state)
-gated-marked true false true true s x w f = f refl refl
-gated-marked true false true false s x w f = w
-gated-marked true false false t s x w f = w
-gated-marked true true r t s x w f = w
-gated-marked false h r t s x w f = w
-
 runAll-marked : (rate : Float) (b : ℕ) (s : State) → Well s → Marked s → Marked ((runAll rate b s) .state)
-unfolding runAll
-runAll-marked rate b s w m =
-    gated-marked (sized s) (halt (s .mark)) (rated rate) (standing s) s (runFrom rate b 0 s) m
-    (λ R t. run-marked rate R b s (says-stands s (sound-fitted s (w .sound)) .means t))
+runAll-marked rate b s w m = run-case (λ f. Marked ((f b) .state)) rate s m (λ h. m) m m (λ h R t. run-marked rate R b s (says-stands s (sound-fitted s (w .sound)) .means t))
 
 after-marked : (ks : List Call) (s : State) → Well s → Marked s → Marked (after ks s)
 unfolding after

@@ -1,43 +1,37 @@
 -- Each act keeps `Sound`, done or refused, under what its callers meet. Assumes nothing.
-use Prim.Native.Nat.{ℕ, zero, suc, _+_, _-_, _≤_, _<_}
+use Prim.Native.Nat.{ℕ, _≤_, _<_}
 use mathlib.Core.Path.{_≡_, refl, sym, ap, subst, _∙_}
-use mathlib.Core.List.{List, [], _∷_, _++_}
-use mathlib.Core.Bool.{Bool, true, false, not, _&&_, _||_, or-true, or-false}
+use mathlib.Core.List.{List, [], _∷_}
+use mathlib.Core.Bool.{true, false, not, _&&_, or-true}
 use native.Mathlib.Omega.{arith}
 use native.Mathlib.Decide.{decLe, ℕ-discrete}
-use lib.Dec.{T, eqb, ltb, leb}
-use lib.ListN.{length, getD, set, drop, replicate, length-set, List·getD-eq-default}
-use lib.Seq.{getD-set-same, getD-set-other}
+use lib.Dec.{T, eqb}
+use lib.ListN.{length, getD, set, drop, length-set, List·getD-eq-default}
 use lib.Ieee.{Float, binary64, ofBits, le, lt, isNan, fits}
 use lib.Ieee.Scale.{finite}
-use borrow.Author.Tests.{ltb-true, leb-false, eqb-true, eq-eqb, ne-eqb}
-use Rattle.scheduler.specs.declared.Scheduler.{Scheduler}
+use borrow.Author.Tests.{eq-eqb, ne-eqb}
 use Rattle.model.specs.declared.Particle.{Particle}
 use Rattle.model.specs.declared.Place.{Place}
 use Rattle.model.specs.declared.Event.{Event}
 use Rattle.model.specs.declared.Event.the-variants.{InterParticleCollision, MoveToNeighbour, MoveOutOfCell, WallReflection, Synchronisation}
-use Rattle.halting.specs.Out.{Out, out, pick}
 use Rattle.order.specs.Numbers.{last}
-use Rattle.order.proofs.Order.{le-trans, le-refl, le-left}
+use Rattle.order.proofs.Order.{le-trans, le-refl}
 use Rattle.order.proofs.Clock.{finite-no-nan}
 use Rattle.scheduler.specs.Heap.{timeAt, updated, Fit}
-use Rattle.scheduler.specs.Standing.{Inverse, Ordered, Real}
+use Rattle.scheduler.specs.Standing.{Real}
 use Rattle.order.proofs.Compare.{lt-asym, lt-irrefl, le-of-not-lt}
 use Rattle.scheduler.proofs.Laws.{time-in}
 use Rattle.scheduler.proofs.Inverse.{updated-inverse, updated-cells}
 use Rattle.scheduler.proofs.Order.{updated-ordered, root-least}
 use Rattle.model.specs.Grid.{cells}
-use Rattle.model.specs.Events.{insertBy, keepBy, goneBy, names, eventOf, headTime, headPlace, finePlace, zeroP}
-use Rattle.model.specs.State.{Row, row, none, State, zeroG, grain, home, listed, queue, heads, liveAt, has, pushed, pulled, requeued, withClock, withGrains}
-use Rattle.model.specs.Acts.{fineGrain, store, insert, inserted, cancelled, cancel, enter, entered, leave, gone, first, head, taken, queueRow}
-use Rattle.model.specs.Standing.{Rising, All, Once, syncs, one-if}
-use Rattle.model.specs.Sound.{Named, Held, Queue, Numbers, Side, Lists, Heap, Grain, Sound}
-use Rattle.model.proofs.Lists.{clash, set-every, live-same, live-other, eqb-sym, has-entered, has-left, lists-enter, lists-leave}
-use Rattle.model.proofs.Queue.{T-of, of-T, not-of-T, and-l, and-r, fine-top, fine-finite, fine-real, rising-from, all-to, all-both, all-keep, kept-names, queue-insert, queue-cancel}
-
-pub on-test : {A : Type 0} (P : A → Type 0) (b : Bool) (x y : A) → (b ≡ true → P x) → (b ≡ false → P y) → P (pick b x y)
-on-test P true x y f g = f refl
-on-test P false x y f g = g refl
+use Rattle.model.specs.Events.{names, eventOf, headTime, headPlace, zeroP}
+use Rattle.model.specs.State.{Row, row, none, State, zeroG, grain, home, listed, queue, heads, has, requeued, withClock, withGrains}
+use Rattle.model.specs.Acts.{fineGrain, store, insert, cancelled, enter, entered, leave, gone, first, head, taken, queueRow}
+use Rattle.model.specs.Standing.{Rising, All}
+use Rattle.model.specs.Sound.{Named, Held, Queue, Heap, Grain, Sound}
+use Rattle.model.proofs.Lists.{clash, set-every, live-same, live-other, has-entered, has-left, lists-enter, lists-leave}
+use Rattle.model.proofs.Cases.{store-case, insert-case, enter-case, leave-case}
+use Rattle.model.proofs.Queue.{T-of, of-T, not-of-T, fine-top, fine-finite, fine-real, all-to, all-both, queue-insert, queue-cancel}
 
 -- ---- head times
 fmax-real : isNan last ≡ false
@@ -128,8 +122,7 @@ module _ (s : State) (sound : Sound s) where
 
 -- ---- storing a grain's numbers
 pub store-sound : (s : State) (g : ℕ) (p : Particle) → Sound s → g < length (s .grains) → T (le (p .time) (s .clock)) → Sound ((store g p s) .st)
-unfolding store
-store-sound s g p sound G h = on-test (λ o. Sound (o .st)) (fineGrain p) (out 0 (withGrains (set (s .grains) g p) s)) (out 5 s) (λ f. done′ f) (λ f. sound)
+store-sound s g p sound G h = store-case (λ o. Sound (o .st)) s g p sound done′
   where
     same : length (set (s .grains) g p) ≡ length (s .grains)
     same = length-set (s .grains) g p
@@ -156,14 +149,10 @@ pub record Apt (n c : ℕ) (l : List ℕ) (t : Float) (e : Place) : Type 0 where
   pub ahead : T (not (isNan (e .time))) → T (le t (e .time))
 
 pub insert-sound : (s : State) (c : ℕ) (e : Place) → Sound s → c < cells (s .box) → Apt (cells (s .box)) c (listed s c) (s .clock) e → Sound ((insert c e s) .st)
-unfolding insert
 insert-sound s c e sound C a =
-    on-test (λ o. Sound (o .st)) (finePlace e) (pick (ltb (length (queue s c)) (s .room)) (out 0 (inserted c e s)) (out 6 s)) (out 5 s)
-    (λ f. on-test (λ o. Sound (o .st)) (ltb (length (queue s c)) (s .room)) (out 0 (inserted c e s)) (out 6 s)
-    (λ r. requeued-sound s sound c _ C (queue-insert (s .clock) (s .room) (cells (s .box)) c (listed s c) (queueRow s c) (sound .queues c C) e
-    (record { kind = a .kind; fine = f; fit = a .fit; named = a .named }) (a .ahead (fine-real e f)) (ltb-true _ _ r)))
-    (λ r. sound))
-    (λ f. sound)
+    insert-case (λ o. Sound (o .st)) s c e sound (λ r. sound)
+    (λ f r. requeued-sound s sound c _ C (queue-insert (s .clock) (s .room) (cells (s .box)) c (listed s c) (queueRow s c) (sound .queues c C) e
+    (record { kind = a .kind; fine = f; fit = a .fit; named = a .named }) (a .ahead (fine-real e f)) r))
 
 -- ---- a cancelling
 pub cancelled-sound : (s : State) (g c : ℕ) → Sound s → c < cells (s .box) → Sound (cancelled g c s)
@@ -187,12 +176,7 @@ queue-mono t room n c l m r f q = record {
 
 -- ---- entering
 pub enter-sound : (s : State) (g c : ℕ) → Sound s → g < length (s .grains) → c < cells (s .box) → Sound ((enter g c s) .st)
-unfolding enter
-enter-sound s g c sound G C =
-    on-test (λ o. Sound (o .st)) (has g (listed s c)) (out 8 s) (pick (ltb (length (listed s c)) 32) (pick (ltb (length (home s g)) 8) (out 0 (entered g c s)) (out 7 s)) (out 7 s)) (λ a. sound)
-    (λ a. on-test (λ o. Sound (o .st)) (ltb (length (listed s c)) 32) (pick (ltb (length (home s g)) 8) (out 0 (entered g c s)) (out 7 s)) (out 7 s)
-    (λ b. on-test (λ o. Sound (o .st)) (ltb (length (home s g)) 8) (out 0 (entered g c s)) (out 7 s) (λ d. done′ a (ltb-true _ _ b) (ltb-true _ _ d)) (λ d. sound))
-    (λ b. sound))
+enter-sound s g c sound G C = enter-case (λ o. Sound (o .st)) s g c (λ a. sound) sound done′
   where
     stays : (j x : ℕ) → has x (listed s j) ≡ true → has x (listed (entered g c s) j) ≡ true
     stays j x e = has-entered (cells (s .box)) (length (s .grains)) 32 (s .members) (sound .lists .members) c g C j x ∙ rw e
@@ -220,9 +204,7 @@ not-named x g e f h = elim (ℕ-discrete x g) [
 
 pub leave-sound : (s : State) (g c : ℕ) → Sound s → g < length (s .grains) → c < cells (s .box) → has g (listed s c) ≡ true
     → All (λ e. names (eventOf (e .kind) e) g ≡ false) (queue s c) → Sound ((leave g c s) .st)
-unfolding leave
-leave-sound s g c sound G C there free =
-    on-test (λ o. Sound (o .st)) (leb (length (home s g)) 1) (out 9 s) (out 0 (gone g c s)) (λ a. sound) (λ a. done′)
+leave-sound s g c sound G C there free = leave-case (λ o. Sound (o .st)) s g c sound (λ a. done′)
   where
     n : ℕ
     n = cells (s .box)

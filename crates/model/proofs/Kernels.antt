@@ -129,9 +129,9 @@ pub zero-plain : T (plain fzero)
 unfolding ofBits
 zero-plain = tt
 
-pub half-plain : T (plain half)
-unfolding ofBits
-half-plain = tt
+pub half-self : T (le half half)
+unfolding ofBits le
+half-self = tt
 
 pub two-positive : T (positive two)
 unfolding ofBits

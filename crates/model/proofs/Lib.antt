@@ -1,4 +1,6 @@
 -- The theorems of demand 3 over the definitions of document 01, and what leads to them: acts, a step, a run, a start, the checks; then what is claimed.
+pub mod Cases
+pub mod Places
 pub mod Lists
 pub mod Inserts
 pub mod Queue
@@ -10,6 +12,7 @@ pub mod Schedule
 pub mod Steps
 pub mod Counts
 pub mod Runs
+pub mod Refusals
 pub mod Stands
 pub mod Reflect
 pub mod Whole
@@ -19,6 +22,7 @@ pub mod Few
 pub mod Grid
 pub mod Placed
 pub mod Born
+pub mod Cleared
 pub mod Starts
 pub mod Starred
 pub mod Reached

@@ -1,16 +1,15 @@
 -- Lists of numbers, and rows of them: what an entry and a removal keep. Assumes nothing.
-use Prim.Native.Nat.{ℕ, zero, suc, _+_, _-_, _≤_, _<_}
-use mathlib.Core.Path.{_≡_, refl, sym, ap, subst, _∙_}
+use Prim.Native.Nat.{ℕ, suc, _+_, _<_}
+use mathlib.Core.Path.{_≡_, refl, sym, ap, _∙_}
 use mathlib.Core.List.{List, [], _∷_, _++_}
-use mathlib.Core.Bool.{Bool, true, false, not, _&&_, _||_, or-false, or-assoc, and-comm, and-true, and-false, true≢false}
+use mathlib.Core.Bool.{Bool, true, false, not, _&&_, _||_, or-false, or-assoc, and-comm, and-true, true≢false}
 use native.Mathlib.Omega.{arith}
-use native.Mathlib.Decide.{decLe, ℕ-discrete}
-use lib.Dec.{T, eqb, ltb}
-use lib.ListN.{length, getD, set, drop, length-set, length-append}
+use native.Mathlib.Decide.{ℕ-discrete}
+use lib.Dec.{eqb}
+use lib.ListN.{length, getD, set, drop, length-set}
 use lib.Seq.{getD-set-same, getD-set-other}
-use borrow.Author.Tests.{eqb-true, eqb-false, eq-eqb, ne-eqb}
-use Rattle.halting.specs.Out.{pick}
-use Rattle.model.specs.State.{Row, row, none, liveAt, has, but, pushed, pulled}
+use borrow.Author.Tests.{eqb-true, eq-eqb, ne-eqb}
+use Rattle.model.specs.State.{Row, none, liveAt, has, but, pushed, pulled}
 use Rattle.model.specs.Standing.{Once}
 use Rattle.model.specs.Sound.{Numbers, Side, Lists}
 
@@ -95,22 +94,22 @@ length-but y (z ∷ zs) h = by (eqb y z) refl (length-but y zs)
     by false e ih = rw e (ap suc (ih (rw e at h)))
 
 -- ---- a row of numbers
-or-true-case : (a b : Bool) (P : Type 0) → (a || b) ≡ true → (a ≡ true → P) → (b ≡ true → P) → P
-or-true-case true b P e f g = f refl
-or-true-case false b P e f g = g e
+pub or-case : (a b : Bool) (P : Type 0) → (a || b) ≡ true → (a ≡ true → P) → (b ≡ true → P) → P
+or-case true b P e f g = f refl
+or-case false b P e f g = g e
 
 and-true-l : (a b : Bool) → (a && b) ≡ true → a ≡ true
 and-true-l true b e = refl
 and-true-l false b e = e
 
-drop-one : {A : Type 0} (l : List A) (a k : ℕ) → a + length l ≡ k → a < k → suc a + length (drop 1 l) ≡ k
+pub drop-one : {A : Type 0} (l : List A) (a k : ℕ) → a + length l ≡ k → a < k → suc a + length (drop 1 l) ≡ k
 drop-one [] a k e h = absurd (omega (arith, e))
 drop-one (x ∷ xs) a k e h = omega (arith, e)
 
 pub pushed-numbers : (n k x : ℕ) (r : Row ℕ) → Numbers n k r → x < n → has x (r .live) ≡ false → length (r .live) < k → Numbers n k (pushed x r)
 pushed-numbers n k x r ok h new few = record {
   full = rw (length-snoc (r .live) x) (drop-one (r .spare) (length (r .live)) k (ok .full) few);
-  below = λ y e. or-true-case (has y (r .live)) (eqb y x) (y < n) (sym (has-snoc y (r .live) x) ∙ e) (λ f. ok .below y f) (λ f. rw (eqb-true y x f) h);
+  below = λ y e. or-case (has y (r .live)) (eqb y x) (y < n) (sym (has-snoc y (r .live) x) ∙ e) (λ f. ok .below y f) (λ f. rw (eqb-true y x f) h);
   once = once-snoc (r .live) x (ok .once) new;
 }
 

@@ -3,13 +3,13 @@ use Prim.Native.Nat.{ℕ, zero, suc, _+_, _≤_, _<_}
 use mathlib.Core.Path.{_≡_, refl, sym, ap, subst, _∙_}
 use mathlib.Core.Logic.{_⊎_, inl, inr}
 use mathlib.Core.List.{List, [], _∷_}
-use mathlib.Core.Bool.{Bool, true, false, _&&_}
+use mathlib.Core.Bool.{true, false, _&&_}
 use native.Mathlib.Omega.{arith}
 use native.Mathlib.Decide.{ℕ-discrete}
-use lib.Dec.{leb, ltb}
+use lib.Dec.{leb}
 use lib.ListN.{length, getD, set, drop, replicate, length-set, length-replicate}
 use lib.Ieee.{Float, binary64, ofBits, add, lt}
-use borrow.Author.Tests.{leb-true, lt-ltb}
+use borrow.Author.Tests.{leb-true}
 use Rattle.scheduler.specs.Heap.{numbered, start as startHeap}
 use Rattle.order.specs.Numbers.{fzero, last}
 use Rattle.order.proofs.Compare.{lt-irrefl}
@@ -18,31 +18,32 @@ use Rattle.model.specs.declared.Particle.{Particle}
 use Rattle.model.specs.declared.Place.{Place}
 use Rattle.model.specs.declared.Event.{Event}
 use Rattle.model.specs.declared.Event.the-variants.{Synchronisation}
-use Rattle.halting.specs.Out.{Out, out, next, each, pick}
+use Rattle.halting.specs.Out.{Out, next, each}
 use Rattle.halting.proofs.Laws.{then-sound, each-sound, then-keeps}
 use Rattle.model.specs.Grid.{cells}
 use Rattle.model.specs.Stepping.{stepped}
 use Rattle.model.specs.Events.{eventOf, headTime, headPlace, finePlace, insertBy, zeroP}
-use Rattle.model.specs.State.{Row, row, none, State, grain, home, listed, queue, heads, liveAt, has, requeued}
-use Rattle.model.specs.Acts.{fineGrain, queueRow, store, insert, inserted, enter, entered, first, head, taken}
-use Rattle.model.specs.Sizes.{rated}
+use Rattle.model.specs.State.{Row, row, none, State, grain, listed, queue, heads, liveAt, requeued}
+use Rattle.model.specs.Acts.{queueRow, store, insert, inserted, enter, first, head, taken}
 use Rattle.model.specs.Doing.{Stepped, done, halted, finish, stepGrain, doSync, syncAt, execute, headEvent, event, step}
 use Rattle.model.specs.Run.{spent, refused, Ran, onward, runFrom}
 use Rattle.model.specs.Start.{clear, goesIn, initCell, begin, started, start}
 use Rattle.model.specs.Standing.{Standing}
 use Rattle.model.specs.Sound.{Named, Stands}
-use Rattle.model.specs.Check.{Fits, Fitted, standing, sized, halt, refusal, runAll}
+use Rattle.model.specs.Check.{Fits, Fitted, runAll}
 use Rattle.model.proofs.Lists.{clash, live-same, live-other}
 use Rattle.model.proofs.Queue.{and-l, and-r}
 use Rattle.model.proofs.Frame.{of-sound}
-use Rattle.model.proofs.Keeps.{on-test}
+use Rattle.model.proofs.Cases.{store-case, insert-case, enter-case}
 use Rattle.model.proofs.Plans.{cells-some}
 use Rattle.model.proofs.Steps.{first-some, head-ok}
 use Rattle.model.proofs.Stands.{stands}
-use Rattle.model.proofs.Starts.{first-good, empty-live}
+use Rattle.model.proofs.Starts.{first-good}
+use Rattle.model.proofs.Cleared.{empty-live}
 use Rattle.model.proofs.Fresh.{begin-fair}
 use Rattle.model.proofs.Roots.{Rooted, updated-root, head-later, rest-root}
 use Rattle.model.proofs.Reached.{halted-mark}
+use Rattle.model.proofs.Refusals.{run-case}
 use Rattle.model.proofs.Halts.{accepted, start-halts, in-range}
 
 -- ---- 1. a start gives neither 8 nor 9
@@ -67,8 +68,7 @@ pub record Free (u : State) : Type 0 where
   pub free : length (queue u 0) < u .room
 
 store-five : (g : ℕ) (p : Particle) (u : State) → Free u → Five ((store g p u) .num) × Free ((store g p u) .st)
-unfolding store
-store-five g p u r = on-test (λ o. Five (o .num) × Free (o .st)) (fineGrain p) _ (out 5 u) (λ f. (inl refl, record { free = r .free })) (λ f. (inr refl, r))
+store-five g p u r = store-case (λ o. Five (o .num) × Free (o .st)) u g p (inr refl, r) (λ f. (inl refl, record { free = r .free }))
 
 each-five : (m c : ℕ) (u : State) → Free u → Five ((each stepGrain m c u) .num) × Free ((each stepGrain m c u) .st)
 unfolding each
@@ -80,10 +80,7 @@ each-five (suc m) c u r =
     )
 
 insert-five : (e : Place) (u : State) → Free u → Five ((insert 0 e u) .num)
-unfolding insert
-insert-five e u r =
-    on-test (λ o. Five (o .num)) (finePlace e) (pick (ltb (length (queue u 0)) (u .room)) (out 0 (inserted 0 e u)) (out 6 u)) (out 5 u)
-    (λ f. rw (lt-ltb _ _ (r .free)) (inl refl)) (λ f. inr refl)
+insert-five e u r = insert-case (λ o. Five (o .num)) u 0 e (inr refl) (λ w. absurd (let q = r .free in omega (arith, q, w))) (λ f w. inl refl)
 
 sync-five : (rate : Float) (u : State) → Free u → Five ((doSync rate u) .num)
 unfolding doSync
@@ -153,15 +150,10 @@ unfolding clear startHeap
 clear-bare b room n = record { long = length-replicate (cells b) _; clock = refl; root = numbered-zero (cells b) (replicate 256 0) refl; empty = empty-live (cells b) room zeroP }
 
 store-bare : (k g : ℕ) (p : Particle) (u : State) → Bare k u → Bare k ((store g p u) .st)
-unfolding store
-store-bare k g p u r = on-test (λ o. Bare k (o .st)) (fineGrain p) _ (out 5 u) (λ f. record { long = r .long; clock = r .clock; root = r .root; empty = r .empty }) (λ f. r)
+store-bare k g p u r = store-case (λ o. Bare k (o .st)) u g p r (λ f. record { long = r .long; clock = r .clock; root = r .root; empty = r .empty })
 
 enter-bare : (k g c : ℕ) (u : State) → Bare k u → Bare k ((enter g c u) .st)
-unfolding enter
-enter-bare k g c u r =
-    on-test (λ o. Bare k (o .st)) (has g (listed u c)) (out 8 u) _ (λ a. r)
-    (λ a. on-test (λ o. Bare k (o .st)) (ltb (length (listed u c)) 32) _ (out 7 u)
-    (λ b. on-test (λ o. Bare k (o .st)) (ltb (length (home u g)) 8) (out 0 (entered g c u)) (out 7 u) (λ d. record { long = r .long; clock = r .clock; root = r .root; empty = r .empty }) (λ d. r)) (λ b. r))
+enter-bare k g c u r = enter-case (λ o. Bare k (o .st)) u g c (λ a. r) r (λ a b d. record { long = r .long; clock = r .clock; root = r .root; empty = r .empty })
 
 goesIn-bare : (k : ℕ) (gs : List Particle) (i : ℕ) (u : State) → Bare k u → Bare k ((goesIn gs i u) .st)
 unfolding goesIn
@@ -201,10 +193,7 @@ sync-rooted n u N r = record {
     heads-late k = unfold heads in ap (λ (l : List Place). lt (headTime (liveAt (set (u .queues) 0 new) k)) (headTime l)) here ∙ late k
 
 insert-rooted : (n : ℕ) (u : State) → 0 < n → Bare n u → (insert 0 (syncAt fzero) u) .num ≡ 0 → Rooted n ((insert 0 (syncAt fzero) u) .st)
-unfolding insert
-insert-rooted n u N r =
-    on-test (λ o. o .num ≡ 0 → Rooted n (o .st)) (finePlace (syncAt fzero)) (pick (ltb (length (queue u 0)) (u .room)) (out 0 (inserted 0 (syncAt fzero) u)) (out 6 u)) (out 5 u)
-    (λ f. on-test (λ o. o .num ≡ 0 → Rooted n (o .st)) (ltb (length (queue u 0)) (u .room)) (out 0 (inserted 0 (syncAt fzero) u)) (out 6 u) (λ q z. sync-rooted n u N r) (λ q z. absurd (omega (arith, z)))) (λ f z. absurd (omega (arith, z)))
+insert-rooted n u N r = insert-case (λ o. o .num ≡ 0 → Rooted n (o .st)) u 0 (syncAt fzero) (λ z. absurd (omega (arith, z))) (λ w z. absurd (omega (arith, z))) (λ f w z. sync-rooted n u N r)
 
 cell-0-rooted : (n : ℕ) (u : State) → 0 < n → Bare n u → (initCell 0 u) .num ≡ 0 → Rooted n ((initCell 0 u) .st)
 unfolding initCell
@@ -260,18 +249,10 @@ run-not-spent rate (suc b) s h B = onward-not-spent ((step rate s) .how) ((step 
 refusal-not : (r : ℕ) → refused r ≡ spent → ⊥
 refusal-not r e = let n : _≡_ {A = ℕ} 0 1 = cc in omega arith
 
-gate-not : (a h r t : Bool) (s : State) (x : Ran) → (h ≡ false → x .how ≡ spent → ⊥) → (pick a (pick h (refusal (s .mark) s) (pick r (pick t x (refusal 10 s)) (refusal 3 s))) (refusal 2 s)) .how ≡ spent → ⊥
-gate-not true false true true s x n = n refl
-gate-not true false true false s x n = refusal-not 10
-gate-not true false false t s x n = refusal-not 3
-gate-not true true r t s x n = refusal-not (s .mark)
-gate-not false h r t s x n = refusal-not 2
-
 pub first-run-not-spent : (b : Domain) (room : ℕ) (gs : List Particle) (s : State) → start b room gs ≡ started s → (rate : Float) (budget : ℕ) → 1 ≤ budget → (runAll rate budget s) .how ≡ spent → ⊥
-unfolding runAll
 first-run-not-spent b room gs s e rate budget B =
-    gate-not (sized s) (halt (s .mark)) (rated rate) (standing s) s (runFrom rate budget 0 s)
-    (λ h. elim (ℕ-discrete (s .mark) 0) [
+    run-case (λ f. (f budget) .how ≡ spent → ⊥) rate s (refusal-not 2) (λ h. refusal-not (s .mark)) (refusal-not 3) (refusal-not 10)
+    (λ h R t. elim (ℕ-discrete (s .mark) 0) [
       | yes m ↦ run-not-spent rate budget s (first-of-all b room gs s e m .1) B
       | no n ↦ λ x. let w = start-halts b room gs s e n in clash (sym h ∙ in-range (s .mark) (w .five) (w .nine))
     ])

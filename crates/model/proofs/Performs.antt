@@ -4,7 +4,6 @@ use Prim.Native.Nat.{ℕ, zero, suc, _≤_}
 use mathlib.Core.Path.{_≡_, refl, sym, ap, subst, _∙_}
 use mathlib.Core.List.{List, [], _∷_, _++_}
 use native.Mathlib.Omega.{arith}
-use lib.Dec.{leb, ltb}
 use lib.ListN.{length}
 use lib.Ieee.{Float, binary64, add}
 use Rattle.myvec.specs.declared.MyVec.{MyVec}
@@ -15,19 +14,19 @@ use Rattle.model.specs.declared.Event.the-variants.{InterParticleCollisi
 use Rattle.model.specs.declared.Place.{Place}
 use Rattle.model.specs.declared.Plan.{Plan}
 use Rattle.model.specs.declared.Plan.the-variants.{Nothing, Due, Refused}
-use Rattle.halting.specs.Out.{Out, out, next, then, each, eachOf, pick}
+use Rattle.halting.specs.Out.{Out, out, next, then, each, eachOf}
 use Rattle.order.specs.Numbers.{fzero}
 use Rattle.model.specs.Stepping.{grainOf, stepped}
 use Rattle.model.specs.Collision.{collision}
 use Rattle.model.specs.Moves.{toNeighbour, outOfCell}
 use Rattle.model.specs.Walls.{wall}
 use Rattle.model.specs.Grid.{cells}
-use Rattle.model.specs.Events.{placeOf, finePlace}
-use Rattle.model.specs.State.{State, grain, home, listed, queue, has}
-use Rattle.model.specs.Acts.{fineGrain, store, insert, inserted, put, cancel, enter, entered, leave, gone}
+use Rattle.model.specs.Events.{placeOf}
+use Rattle.model.specs.State.{State, grain, home, listed}
+use Rattle.model.specs.Acts.{store, insert, inserted, put, cancel, enter, entered, leave, gone}
 use Rattle.model.specs.Doing.{Finder, others, stepGrain, scheduleCollision, scheduleBy, boundaries, scheduleWith, scheduleEvents, landed, again, forget, doCollision, doNeighbour, doOut, doWall, doSync, execute}
 use Rattle.model.specs.Start.{clear, goesIn, pairs, syncIn, initCell, begin}
-use Rattle.model.proofs.Keeps.{on-test}
+use Rattle.model.proofs.Cases.{store-case, insert-case, enter-case, leave-case}
 
 -- ---- the acts: storing a grain's new numbers, an insertion of what was found, a cancelling in one cell, an entry in both lists, a leaving
 pub data Act : Type 0 where
@@ -68,27 +67,16 @@ same-at : (s : State) (r : ℕ) → 5 ≤ r → r ≤ 9 → Same s (out r s)
 same-at s r h k n = (refl, h, k)
 
 insert-same : (c : ℕ) (e : Place) (s : State) → Same s (insert c e s)
-unfolding insert
-insert-same c e s =
-    on-test (Same s) (finePlace e) (pick (ltb (length (queue s c)) (s .room)) (out 0 (inserted c e s)) (out 6 s)) (out 5 s)
-    (λ f. on-test (Same s) (ltb (length (queue s c)) (s .room)) (out 0 (inserted c e s)) (out 6 s) (λ r. same-done s (inserted c e s)) (λ r. same-at s 6 (omega arith) (omega arith)))
-    (λ f. same-at s 5 (omega arith) (omega arith))
+insert-same c e s = insert-case (Same s) s c e (same-at s 5 (omega arith) (omega arith)) (λ r. same-at s 6 (omega arith) (omega arith)) (λ f r. same-done s (inserted c e s))
 
 store-same : (g : ℕ) (p : Particle) (s : State) → Same s (store g p s)
-unfolding store
-store-same g p s = on-test (Same s) (fineGrain p) _ (out 5 s) (λ f. same-done s _) (λ f. same-at s 5 (omega arith) (omega arith))
+store-same g p s = store-case (Same s) s g p (same-at s 5 (omega arith) (omega arith)) (λ f. same-done s _)
 
 enter-same : (g c : ℕ) (s : State) → Same s (enter g c s)
-unfolding enter
-enter-same g c s =
-    on-test (Same s) (has g (listed s c)) (out 8 s) _ (λ a. same-at s 8 (omega arith) (omega arith))
-    (λ a. on-test (Same s) (ltb (length (listed s c)) 32) (pick (ltb (length (home s g)) 8) (out 0 (entered g c s)) (out 7 s)) (out 7 s)
-    (λ b. on-test (Same s) (ltb (length (home s g)) 8) (out 0 (entered g c s)) (out 7 s) (λ d. same-done s (entered g c s)) (λ d. same-at s 7 (omega arith) (omega arith)))
-    (λ b. same-at s 7 (omega arith) (omega arith)))
+enter-same g c s = enter-case (Same s) s g c (λ a. same-at s 8 (omega arith) (omega arith)) (same-at s 7 (omega arith) (omega arith)) (λ a b d. same-done s (entered g c s))
 
 leave-same : (g c : ℕ) (s : State) → Same s (leave g c s)
-unfolding leave
-leave-same g c s = on-test (Same s) (leb (length (home s g)) 1) (out 9 s) (out 0 (gone g c s)) (λ a. same-at s 9 (omega arith) (omega arith)) (λ a. same-done s (gone g c s))
+leave-same g c s = leave-case (Same s) s g c (same-at s 9 (omega arith) (omega arith)) (λ a. same-done s (gone g c s))
 
 pub act-same : (a : Act) (s : State) → Same s (perform a s)
 act-same (storing g p) s = store-same g p s

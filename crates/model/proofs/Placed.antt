@@ -14,9 +14,9 @@ use Rattle.model.specs.Grid.{across, cells, cellAt}
 use Rattle.model.specs.FromPToC.{upFrom, between, rows}
 use Rattle.model.specs.State.{has}
 use Rattle.model.specs.Standing.{Once}
-use Rattle.model.proofs.Lists.{clash}
+use Rattle.model.proofs.Lists.{clash, or-case}
 use Rattle.model.proofs.Plans.{across-min}
-use Rattle.model.proofs.Grid.{Under, or-case, up-in, under-append, rows-under}
+use Rattle.model.proofs.Grid.{Under, up-in, under-append, rows-under}
 
 -- at least one and at most k different numbers below n
 pub record Placed (k n : ℕ) (xs : List ℕ) : Type 0 where

@@ -1,12 +1,12 @@
 -- What the scheduling of each kind finds may be inserted: it names grains of the cell, and is not before the clock. Assumes nothing.
-use Prim.Native.Nat.{ℕ, zero, suc, _+_, _-_, _*_, _/_, _%_, _≤_, _<_, max}
-use mathlib.Core.Path.{_≡_, refl, sym, ap, subst, _∙_}
+use Prim.Native.Nat.{ℕ, zero, suc, _+_, _-_, _*_, _/_, _%_, _≤_, _<_}
+use mathlib.Core.Path.{_≡_, refl, sym, subst, _∙_}
 use mathlib.Core.List.{List}
-use mathlib.Core.Bool.{Bool, true, false, not, _&&_, _||_}
+use mathlib.Core.Bool.{Bool, true, false, not}
 use native.Mathlib.Omega.{arith}
 use native.Mathlib.Nat.{mod-lt, mul-le-mul-left, mul-suc, mul-comm, div-lt-iff-lt-mul, mul-pos}
-use lib.Dec.{T, not-T, eqb}
-use lib.Ieee.{Float, binary64, ofBits, add, sub, mul, div, neg, le, lt, isNan, fits}
+use lib.Dec.{T, eqb}
+use lib.Ieee.{Float, binary64, ofBits, add, neg, le, lt, isNan, fits}
 use lib.Ieee.Fits.{add-fits}
 use lib.Ieee.Scale.{finite}
 use Rattle.root.specs.Root.{rootOf}
@@ -19,7 +19,6 @@ use Rattle.model.specs.declared.Domain.{Domain}
 use Rattle.model.specs.declared.Particle.{Particle}
 use Rattle.model.specs.declared.Event.{Event}
 use Rattle.model.specs.declared.Event.the-variants.{InterParticleCollision, MoveToNeighbour, MoveOutOfCell, WallReflection, Synchronisation}
-use Rattle.model.specs.declared.Pending.{Pending}
 use Rattle.model.specs.declared.Plan.{Plan}
 use Rattle.model.specs.declared.Plan.the-variants.{Nothing, Refused, Due}
 use Rattle.halting.specs.Out.{pick}
@@ -27,19 +26,20 @@ use Rattle.order.specs.Numbers.{fzero, half}
 use Rattle.myvec.specs.Vec.{vsub}
 use Rattle.order.proofs.Order.{lt→le}
 use Rattle.order.proofs.Clock.{clock-on}
-use Rattle.model.specs.Collision.{afterRoot, collide, planned, timeOf, collision, struck}
-use Rattle.model.specs.Grid.{across, cells, cellAt, index, shifted, below, above}
+use Rattle.model.specs.Collision.{afterRoot, collide, planned, collision, struck}
+use Rattle.model.specs.Grid.{across, cells, index, shifted, below, above}
 use Rattle.model.specs.Events.{placeOf, eventOf}
 use Rattle.model.specs.Periodic.{apart}
 use Rattle.model.specs.Stepping.{newPos, due}
 use Rattle.model.specs.State.{has}
-use Rattle.model.specs.Moves.{later, toNeighbour, outOfCell, shut, sideLow, aside, moveDt, gap}
-use Rattle.model.specs.Walls.{wall, noWall, wallVal}
+use Rattle.model.specs.Moves.{later, toNeighbour, outOfCell, shut, sideLow, aside, moveDt}
+use Rattle.model.specs.Walls.{wall, noWall}
 use Rattle.model.specs.Standing.{one-if}
 use Rattle.model.specs.Sound.{Named}
 use Rattle.model.proofs.Lists.{clash}
 use Rattle.model.proofs.Queue.{T-of, of-T}
-use Rattle.model.proofs.Keeps.{on-test, Apt}
+use Rattle.model.proofs.Cases.{on-test}
+use Rattle.model.proofs.Keeps.{Apt}
 
 -- ---- the grid
 pub across-min : (d : ℕ) (b : Domain) → 3 ≤ across d b

@@ -94,7 +94,6 @@ checked = tt
 pub record Facts (l : Float) (n : ℕ) : Type 0 where
   pub three-up : 3 ≤ n
   pub sixteen-down : n ≤ 16
-  pub count-positive : T (positive (cnt n))
   pub length-positive : T (positive l)
   pub length-half : T (le half l)
   pub wide-positive : T (positive (width l n))
@@ -111,26 +110,17 @@ pub record Facts (l : Float) (n : ℕ) : Type 0 where
   pub low-le : T (le low l)
   pub inner-plain : T (plain (sub binary64 low half))
   pub inner-half : T (le half (sub binary64 low half))
-  pub deep-plain : T (plain (sub binary64 (sub binary64 low half) half))
   pub back : T (le (add binary64 (sub binary64 low half) half) low)
   pub down : T (le (sub binary64 (sub binary64 low half) half) (sub binary64 low half))
   pub last : (m : Float) → T (plain m) → T (le (sub binary64 (sub binary64 low half) half) m) → n ≤ suc (toUnsigned 64 (div binary64 m (width l n)))
 
-half-plain : T (plain half)
+pub half-plain : T (plain half)
 unfolding ofBits
 half-plain = tt
 
 three-positive : T (positive three)
 unfolding ofBits
 three-positive = tt
-
-nine-positive : T (positive nine)
-unfolding ofBits
-nine-positive = tt
-
-fortyeight-positive : T (positive fortyeight)
-unfolding ofBits
-fortyeight-positive = tt
 
 pub positive-no-nan : (x : Float) → T (positive x) → T (not (isNan x))
 positive-no-nan nan p = absurd p
@@ -175,7 +165,6 @@ module _ (l : Float) (a b : Float) (E : T (tested (ends a b))) (ha : T (le a l))
       record {
         three-up = leb→le 3 n (t 0);
         sixteen-down = leb→le n 16 (t 1);
-        count-positive = t 2;
         length-positive = pl;
         length-half = hl;
         wide-positive = pw;
@@ -196,7 +185,6 @@ module _ (l : Float) (a b : Float) (E : T (tested (ends a b))) (ha : T (le a l))
         low-le = ha;
         inner-plain = e 11;
         inner-half = e 12;
-        deep-plain = e 13;
         back = e 14;
         down = e 15;
         last = λ (m : Float) (p : T (plain m)) (h : T (le (sub binary64 (sub binary64 a half) half) m)).

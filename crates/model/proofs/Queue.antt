@@ -1,23 +1,23 @@
 -- One cell's queue: what an insertion, a cancelling and the removal of the head keep. Assumes nothing.
-use Prim.Native.Nat.{ℕ, zero, suc, _+_, _-_, _≤_, _<_}
+use Prim.Native.Nat.{ℕ, suc, _+_, _<_}
 use mathlib.Core.Path.{_≡_, refl, sym, ap, subst, _∙_}
 use mathlib.Core.List.{List, [], _∷_, _++_}
-use mathlib.Core.Bool.{Bool, true, false, not, _&&_, _||_}
+use mathlib.Core.Bool.{Bool, true, false, not, _&&_}
 use native.Mathlib.Omega.{arith}
-use lib.Dec.{T, T-not, not-T}
-use lib.ListN.{length, getD, set, drop, replicate, length-replicate, length-append}
-use lib.Ieee.{Float, binary64, le, lt, isNan, fits}
+use lib.Dec.{T}
+use lib.ListN.{length, drop, replicate, length-replicate, length-append}
+use lib.Ieee.{Float, le, lt, isNan}
 use lib.Ieee.Scale.{finite}
 use Rattle.model.specs.declared.Place.{Place}
-use Rattle.halting.specs.Out.{pick}
 use Rattle.order.specs.Numbers.{last}
-use Rattle.order.proofs.Order.{le-trans, le-total, lt-left, lt→le}
-use Rattle.order.proofs.Compare.{lt-asym, lt-of-not-le}
-use Rattle.model.specs.Events.{insertBy, keepBy, goneBy, names, eventOf, headTime, finePlace, zeroP}
+use Rattle.order.proofs.Order.{le-trans, lt-left, lt→le}
+use Rattle.order.proofs.Compare.{lt-of-not-le}
+use Rattle.model.specs.Events.{insertBy, keepBy, goneBy, names, eventOf, finePlace, zeroP}
 use Rattle.model.specs.State.{Row, row}
-use Rattle.model.specs.Standing.{Rising, All, syncs, one-if}
+use Rattle.model.specs.Standing.{Rising, All}
 use Rattle.model.specs.Sound.{Held, Queue}
-use Rattle.model.proofs.Lists.{clash}
+use Rattle.model.proofs.Lists.{clash, drop-one}
+use Rattle.model.proofs.Inserts.{Later, inserted-at}
 
 pub T-of : (b : Bool) → b ≡ true → T b
 T-of b e = subst T (sym e) tt
@@ -58,14 +58,25 @@ rising-from t u (x ∷ xs) h r = (le-trans t u (x .time) h (r .0), r .1)
 late : (x e : Place) → finePlace x ≡ true → finePlace e ≡ true → le (x .time) (e .time) ≡ false → T (le (e .time) (x .time))
 late x e f g h = lt→le (e .time) (x .time) (T-of (lt (e .time) (x .time)) (lt-of-not-le (x .time) (e .time) (not-of-T _ (fine-real x f)) (not-of-T _ (fine-real e g)) h))
 
+pub all-to : (P Q : Place → Type 0) (l : List Place) → ((x : Place) → P x → Q x) → All P l → All Q l
+all-to P Q [] f a = tt
+all-to P Q (x ∷ xs) f a = (f x (a .0), all-to P Q xs f (a .1))
+
+all-after : (P : Place → Type 0) (bs xs : List Place) → All P (bs ++ xs) → All P xs
+all-after P [] xs a = a
+all-after P (b ∷ bs) xs a = all-after P bs xs (a .1)
+
+-- e between those that are not later and those that are
+rising-mid : (t : Float) (e : Place) (bs xs : List Place) → finePlace e ≡ true → T (le t (e .time)) → All (λ x. finePlace x ≡ true) xs → All (λ x. le (x .time) (e .time) ≡ true) bs → Later e xs → Rising t (bs ++ xs) → Rising t (bs ++ e ∷ xs)
+rising-mid t e [] [] f h a n l r = (h, tt)
+rising-mid t e [] (x ∷ xs) f h a n l r = (h, (late x e (a .0) f l, r .1))
+rising-mid t e (b ∷ bs) xs f h a n l r = (r .0, rising-mid (b .time) e bs xs f (T-of _ (n .0)) a (n .1) l (r .1))
+
 pub rising-insert : (n c : ℕ) (m : List ℕ) (t : Float) (e : Place) (l : List Place) → finePlace e ≡ true → T (le t (e .time)) → All (Held n c m) l → Rising t l → Rising t (insertBy e l)
-unfolding insertBy
-rising-insert n c m t e [] f h a r = (h, tt)
-rising-insert n c m t e (x ∷ xs) f h a r = by (le (x .time) (e .time)) refl (rising-insert n c m (x .time) e xs f)
-  where
-    by : (b : Bool) → le (x .time) (e .time) ≡ b → (T (le (x .time) (e .time)) → All (Held n c m) xs → Rising (x .time) xs → Rising (x .time) (insertBy e xs)) → Rising t (insertBy e (x ∷ xs))
-    by true q ih = rw q (r .0, ih (T-of _ q) (a .1) (r .1))
-    by false q ih = rw q (h, (late x e (a .0 .fine) f q, r .1))
+rising-insert n c m t e l f h a r =
+    let i = inserted-at e l in
+    subst (Rising t) (sym (i .is)) (rising-mid t e (i .before) (i .after) f h
+    (all-to (Held n c m) (λ x. finePlace x ≡ true) (i .after) (λ x q. q .fine) (all-after (Held n c m) (i .before) (i .after) (subst (All (Held n c m)) (i .was) a))) (i .not-later) (i .later) (subst (Rising t) (i .was) r))
 
 pub rising-keep : (g : ℕ) (t : Float) (l : List Place) → Rising t l → Rising t (keepBy g l)
 unfolding keepBy
@@ -78,14 +89,12 @@ rising-keep g t (x ∷ xs) r = by (names (eventOf (x .kind) x) g) refl (rising-k
 
 -- ---- every event
 module _ (P : Place → Type 0) where
+  all-mid : (e : Place) (bs xs : List Place) → P e → All P (bs ++ xs) → All P (bs ++ e ∷ xs)
+  all-mid e [] xs p a = (p, a)
+  all-mid e (b ∷ bs) xs p a = (a .0, all-mid e bs xs p (a .1))
+
   pub all-insert : (e : Place) (l : List Place) → P e → All P l → All P (insertBy e l)
-  unfolding insertBy
-  all-insert e [] p a = (p, tt)
-  all-insert e (x ∷ xs) p a = by (le (x .time) (e .time)) refl (all-insert e xs p (a .1))
-    where
-      by : (b : Bool) → le (x .time) (e .time) ≡ b → All P (insertBy e xs) → All P (insertBy e (x ∷ xs))
-      by true q ih = rw q (a .0, ih)
-      by false q ih = rw q (p, a)
+  all-insert e l p a = let i = inserted-at e l in subst (All P) (sym (i .is)) (all-mid e (i .before) (i .after) p (subst (All P) (i .was) a))
 
   pub all-keep : (g : ℕ) (l : List Place) → All P l → All P (keepBy g l)
   unfolding keepBy
@@ -95,10 +104,6 @@ module _ (P : Place → Type 0) where
       by : (b : Bool) → names (eventOf (x .kind) x) g ≡ b → All P (keepBy g xs) → All P (keepBy g (x ∷ xs))
       by true q ih = rw q ih
       by false q ih = rw q (a .0, ih)
-
-pub all-to : (P Q : Place → Type 0) (l : List Place) → ((x : Place) → P x → Q x) → All P l → All Q l
-all-to P Q [] f a = tt
-all-to P Q (x ∷ xs) f a = (f x (a .0), all-to P Q xs f (a .1))
 
 pub all-both : (P Q : Place → Type 0) (l : List Place) → All P l → All Q l → All (λ x. P x × Q x) l
 all-both P Q [] a b = tt
@@ -115,14 +120,12 @@ kept-names g (x ∷ xs) = by (names (eventOf (x .kind) x) g) refl (kept-names g 
     by false q ih = rw q (q, ih)
 
 -- ---- how many
+length-mid : (e : Place) (bs xs : List Place) → length (bs ++ e ∷ xs) ≡ suc (length (bs ++ xs))
+length-mid e [] xs = refl
+length-mid e (b ∷ bs) xs = ap suc (length-mid e bs xs)
+
 pub length-insert : (e : Place) (l : List Place) → length (insertBy e l) ≡ suc (length l)
-unfolding insertBy
-length-insert e [] = refl
-length-insert e (x ∷ xs) = by (le (x .time) (e .time)) refl (length-insert e xs)
-  where
-    by : (b : Bool) → le (x .time) (e .time) ≡ b → length (insertBy e xs) ≡ suc (length xs) → length (insertBy e (x ∷ xs)) ≡ suc (suc (length xs))
-    by true q ih = rw q (ap suc ih)
-    by false q ih = rw q
+length-insert e l = let i = inserted-at e l in ap length (i .is) ∙ length-mid e (i .before) (i .after) ∙ ap (λ (m : List Place). suc (length m)) (sym (i .was))
 
 pub length-keep : (g : ℕ) (l : List Place) → length (keepBy g l) + goneBy g l ≡ length l
 unfolding keepBy goneBy
@@ -132,10 +135,6 @@ length-keep g (x ∷ xs) = by (names (eventOf (x .kind) x) g) refl (length-keep 
     by : (b : Bool) → names (eventOf (x .kind) x) g ≡ b → length (keepBy g xs) + goneBy g xs ≡ length xs → length (keepBy g (x ∷ xs)) + goneBy g (x ∷ xs) ≡ suc (length xs)
     by true q ih = rw q (omega (arith, ih))
     by false q ih = rw q (omega (arith, ih))
-
-drop-one : {A : Type 0} (l : List A) (a k : ℕ) → a + length l ≡ k → a < k → suc a + length (drop 1 l) ≡ k
-drop-one [] a k e h = absurd (omega (arith, e))
-drop-one (x ∷ xs) a k e h = omega (arith, e)
 
 -- ---- the three changes of a queue
 module _ (t : Float) (room n c : ℕ) (m : List ℕ) (r : Row Place) (q : Queue t room n c m r) where

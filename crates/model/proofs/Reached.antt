@@ -2,10 +2,9 @@
 use Prim.Native.Nat.{ℕ, zero, suc, _<_}
 use mathlib.Core.Path.{_≡_, refl, sym, ap, subst, _∙_}
 use mathlib.Core.List.{List, [], _∷_}
-use mathlib.Core.Bool.{Bool, true, false}
+use mathlib.Core.Bool.{true}
 use native.Mathlib.Omega.{arith}
 use lib.Ieee.{Float}
-use Rattle.halting.specs.Out.{pick}
 use Rattle.model.specs.declared.Domain.{Domain}
 use Rattle.model.specs.declared.Particle.{Particle}
 use Rattle.model.specs.declared.Event.{Event}
@@ -13,16 +12,17 @@ use Rattle.model.specs.declared.Event.the-variants.{InterParticleCollisi
 use Rattle.model.specs.State.{State}
 use Rattle.model.specs.Sizes.{rated}
 use Rattle.model.specs.Doing.{synchronised, halted, Moved, wasSync, finish, headEvent, event, step, Whole}
-use Rattle.model.specs.Run.{How, spent, refused, Ran, runFrom}
+use Rattle.model.specs.Run.{How, spent, refused, runFrom}
 use Rattle.model.specs.Start.{start, started}
 use Rattle.model.specs.Sound.{Sound, Stands}
 use Rattle.model.specs.Standing.{Standing}
-use Rattle.model.specs.Check.{Fitted, Fits, standing, sized, halt, refusal, runAll}
+use Rattle.model.specs.Check.{Fitted, Fits, runAll}
 use Rattle.model.specs.Reached.{Call, after, Reached, steps}
 use Rattle.model.proofs.Steps.{step-stands}
 use Rattle.model.proofs.Runs.{run-stands, run-clock}
 use Rattle.model.proofs.Counts.{Ended, stepAt, counts}
 use Rattle.model.proofs.Stands.{stands, standing as standing-facts, sound-fitted}
+use Rattle.model.proofs.Refusals.{run-case}
 use Rattle.model.proofs.Reflect.{says-stands}
 use Rattle.model.proofs.Whole.{rated-later, runs}
 use Rattle.model.proofs.Starts.{WellBegun, start-stands}
@@ -71,36 +71,15 @@ module _ (rate : Float) (R : rated rate ≡ true) (s : State) (st : Stands s) wh
   steps-stand zero w = st
   steps-stand (suc n) w = step-stands rate (rated-later rate R) (steps rate n s) (steps-stand n (λ m h. w m (omega arith))) (w n (omega arith))
 
--- ---- the checks
-abbrev gated : Bool → Bool → Bool → Bool → State → Ran → Ran
-gated a h r t s x = pick a (pick h (refusal (s .mark) s) (pick r (pick t x (refusal 10 s)) (refusal 3 s))) (refusal 2 s)
-
-gated-well : (a h r t : Bool) (s : State) (x : Ran) → Well s → (r ≡ true → t ≡ true → Well (x .state)) → Well ((gated a h r t s x) .state)
-gated-well true false true true s x w f = f refl refl
-gated-well true false true false s x w f = w
-gated-well true false false t s x w f = w
-gated-well true true r t s x w f = w
-gated-well false h r t s x w f = w
-
-gated-counted : (a h r t : Bool) (s : State) (x : Ran) (n : ℕ) → n < (gated a h r t s x) .count → (r ≡ true) × (t ≡ true)
-gated-counted true false true true s x n c = (refl, refl)
-gated-counted true false true false s x n c = absurd (omega arith)
-gated-counted true false false t s x n c = absurd (omega arith)
-gated-counted true true r t s x n c = absurd (omega arith)
-gated-counted false h r t s x n c = absurd (omega arith)
-
+-- ---- behind the checks
 pub runAll-well : (rate : Float) (b : ℕ) (s : State) → Well s → Well ((runAll rate b s) .state)
-unfolding runAll
-runAll-well rate b s w =
-    gated-well (sized s) (halt (s .mark)) (rated rate) (standing s) s (runFrom rate b 0 s) w
-    (λ R t. run-well rate R s (says-stands s (sound-fitted s (w .sound)) .means t) b)
+runAll-well rate b s w = run-case (λ f. Well ((f b) .state)) rate s w (λ h. w) w w (λ h R t. run-well rate R s (says-stands s (sound-fitted s (w .sound)) .means t) b)
 
 -- a run that counts a step passed them
 pub counted-runs : (rate : Float) (b : ℕ) (s : State) (n : ℕ) → Sound s → n < (runAll rate b s) .count → (rated rate ≡ true) × Stands s
-unfolding runAll
-counted-runs rate b s n sound c =
-    let g = gated-counted (sized s) (halt (s .mark)) (rated rate) (standing s) s (runFrom rate b 0 s) n c in
-    (g .0, says-stands s (sound-fitted s sound) .means (g .1))
+counted-runs rate b s n sound =
+    run-case (λ f. n < (f b) .count → (rated rate ≡ true) × Stands s) rate s (λ c. absurd (omega arith)) (λ h c. absurd (omega arith)) (λ c. absurd (omega arith)) (λ c. absurd (omega arith))
+    (λ h R t c. (R, says-stands s (sound-fitted s sound) .means t))
 
 -- ---- reached
 after-well : (ks : List Call) (s : State) → Well s → Well (after ks s)

@@ -2,7 +2,7 @@
 use Prim.Native.Nat.{ℕ, _+_, _≤_, _<_}
 use mathlib.Core.Path.{_≡_, refl, sym, _∙_}
 use mathlib.Core.List.{List, [], _∷_}
-use mathlib.Core.Bool.{Bool, true, false, not, _&&_, _||_}
+use mathlib.Core.Bool.{Bool, true, false, not, _&&_, _||_, or-true}
 use native.Mathlib.Omega.{arith}
 use native.Mathlib.Decide.{ℕ-discrete}
 use lib.Dec.{T, eqb, leb, ltb}
@@ -28,7 +28,7 @@ use Rattle.model.proofs.Stands as stands
 use Rattle.model.specs.Standing.{Standing, Rising, All, Once, syncs}
 use Rattle.model.specs.Sound.{Named, Held, Queue, Numbers, Side, Lists, Heap, Grain, Sound, Stands}
 use Rattle.model.specs.Check.{Fitted, standing, sound}
-use Rattle.model.proofs.Lists.{clash}
+use Rattle.model.proofs.Lists.{clash, or-case}
 use Rattle.model.proofs.Queue.{T-of, of-T, and-l, and-r}
 
 -- ---- a test that says whether P
@@ -111,10 +111,6 @@ says-once : (l : List ℕ) → Says (check.once l) (Once l)
 says-once [] = says true (Unit {0}) (λ e. tt) (λ e. refl)
 says-once (x ∷ xs) = says-and (says-not (has x xs)) (says-once xs)
 
-or-case : (a b : Bool) (P : Type 0) → (a || b) ≡ true → (a ≡ true → P) → (b ≡ true → P) → P
-or-case true b P e f g = f refl
-or-case false b P e f g = g e
-
 all-has : (P : ℕ → Type 0) (l : List ℕ) → All P l → (x : ℕ) → has x l ≡ true → P x
 unfolding has
 all-has P [] a x h = clash h
@@ -123,11 +119,7 @@ all-has P (y ∷ ys) a x h = or-case (eqb x y) (has x ys) (P x) h (λ e. rw (eqb
 has-all : (P : ℕ → Type 0) (l : List ℕ) → ((x : ℕ) → has x l ≡ true → P x) → All P l
 unfolding has
 has-all P [] f = tt
-has-all P (y ∷ ys) f = (f y (rw (eq-eqb y y refl)), has-all P ys (λ x h. f x (more (eqb x y) (has x ys) h)))
-  where
-    more : (a b : Bool) → b ≡ true → (a || b) ≡ true
-    more true b e = refl
-    more false b e = e
+has-all P (y ∷ ys) f = (f y (rw (eq-eqb y y refl)), has-all P ys (λ x h. f x (rw h (or-true (eqb x y)))))
 
 says-numbers : (n k : ℕ) (r : Row ℕ) → Says (check.numbers n k r) (Numbers n k r)
 says-numbers n k r =

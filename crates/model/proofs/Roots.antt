@@ -9,8 +9,7 @@ use native.Mathlib.Decide.{ℕ-discrete}
 use lib.Dec.{T, eqb, ltb}
 use lib.ListN.{length, getD, set, drop, length-set}
 use lib.Seq.{getD-set-other}
-use lib.Ieee.{Float, binary64, ofBits, add, neg, le, lt, isNan, fits}
-use lib.Ieee.Scale.{finite}
+use lib.Ieee.{Float, binary64, ofBits, add, neg, le, lt, isNan}
 use borrow.Author.Tests.{ltb-true, eq-eqb}
 use Rattle.scheduler.specs.declared.Scheduler.{Scheduler}
 use Rattle.scheduler.specs.Heap.{swap, swapAt, timeAt, parent, parentIn, parentOf, up, upshifted, updated}
@@ -29,7 +28,7 @@ use Rattle.model.specs.declared.Contact.{Contact}
 use Rattle.model.specs.declared.Contact.the-variants as contact
 use Rattle.model.specs.declared.Plan.{Plan}
 use Rattle.model.specs.declared.Plan.the-variants.{Nothing, Due, Refused}
-use Rattle.halting.specs.Out.{out, then, each, eachOf, pick}
+use Rattle.halting.specs.Out.{then, each, eachOf, pick}
 use Rattle.halting.proofs.Laws.{then-sound, each-sound}
 use Rattle.model.specs.Grid.{cells}
 use Rattle.model.specs.Stepping.{newPos, due}
@@ -45,7 +44,8 @@ use Rattle.model.specs.Start.{pairs}
 use Rattle.model.proofs.Lists.{clash, live-same, live-other}
 use Rattle.model.proofs.Queue.{of-T, not-of-T, and-l, and-r, fine-top, fine-real}
 use Rattle.model.proofs.Frame.{of-sound}
-use Rattle.model.proofs.Keeps.{on-test}
+use Rattle.model.proofs.Cases.{on-test, insert-case}
+use Rattle.model.proofs.Cleared.{zero-fits, zero-finite}
 use Rattle.model.proofs.Plans.{Late, late-collide, not-below}
 
 -- ---- the heap: where no head is earlier than cell 0's, which is the root, an upshift leaves it there
@@ -165,14 +165,6 @@ FromZero Nothing = Unit {0}
 FromZero Refused = Unit {0}
 FromZero (Due e) = lt ((placeOf e) .time) fzero ≡ false
 
-zero-fits : T (fits binary64 fzero)
-unfolding fits ofBits
-zero-fits = tt
-
-zero-finite : T (finite fzero)
-unfolding ofBits
-zero-finite = tt
-
 from-zero : (dt : Float) → lt dt fzero ≡ false → lt (add binary64 fzero dt) fzero ≡ false
 from-zero dt h = fails (lt (add binary64 fzero dt) fzero) (λ t. lt-not-le (add binary64 fzero dt) fzero t (on (lt-left (add binary64 fzero dt) fzero t)))
   where
@@ -220,10 +212,7 @@ wall-from d b c i p = on-test FromZero (noWall d b c p) Nothing _ (λ h. tt) (λ
 -- ---- init_events keeps it, done or refused
 module _ (n c : ℕ) (C : c < n) where
   insert-root : (e : Place) (u : State) → Rooted n u → lt (e .time) fzero ≡ false → Rooted n ((insert c e u) .st)
-  unfolding insert
-  insert-root e u r h =
-      on-test (λ o. Rooted n (o .st)) (finePlace e) (pick (ltb (length (queue u c)) (u .room)) (out 0 (inserted c e u)) (out 6 u)) (out 5 u)
-      (λ f. on-test (λ o. Rooted n (o .st)) (ltb (length (queue u c)) (u .room)) (out 0 (inserted c e u)) (out 6 u) (λ q. rooted-insert n c e u C r f h) (λ q. r)) (λ f. r)
+  insert-root e u r h = insert-case (λ o. Rooted n (o .st)) u c e r (λ q. r) (λ f q. rooted-insert n c e u C r f h)
 
   put-root : (x : Plan) (u : State) → Rooted n u → FromZero x → Rooted n ((put c x u) .st)
   put-root Nothing u r h = r

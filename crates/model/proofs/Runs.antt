@@ -1,8 +1,7 @@
 -- A run, step by step: the standing facts along it, the clock, and a run of j + k as two. Assumes nothing.
-use Prim.Native.Nat.{ℕ, zero, suc, _+_, _≤_, _<_}
-use mathlib.Core.Path.{_≡_, refl, sym, ap, subst, _∙_}
-use mathlib.Core.Bool.{Bool, true, false}
-use native.Mathlib.Omega.{arith}
+use Prim.Native.Nat.{ℕ, zero, suc, _+_}
+use mathlib.Core.Path.{_≡_, refl}
+use mathlib.Core.Bool.{false}
 use native.Mathlib.Nat.{zero-add, suc-add, add-suc}
 use lib.Dec.{T}
 use lib.Ieee.{Float, le, lt}
@@ -10,13 +9,10 @@ use Rattle.order.specs.Numbers.{fzero}
 use Rattle.order.proofs.Order.{le-trans, le-refl}
 use Rattle.order.proofs.Clock.{finite-no-nan}
 use Rattle.model.specs.State.{State}
-use Rattle.model.specs.Doing.{Stepped, done, halted, Moved, step, Whole}
-use Rattle.model.specs.Run.{How, spent, Ran, ends, onward, runFrom, plus, goOn, continue, refused}
+use Rattle.model.specs.Doing.{Stepped, done, halted, step, Whole}
+use Rattle.model.specs.Run.{How, spent, Ran, onward, runFrom, plus, continue, refused}
 use Rattle.model.specs.Sound.{Sound, Stands}
 use Rattle.model.proofs.Steps.{step-sound, step-clock, step-stands}
-
-not-spent : {A : Type 0} (h : How) → h ≡ spent → (h ≡ spent → ⊥) → A
-not-spent h e n = absurd (n e)
 
 -- ---- over the steps alone: j + k steps are j steps and then, if they were spent, k more
 onward-continue : (h : Stepped) (s : State) (d : ℕ) (f g k : ℕ → State → Ran) → ((e : ℕ) (u : State) → f e u ≡ continue (g e u) k) → onward h s d f ≡ continue (onward h s d g) k

@@ -1,31 +1,31 @@
 -- schedule_events and the five executions keep `Sound`, done or refused. Assumes nothing.
 use Prim.Native.Nat.{ℕ, zero, suc, _<_}
-use mathlib.Core.Path.{_≡_, refl, sym, _∙_}
+use mathlib.Core.Path.{_≡_, refl, sym, _∙_, subst}
 use mathlib.Core.List.{List, [], _∷_}
 use mathlib.Core.Bool.{Bool, true, false, _||_, or-true}
 use native.Mathlib.Omega.{arith}
-use lib.Dec.{T, eqb}
+use lib.Dec.{eqb}
 use lib.ListN.{length}
-use lib.Ieee.{le}
 use borrow.Author.Tests.{eqb-true}
 use Rattle.myvec.specs.declared.MyVec.{MyVec}
 use Rattle.model.specs.declared.Particle.{Particle}
 use Rattle.halting.specs.Out.{Out, next, then, each, eachOf}
 use Rattle.halting.proofs.Laws.{then-sound, each-sound}
-use Rattle.order.proofs.Order.{le-refl}
-use Rattle.order.proofs.Clock.{finite-no-nan}
 use Rattle.model.specs.Grid.{cells}
-use Rattle.model.specs.State.{State, grain, home, listed, has}
-use Rattle.model.specs.Acts.{store, cancelled, enter}
+use Rattle.model.specs.Events.{names, eventOf}
+use Rattle.model.specs.State.{State, grain, home, listed, queue, has}
+use Rattle.model.specs.Acts.{store, cancelled, cancel, enter, leave}
 use Rattle.model.specs.Collision.{collision}
 use Rattle.model.specs.Moves.{toNeighbour, outOfCell}
 use Rattle.model.specs.Walls.{wall}
 use Rattle.model.specs.Doing.{others, stepGrain, scheduleCollision, Finder, scheduleBy, boundaries, scheduleWith, scheduleEvents, landed, again, forget, doCollision, doNeighbour, doOut, doWall}
 use Rattle.model.specs.Stepping.{stepped}
 use Rattle.model.specs.Sound.{Sound}
-use Rattle.model.proofs.Lists.{clash}
+use Rattle.model.proofs.Lists.{clash, or-case}
 use Rattle.model.proofs.Plans.{AptPlan, collision-apt, toNeighbour-apt, outOfCell-apt, wall-apt}
-use Rattle.model.proofs.Frame.{Keeps, Goes, keeps-refl, keeps-on, goes-on, keeps-goes, store-keeps, put-keeps, cancelled-keeps, cancelled-free, In, in-frame, in-home, in-cell, enter-goes, enter-in, leave-goes, of-sound}
+use Rattle.model.specs.Standing.{All}
+use Rattle.model.proofs.Cases.{store-case, leave-case}
+use Rattle.model.proofs.Frame.{same-clock, Keeps, Goes, keeps-refl, keeps-on, goes-on, keeps-goes, store-keeps, put-keeps, cancelled-keeps, cancelled-free, In, in-frame, in-home, in-cell, enter-goes, enter-in, leave-goes, of-sound}
 use Rattle.model.proofs.Forgets.{forget-keeps}
 
 -- ---- an act whose second part needs the first to be done
@@ -37,9 +37,6 @@ pub then-both : {S : Type 0} (P Q : S → Type 0) (o : Out S) (k : S → Out S) 
 then-both P Q o k = next-both P Q (o .num) (o .st) k
 
 -- ---- stepping
-pub same-clock : (s : State) → Sound s → T (le (s .clock) (s .clock))
-same-clock s sound = le-refl (s .clock) (finite-no-nan (s .clock) (sound .clock))
-
 pub step-keeps : (s : State) (g : ℕ) → Sound s → g < length (s .grains) → Keeps s ((stepGrain g s) .st)
 unfolding stepGrain
 step-keeps s g sound G = store-keeps s g (stepped (s .box) (s .clock) (grain s g)) sound G (same-clock s sound)
@@ -74,10 +71,6 @@ unfolding has others
 has-others p q [] h = (h, clash h)
 has-others p q (x ∷ xs) h = by (eqb p x) refl (has-others p q xs)
   where
-    or-case : (a b : Bool) (P : Type 0) → (a || b) ≡ true → (a ≡ true → P) → (b ≡ true → P) → P
-    or-case true b P e f g = f refl
-    or-case false b P e f g = g e
-
     by : (b : Bool) → eqb p x ≡ b → (has q (others p xs) ≡ true → (has q xs ≡ true) × (eqb p q ≡ false)) → ((eqb q x || has q xs) ≡ true) × (eqb p q ≡ false)
     by true e ih = let w = ih (rw e at h) in (rw (w .0) (or-true (eqb q x)), w .1)
     by false e ih = or-case (eqb q x) (has q (others p xs)) (((eqb q x || has q xs) ≡ true) × (eqb p q ≡ false)) (rw e at h)
@@ -149,3 +142,23 @@ out-goes p x k s sound i =
   where
     stored : Keeps s ((store p (landed x (s .clock) (grain s p)) s) .st)
     stored = store-keeps s p (landed x (s .clock) (grain s p)) sound (i .grain) (same-clock s sound)
+
+-- at 9 the grain's events in that cell are already cancelled and both lists still hold the pair
+next-num : (r n : ℕ) (u : State) (k : State → Out State) → (next r u k) .num ≡ n → (r ≡ n → ⊥) → ((k u) .num ≡ n) × ((next r u k) .st ≡ (k u) .st)
+next-num zero n u k e d = (e, refl)
+next-num (suc r) n u k e d = absurd (d e)
+
+pub nine-leaves : (p : ℕ) (x : MyVec) (k : ℕ) (s : State) → Sound s → In p k s → (doOut p x k s) .num ≡ 9
+    → All (λ e. names (eventOf (e .kind) e) p ≡ false) (queue ((doOut p x k s) .st) k) × (has p (listed ((doOut p x k s) .st) k) ≡ true) × (has k (home ((doOut p x k s) .st) p) ≡ true)
+unfolding doOut
+nine-leaves p x k s sound i z =
+    let o = store p (landed x (s .clock) (grain s p)) s in
+    let k1 = store-keeps s p (landed x (s .clock) (grain s p)) sound (i .grain) (same-clock s sound) in
+    let i1 = in-frame p k s (o .st) (k1 .frame) i in
+    let k2 = cancelled-keeps (o .st) p k (k1 .sound) (i1 .cell) in
+    let u = cancelled p k (o .st) in
+    let i2 = in-frame p k (o .st) u (k2 .frame) i1 in
+    let q = next-num (o .num) 9 (o .st) (λ s1. then (cancel p k s1) (λ s2. leave p k s2)) z (store-case (λ w. w .num ≡ 9 → ⊥) s p (landed x (s .clock) (grain s p)) (λ e. omega (arith, e)) (λ f e. omega (arith, e))) in
+    let l : (leave p k u) .st ≡ u = leave-case (λ w. w .num ≡ 9 → w .st ≡ u) u p k (λ e. refl) (λ h e. absurd (omega (arith, e))) (q .0) in
+    subst (λ (w : State). All (λ e. names (eventOf (e .kind) e) p ≡ false) (queue w k) × (has p (listed w k) ≡ true) × (has k (home w p) ≡ true)) (sym (q .1 ∙ l))
+    (cancelled-free (o .st) p k (k1 .sound) (i1 .cell), i2 .there, k2 .sound .lists .mutual′ p k (i2 .grain) (i2 .cell) ∙ i2 .there)

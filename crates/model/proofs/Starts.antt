@@ -4,127 +4,39 @@ use mathlib.Core.Path.{_≡_, refl, sym, ap, subst, _∙_}
 use mathlib.Core.List.{List, [], _∷_}
 use mathlib.Core.Bool.{Bool, true, false, _&&_, or-true}
 use native.Mathlib.Omega.{arith}
-use native.Mathlib.Decide.{decLe, ℕ-discrete}
+use native.Mathlib.Decide.{ℕ-discrete}
 use native.Mathlib.Nat.{add-suc, add-zero, suc-add}
-use lib.Dec.{T, eqb, leb}
-use lib.ListN.{length, getD, replicate, length-replicate, getD-replicate, List·getD-eq-default}
-use lib.Ieee.{Float, binary64, ofBits, le, fits}
-use lib.Ieee.Scale.{finite}
+use lib.Dec.{eqb, leb}
+use lib.ListN.{length, getD, length-replicate}
 use borrow.Author.Tests.{eq-eqb, eqb-true, ne-eqb, leb-true}
-use Rattle.scheduler.specs.declared.Scheduler.{Scheduler}
 use Rattle.model.specs.declared.Domain.{Domain}
 use Rattle.model.specs.declared.Particle.{Particle}
 use Rattle.halting.specs.Out.{Out, out, next, then, each, eachOf}
 use Rattle.halting.proofs.Laws.{then-sound, each-sound, then-keeps}
-use Rattle.order.specs.Numbers.{fzero, last}
-use Rattle.scheduler.specs.Heap.{timeAt, parent, start as startHeap}
-use Rattle.scheduler.specs.Standing.{Ordered}
-use Rattle.order.proofs.Compare.{lt-irrefl}
-use Rattle.scheduler.proofs.Laws.{time-in, time-out}
-use Rattle.scheduler.proofs.Inverse.{start-inverse}
+use Rattle.order.specs.Numbers.{fzero}
 use Rattle.model.specs.Grid.{cells}
-use Rattle.model.specs.Events.{headTime, zeroP}
+use Rattle.model.specs.Events.{zeroP}
 use Rattle.model.specs.FromPToC.{cellsOfGrain}
-use Rattle.model.specs.State.{Row, none, State, zeroG, grain, home, listed, queue, heads, liveAt, has, marked}
-use Rattle.model.specs.Acts.{fineGrain, store, insert, enter}
+use Rattle.model.specs.State.{State, zeroG, grain, home, listed, queue, has, marked}
+use Rattle.model.specs.Acts.{store, insert, enter}
 use Rattle.model.specs.Doing.{scheduleCollision, boundaries, syncAt}
 use Rattle.model.specs.Stepping.{grainOf}
 use Rattle.model.specs.Sizes.{boxOk, countsOk, grainOk, firstBad}
-use Rattle.model.specs.Start.{Begun, empty, clear, goesIn, pairs, initCell, begin, refused, started, startedAt, start}
+use Rattle.model.specs.Start.{Begun, clear, goesIn, pairs, initCell, begin, refused, started, startedAt, start}
 use Rattle.model.specs.Standing.{Once, syncs}
-use Rattle.model.specs.Sound.{Numbers, Side, Sound, Stands}
+use Rattle.model.specs.Sound.{Sound, Stands}
 use Rattle.model.proofs.Lists.{clash}
 use Rattle.model.proofs.Queue.{and-l, and-r}
-use Rattle.model.proofs.Keeps.{on-test, Apt}
+use Rattle.model.proofs.Cases.{on-test}
+use Rattle.model.proofs.Keeps.{Apt}
 use Rattle.model.proofs.Plans.{cells-some}
 use Rattle.model.proofs.Frame.{Near, Keeps, Goes, near-refl, near-trans, keeps-refl, keeps-on, goes-on, keeps-goes, store-keeps, In, in-frame, in-cell, enter-goes, enter-in, of-sound}
 use Rattle.model.proofs.Schedule.{then-both, collide-keeps, boundaries-keeps}
 use Rattle.model.proofs.Steps.{Ends, insert-ends}
-use Rattle.model.proofs.Grid.{cells-max, cells-under}
+use Rattle.model.proofs.Grid.{cells-under}
+use Rattle.model.proofs.Cleared.{empty-live, zero-le, zero-fits, clear-sound}
 use Rattle.model.proofs.Born.{born}
 use Rattle.model.specs.Check.{Fits}
-
--- ---- the cleared state is sound
-abbrev emptyN : ℕ → Row ℕ
-emptyN k = empty k 0
-
-empty-numbers : (n k : ℕ) → Numbers n k (emptyN k)
-unfolding has
-empty-numbers n k = record { full = full′; below = λ x h. clash h; once = tt }
-  where
-    z : ℕ
-    z = 0
-
-    full′ : 0 + length (replicate {A = ℕ} k 0) ≡ k
-    full′ = let e = length-replicate {A = ℕ} k 0 in omega (arith, e)
-
-empty-side : (m n k : ℕ) → Side m n k (replicate m (emptyN k))
-empty-side m n k = record { long = length-replicate m (emptyN k); each = λ i I. rw (getD-replicate m i (emptyN k) none I) (empty-numbers n k) }
-
-module _ (m : ℕ) {A : Type 0} (k : ℕ) (z : A) where
-  pub empty-live : (i : ℕ) → liveAt (replicate m (empty k z)) i ≡ []
-  empty-live i = elim (decLe m i) [
-    | yes o ↦ ap (λ (r : Row A). r .live) (List·getD-eq-default (replicate m (empty k z)) none (let e = length-replicate m (empty k z) in omega (arith, e)))
-    | no h ↦ ap (λ (r : Row A). r .live) (getD-replicate m i (empty k z) none (omega arith))
-  ]
-
-empty-heads : (m room c : ℕ) → heads (replicate m (empty room zeroP)) c ≡ last
-unfolding heads
-empty-heads m room c = ap headTime (empty-live m room zeroP c)
-
-all-last : (h : ℕ → Float) (s : Scheduler) → ((c : ℕ) → h c ≡ last) → (i : ℕ) → timeAt h s i ≡ last
-all-last h s f i = elim (decLe (s .cells) i) [
-  | yes o ↦ time-out h s i o
-  | no n ↦ time-in h s i (omega arith) ∙ f (getD (s .heap) i 0)
-]
-
-all-ordered : (h : ℕ → Float) (s : Scheduler) → ((c : ℕ) → h c ≡ last) → Ordered h s
-unfolding Ordered
-all-ordered h s f c p q = rw (all-last h s f c, all-last h s f (parent c)) (lt-irrefl last)
-
-zero-fine : fineGrain zeroG ≡ true
-unfolding fineGrain ofBits
-zero-fine = refl
-
-zero-le : T (le fzero fzero)
-unfolding le ofBits
-zero-le = tt
-
-zero-finite : T (finite fzero)
-unfolding ofBits
-zero-finite = tt
-
-zero-fits : T (fits binary64 fzero)
-unfolding fits ofBits
-zero-fits = tt
-
-start-cells : (n : ℕ) → (startHeap n) .cells ≡ n
-unfolding startHeap
-start-cells n = refl
-
-pub clear-sound : (b : Domain) (room n : ℕ) → boxOk b ≡ true → 16 ≤ room → room ≤ 256 → n ≤ 256 → Sound (clear b room n)
-unfolding clear
-clear-sound b room n h r r′ N =
-    let e = length-replicate n zeroG in
-    record {
-      box = h;
-      room = (r, r′);
-      few = rw e N;
-      clock = zero-finite;
-      fit = zero-fits;
-      grains = λ g G. rw (getD-replicate n g zeroG zeroG (rw e at G)) (record { fine = zero-fine; past = zero-le });
-      lists = rw e (record {
-        homes = empty-side n (cells b) 8;
-        members = empty-side (cells b) n 32;
-        mutual′ = λ i c I C. rw (empty-live n {A = ℕ} 8 0 i, empty-live (cells b) {A = ℕ} 32 0 c) (nothing c i);
-      });
-      long = length-replicate (cells b) (empty room zeroP);
-      queues = λ c C. rw (getD-replicate (cells b) c (empty room zeroP) none C) (record { full = let l = length-replicate room zeroP in omega (arith, l); rising = tt; held = tt });
-      heap = record { cells = start-cells (cells b); inverse = start-inverse (cells b) (cells-max b h); ordered = all-ordered (heads (replicate (cells b) (empty room zeroP))) (startHeap (cells b)) (empty-heads (cells b) room) };
-    }
-  where
-    nothing : (x y : ℕ) → has x [] ≡ has y []
-    nothing x y = unfold has in refl
 
 -- ---- grains go in
 -- a loop whose fact grows with its count

@@ -5,20 +5,20 @@ use mathlib.Core.List.{List, [], _∷_}
 use mathlib.Core.Bool.{Bool, false, not}
 use native.Mathlib.Omega.{arith}
 use native.Mathlib.Decide.{ℕ-discrete}
-use lib.Dec.{T, ltb}
+use lib.Dec.{T}
 use lib.ListN.{length, set, drop}
 use lib.Ieee.{Float, binary64, add, le, lt, ofBits}
 use lib.Ieee.Fits.{add-fits}
 use Rattle.model.specs.declared.Place.{Place}
 use Rattle.model.specs.declared.Event.{Event}
 use Rattle.model.specs.declared.Event.the-variants.{InterParticleCollision, MoveToNeighbour, MoveOutOfCell, WallReflection, Synchronisation}
-use Rattle.halting.specs.Out.{Out, out, next, each, pick}
+use Rattle.halting.specs.Out.{Out, out, next, each}
 use Rattle.halting.proofs.Laws.{each-sound}
 use Rattle.order.specs.Numbers.{fzero, last}
 use Rattle.order.proofs.Order.{le-lt-trans, lt-irrefl}
 use Rattle.order.proofs.Clock.{clock-on}
 use Rattle.model.specs.Grid.{cells}
-use Rattle.model.specs.Events.{eventOf, headTime, headPlace, finePlace, insertBy, zeroP}
+use Rattle.model.specs.Events.{eventOf, headTime, headPlace, insertBy, zeroP}
 use Rattle.model.specs.State.{State, Row, row, grain, home, listed, queue, liveAt, requeued}
 use Rattle.model.specs.Acts.{insert, inserted, first, head, taken, queueRow}
 use Rattle.model.specs.Doing.{stepGrain, doSync, syncAt, execute, finish, headEvent, event, step, Whole}
@@ -27,7 +27,8 @@ use Rattle.model.specs.Standing.{All, syncs, one-if}
 use Rattle.model.specs.Sound.{Sound, Stands, Named, Held}
 use Rattle.model.proofs.Lists.{live-same, live-other}
 use Rattle.model.proofs.Queue.{fine-top}
-use Rattle.model.proofs.Keeps.{on-test, Apt, insert-sound, first-in, root-first, taken-sound, taken-clock, head-held}
+use Rattle.model.proofs.Cases.{insert-case}
+use Rattle.model.proofs.Keeps.{Apt, insert-sound, first-in, root-first, taken-sound, taken-clock, head-held}
 use Rattle.model.proofs.Plans.{cells-some}
 use Rattle.model.proofs.Frame.{Keeps, Goes, keeps-refl, keeps-on, keeps-goes, syncs-insert, In, in-cell}
 use Rattle.model.proofs.Schedule.{step-keeps, collision-goes, neighbour-goes, out-goes, wall-goes}
@@ -48,15 +49,14 @@ goes-ends s o g = record { sound = g .sound; clock = g .near .clock; box = g .ne
 
 -- an insertion in cell 0
 pub insert-ends : (s : State) (x : Place) → Sound s → Apt (cells (s .box)) 0 (listed s 0) (s .clock) x → Ends (one-if (eventOf (x .kind) x)) s (insert 0 x s)
-insert-ends s x sound a = unfold insert in
-    on-test (λ o. Sound (o .st) → Ends k s o) (finePlace x) (pick (ltb (length (queue s 0)) (s .room)) (out 0 (inserted 0 x s)) (out 6 s)) (out 5 s)
-    (λ f. on-test (λ o. Sound (o .st) → Ends k s o) (ltb (length (queue s 0)) (s .room)) (out 0 (inserted 0 x s)) (out 6 s) (λ r h. done′ h)
-    (λ r h. record { sound = h; clock = refl; box = refl; mark = refl; few = refl; housed = λ g k. k; calm = λ z. absurd (omega arith) }))
-    (λ f h. record { sound = h; clock = refl; box = refl; mark = refl; few = refl; housed = λ g k. k; calm = λ z. absurd (omega arith) })
-    (insert-sound s 0 x sound (cells-some (s .box)) a)
+insert-ends s x sound a =
+    insert-case (λ o. Sound (o .st) → Ends k s o) s 0 x stops (λ r. stops) (λ f r h. done′ h) (insert-sound s 0 x sound (cells-some (s .box)) a)
   where
     k : ℕ
     k = one-if (eventOf (x .kind) x)
+
+    stops : {r : ℕ} → Sound s → Ends (one-if (eventOf (x .kind) x)) s (out (suc r) s)
+    stops h = record { sound = h; clock = refl; box = refl; mark = refl; few = refl; housed = λ g k. k; calm = λ z. absurd (omega (arith, z)) }
 
     done′ : Sound (inserted 0 x s) → Ends (one-if (eventOf (x .kind) x)) s (out 0 (inserted 0 x s))
     done′ h = unfold requeued in record {

@@ -8,17 +8,17 @@ use lib.Dec.{T}
 use lib.Ieee.{Float, binary64, ofBits, le, lt}
 use borrow.Author.Tests.{le-leb}
 use Rattle.model.specs.declared.Domain.{Domain}
-use Rattle.halting.specs.Out.{pick}
 use Rattle.order.specs.Numbers.{fzero}
 use Rattle.order.proofs.Order.{le-lt-trans}
 use Rattle.model.specs.Grid.{across, cells}
 use Rattle.model.specs.State.{State}
 use Rattle.model.specs.Run.{How, spent, Ran, runFrom, plus, goOn, refused}
 use Rattle.model.specs.Sound.{Sound, Stands}
-use Rattle.model.specs.Check.{standing, Fitted, sized, halt, refusal, runAll, followBy, followed}
+use Rattle.model.specs.Check.{standing, Fitted, sized, halt, runAll, followBy, followed}
 use Rattle.model.specs.Sizes.{rated}
 use Rattle.model.proofs.Queue.{T-of, and-l}
 use Rattle.model.proofs.Plans.{across-min}
+use Rattle.model.proofs.Refusals.{run-goes, run-case}
 use Rattle.model.proofs.Reflect.{says-stands}
 use Rattle.model.proofs.Stands.{sound-fitted}
 use Rattle.model.proofs.Runs.{split, count, run-stands}
@@ -48,29 +48,10 @@ rated-later rate h = by (lt rate fzero) refl
 
 -- at standing facts a run is its steps
 pub runs : (rate : Float) (b : ℕ) (s : State) → rated rate ≡ true → Stands s → runAll rate b s ≡ runFrom rate b 0 s
-unfolding runAll
-runs rate b s r st = rw (sound-sized s (st .sound), free-halt (s .mark) (st .free), r, says-stands s (sound-fitted s (st .sound)) .holds st)
-
--- a spent run passed them; one that ended otherwise ends so with any greater budget
-abbrev gate : Bool → Bool → Bool → Bool → State → Ran → Ran
-gate a h r t s x = pick a (pick h (refusal (s .mark) s) (pick r (pick t x (refusal 10 s)) (refusal 3 s))) (refusal 2 s)
+runs rate b s r st = run-goes rate b s (sound-sized s (st .sound)) (free-halt (s .mark) (st .free)) r (says-stands s (sound-fitted s (st .sound)) .holds st)
 
 refused-not : {A : Type 0} (n : ℕ) → refused n ≡ spent → A
 refused-not n e = absurd (let z : _≡_ {A = ℕ} 0 1 = cc in omega arith)
-
-gate-spent : (a h r t : Bool) (s : State) (x : Ran) → (gate a h r t s x) .how ≡ spent → (r ≡ true) × (t ≡ true)
-gate-spent true false true true s x e = (refl, refl)
-gate-spent true false true false s x e = refused-not 10 e
-gate-spent true false false t s x e = refused-not 3 e
-gate-spent true true r t s x e = refused-not (s .mark) e
-gate-spent false h r t s x e = refused-not 2 e
-
-gate-ended : (a h r t : Bool) (s : State) (x y : Ran) → ((gate a h r t s y) .how ≡ spent → ⊥) → ((y .how ≡ spent → ⊥) → x ≡ y) → gate a h r t s x ≡ gate a h r t s y
-gate-ended true false true true s x y n f = f n
-gate-ended true false true false s x y n f = refl
-gate-ended true false false t s x y n f = refl
-gate-ended true true r t s x y n f = refl
-gate-ended false h r t s x y n f = refl
 
 continue-spent : (h : How) (r : Ran) (k : ℕ → State → Ran) → h ≡ spent → goOn h r k ≡ k (r .count) (r .state)
 continue-spent h r k e = rw e
@@ -88,8 +69,9 @@ module _ (rate : Float) (j k : ℕ) (s : State) (fitted : Fitted s) where
       ap (plus (r .count)) (sym (runs rate k (r .state) (g .0) stands′)) ∙
       ap (λ (q : Ran). plus (q .count) (runAll rate k (q .state))) (sym x)
     where
+      -- a spent run passed the checks
       g : (rated rate ≡ true) × (standing s ≡ true)
-      g = unfold runAll in gate-spent (sized s) (halt (s .mark)) (rated rate) (standing s) s (runFrom rate j 0 s) e
+      g = run-case (λ f. (f j) .how ≡ spent → (rated rate ≡ true) × (standing s ≡ true)) rate s (refused-not 2) (λ h. refused-not (s .mark)) (refused-not 3) (refused-not 10) (λ h r t x. (r, t)) e
 
       st : Stands s
       st = says-stands s fitted .means (g .1)
@@ -111,11 +93,11 @@ module _ (rate : Float) (j k : ℕ) (s : State) (fitted : Fitted s) where
       stands′ : Stands (r .state)
       stands′ = by (r .how) refl e′
 
+  -- one that ended otherwise ends so with any greater budget
   after-ended : ((runAll rate j s) .how ≡ spent → ⊥) → runAll rate (j + k) s ≡ runAll rate j s
-  unfolding runAll
-  after-ended n =
-      gate-ended (sized s) (halt (s .mark)) (rated rate) (standing s) s (runFrom rate (j + k) 0 s) (runFrom rate j 0 s) n
-      (λ m. split rate j k 0 s ∙ continue-ended ((runFrom rate j 0 s) .how) (runFrom rate j 0 s) (runFrom rate k) m)
+  after-ended =
+      run-case (λ f. ((f j) .how ≡ spent → ⊥) → f (j + k) ≡ f j) rate s (λ n. refl) (λ h n. refl) (λ n. refl) (λ n. refl)
+      (λ h r t n. split rate j k 0 s ∙ continue-ended ((runFrom rate j 0 s) .how) (runFrom rate j 0 s) (runFrom rate k) n)
 
   -- A RUN OF j + k IS A RUN OF j FOLLOWED BY A RUN OF k
   pub whole : runAll rate (j + k) s ≡ followed (runAll rate j s) (runAll rate k)

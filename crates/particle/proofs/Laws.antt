@@ -15,7 +15,7 @@ use Rattle.model.specs.declared.Domain.{Domain}
 use Rattle.model.specs.Grid.{lengthOf, across, cellAt}
 use Rattle.model.specs.Stepping.{wrapped, newPos}
 use Rattle.model.specs.FromPToC.{upFrom, between, endCell, reached, rows, cellsOfGrain}
-use Rattle.model.proofs.Keeps.{on-test}
+use Rattle.model.proofs.Cases.{on-test}
 use Rattle.particle.specs.declared.Span.{Span}
 use Rattle.particle.specs.declared.Spans.{Spans}
 use Rattle.particle.specs.Spans.{cellsIn, spanOf, joined, alone, spansOf}

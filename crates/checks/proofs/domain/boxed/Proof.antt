@@ -1,44 +1,33 @@
-use mathlib.Core.Path.{_≡_, refl, sym, ap, _∙_}
-use borrow.Author.Tests.{lt-ltb, le-ltb, le-leb, lt-leb, eq-eqb, ne-eqb, not-true, not-false}
-use Rattle.checks.proofs.Tests.{grain-is, cells-fit, fits-mul, queued-no, queued-more, heaped-no, heaped-no-2, heaped-more}
+-- `domain::boxed` meets its contract. Assumes nothing.
+use mathlib.Core.Path.{sym, _∙_}
+use borrow.Author.Tests.{not-true, not-false}
+use Rattle.checks.proofs.Tests.{cells-fit, fits-mul}
 use native.Mathlib.Omega.{arith}
 use borrow.Author.Needs.{needs}
 use Rattle.checks.proofs.domain.boxed.Statement.{statement}
 use Rattle.checks.proofs.domain.boxed.Tie as tie
-use Rattle.checks.proofs.domain.boxed.Reads as reads
-use Rattle.checks.proofs.domain.boxed.Lts as lts
-use Rattle.checks.proofs.domain.cells.Reads as cells-reads
-use Rattle.checks.proofs.floats.within.Reads as within-reads
 
--- src/domain.rt:35:9
 within-requires : tie.Need-within-requires
 within-requires c κs = search needs
 
--- src/domain.rt:36:9
 returns : tie.Need-returns
 returns c = rw (sym (c .before .within .ensures) ∙ not-true _ (c .if1 .taken))
 
--- src/domain.rt:38:9
 within-requires-2 : tie.Need-within-requires-2
 within-requires-2 c κs = search needs
 
--- src/domain.rt:39:9
 returns-2 : tie.Need-returns-2
 returns-2 c = rw (sym (c .before .before .before .within .ensures) ∙ not-false _ (c .before .before .if1 .left), sym (c .before .within2 .ensures) ∙ not-true _ (c .if2 .taken))
 
--- src/domain.rt:41:5
 cells-requires : tie.Need-cells-requires
 cells-requires c κs = search needs
 
--- src/domain.rt:41:17
 cells-requires-2 : tie.Need-cells-requires-2
 cells-requires-2 c κs = search needs
 
--- src/domain.rt:41:5
 mul-result : tie.Need-mul-result
 mul-result c = let g = c .before .before .before .before .before .before .args in let m = cells-fit (g .l0) (g .l1) (sym (c .before .before .before .before .before .within .ensures) ∙ not-false _ (c .before .before .before .before .if1 .left)) (sym (c .before .before .before .within2 .ensures) ∙ not-false _ (c .before .before .if2 .left)) in let p = fits-mul (c .before .cells .ensures) (c .cells2 .ensures) m in omega arith
 
--- src/domain.rt:32:1
 returns-3 : tie.Need-returns-3
 returns-3 c = rw (sym (c .before .before .before .before .before .within .ensures) ∙ not-false _ (c .before .before .before .before .if1 .left), sym (c .before .before .before .within2 .ensures) ∙ not-false _ (c .before .before .if2 .left), c .before .cells .ensures, c .cells2 .ensures)
 

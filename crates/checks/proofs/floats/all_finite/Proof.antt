@@ -1,5 +1,6 @@
-use mathlib.Core.Path.{_≡_, refl, sym, ap, _∙_}
-use borrow.Author.Tests.{lt-ltb, le-ltb, le-leb, lt-leb, eq-eqb, ne-eqb, not-true, not-false}
+-- `floats::all_finite` meets its contract. Assumes nothing.
+use mathlib.Core.Path.{_≡_, sym, _∙_}
+use borrow.Author.Tests.{not-true, not-false}
 use Prim.Native.Nat.{_-_, _≤_}
 use native.Mathlib.Nat.{sub-zero}
 use lib.ListN.{getD}
@@ -11,9 +12,6 @@ use native.Mathlib.Omega.{arith}
 use borrow.Author.Needs.{needs}
 use Rattle.checks.proofs.floats.all_finite.Statement.{statement}
 use Rattle.checks.proofs.floats.all_finite.Tie as tie
-use Rattle.checks.proofs.floats.all_finite.Reads as reads
-use Rattle.checks.proofs.floats.all_finite.Lts as lts
-use Rattle.checks.proofs.floats.finite.Reads as finite-reads
 
 abbrev Inv-loop : tie.InvT-loop
 Inv-loop reals n i₀ i = (i ≤ n) × (every (λ j. finite (getD reals j nan)) (n - i) i ≡ every (λ j. finite (getD reals j nan)) n 0)
@@ -21,39 +19,30 @@ Inv-loop reals n i₀ i = (i ≤ n) × (every (λ j. finite (getD reals j nan)) 
 abbrev μ-loop : tie.MeasureT-loop
 μ-loop reals n i₀ i = n - i
 
--- src/floats.rt:22:5
 loop-holds : tie.Need-loop-holds Inv-loop μ-loop
 loop-holds c = (omega arith, rw sub-zero)
 
--- src/floats.rt:23:20
-mul-finite : tie.Need-mul-finite Inv-loop μ-loop
-mul-finite c = search needs
+mul-is-finite : tie.Need-mul-is-finite Inv-loop μ-loop
+mul-is-finite c = search needs
 
--- src/floats.rt:23:20
-shared-slice-read-finite : tie.Need-shared-slice-read-finite Inv-loop μ-loop
-shared-slice-read-finite c = search needs
+shared-slice-read-is-finite : tie.Need-shared-slice-read-is-finite Inv-loop μ-loop
+shared-slice-read-is-finite c = search needs
 
--- src/floats.rt:23:13
-finite-requires : tie.Need-finite-requires Inv-loop μ-loop
-finite-requires c κs = search needs
+is-finite-requires : tie.Need-is-finite-requires Inv-loop μ-loop
+is-finite-requires c κs = search needs
 
--- src/floats.rt:24:13
 returns : tie.Need-returns Inv-loop μ-loop
-returns c = let l = c .before .before .before .before .before .before .args .reals .now in sym (failed (λ j. finite (getD l j nan)) _ _ (c .before .before .before .loop-test .taken) (sym (c .before .finite .ensures) ∙ not-true _ (c .if1 .taken))) ∙ c .before .before .before .before .loop .inv .1
+returns c = let l = c .before .before .before .before .before .before .args .reals .now in sym (failed (λ j. finite (getD l j nan)) _ _ (c .before .before .before .loop-test .taken) (sym (c .before .is-finite .ensures) ∙ not-true _ (c .if1 .taken))) ∙ c .before .before .before .before .loop .inv .1
 
--- src/floats.rt:26:9
 add-i : tie.Need-add-i Inv-loop μ-loop
 add-i c = search needs
 
--- src/floats.rt:22:5
 loop-less : tie.Need-loop-less Inv-loop μ-loop
 loop-less c = search needs
 
--- src/floats.rt:22:5
 loop-again : tie.Need-loop-again Inv-loop μ-loop
-loop-again c = let l = c .before .before .before .before .before .before .args .reals .now in let h = c .before .before .before .loop-test .taken in (omega (arith, h), sym (passed (λ j. finite (getD l j nan)) _ _ h (sym (c .before .finite .ensures) ∙ not-false _ (c .if1 .left))) ∙ c .before .before .before .before .loop .inv .1)
+loop-again c = let l = c .before .before .before .before .before .before .args .reals .now in let h = c .before .before .before .loop-test .taken in (omega (arith, h), sym (passed (λ j. finite (getD l j nan)) _ _ h (sym (c .before .is-finite .ensures) ∙ not-false _ (c .if1 .left))) ∙ c .before .before .before .before .loop .inv .1)
 
--- src/floats.rt:17:1
 returns-2 : tie.Need-returns-2 Inv-loop μ-loop
 returns-2 c = let l = c .before .before .before .args .reals .now in sym (ended (λ j. finite (getD l j nan)) _ _ (c .loop-test .left)) ∙ c .before .loop .inv .1
 
@@ -64,9 +53,9 @@ all-finite-spec =
     Inv-loop
     μ-loop
     loop-holds
-    mul-finite
-    shared-slice-read-finite
-    finite-requires
+    mul-is-finite
+    shared-slice-read-is-finite
+    is-finite-requires
     returns
     add-i
     loop-less

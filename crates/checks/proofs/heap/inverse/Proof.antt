@@ -1,5 +1,6 @@
-use mathlib.Core.Path.{_≡_, refl, sym, ap, _∙_}
-use borrow.Author.Tests.{lt-ltb, le-ltb, le-leb, lt-leb, eq-eqb, ne-eqb, not-true, not-false}
+-- `heap::inverse` meets its contract. Assumes nothing.
+use mathlib.Core.Path.{_≡_, sym, _∙_}
+use borrow.Author.Tests.{not-true, not-false}
 use Prim.Native.Nat.{_-_, _≤_}
 use native.Mathlib.Nat.{sub-zero}
 use Rattle.halting.specs.Every.{every}
@@ -9,9 +10,6 @@ use native.Mathlib.Omega.{arith}
 use borrow.Author.Needs.{needs}
 use Rattle.checks.proofs.heap.inverse.Statement.{statement}
 use Rattle.checks.proofs.heap.inverse.Tie as tie
-use Rattle.checks.proofs.heap.inverse.Reads as reads
-use Rattle.checks.proofs.heap.inverse.Lts as lts
-use Rattle.checks.proofs.heap.leads_back.Reads as leads-back-reads
 
 abbrev Inv-loop : tie.InvT-loop
 Inv-loop a b n i₀ i = (i ≤ n) × (every (leadsBack a b n) (n - i) i ≡ every (leadsBack a b n) n 0)
@@ -19,31 +17,24 @@ Inv-loop a b n i₀ i = (i ≤ n) × (every (leadsBack a b n) (n - i) i ≡ ever
 abbrev μ-loop : tie.MeasureT-loop
 μ-loop a b n i₀ i = n - i
 
--- src/heap.rt:16:5
 loop-holds : tie.Need-loop-holds Inv-loop μ-loop
 loop-holds c = (omega arith, rw sub-zero)
 
--- src/heap.rt:17:13
 leads-back-requires : tie.Need-leads-back-requires Inv-loop μ-loop
 leads-back-requires c κs = search needs
 
--- src/heap.rt:18:13
 returns : tie.Need-returns Inv-loop μ-loop
 returns c = let g = c .before .before .before .before .before .before .args in sym (failed (leadsBack (g .a .now) (g .b .now) (g .n)) _ _ (c .before .before .loop-test .taken) (sym (c .before .leads-back .ensures) ∙ not-true _ (c .if1 .taken))) ∙ c .before .before .before .loop .inv .1
 
--- src/heap.rt:20:9
 add-i : tie.Need-add-i Inv-loop μ-loop
 add-i c = search needs
 
--- src/heap.rt:16:5
 loop-less : tie.Need-loop-less Inv-loop μ-loop
 loop-less c = search needs
 
--- src/heap.rt:16:5
 loop-again : tie.Need-loop-again Inv-loop μ-loop
 loop-again c = let g = c .before .before .before .before .before .before .args in let h = c .before .before .loop-test .taken in (omega (arith, h), sym (passed (leadsBack (g .a .now) (g .b .now) (g .n)) _ _ h (sym (c .before .leads-back .ensures) ∙ not-false _ (c .if1 .left))) ∙ c .before .before .before .loop .inv .1)
 
--- src/heap.rt:11:1
 returns-2 : tie.Need-returns-2 Inv-loop μ-loop
 returns-2 c = let g = c .before .before .before .before .args in sym (ended (leadsBack (g .a .now) (g .b .now) (g .n)) _ _ (c .loop-test .left)) ∙ c .before .loop .inv .1
 

@@ -1,34 +1,26 @@
+-- `heap::leads_back` meets its contract. Assumes nothing.
 use lib.ListN.{getD}
-use mathlib.Core.Path.{_≡_, refl, sym, ap, _∙_}
-use borrow.Author.Tests.{lt-ltb, le-ltb, le-leb, lt-leb, eq-eqb, ne-eqb, not-true, not-false}
+use borrow.Author.Tests.{lt-ltb, le-ltb}
 use native.Mathlib.Omega.{arith}
 use borrow.Author.Needs.{needs}
 use Rattle.checks.proofs.heap.leads_back.Statement.{statement}
 use Rattle.checks.proofs.heap.leads_back.Tie as tie
-use Rattle.checks.proofs.heap.leads_back.Reads as reads
-use Rattle.checks.proofs.heap.leads_back.Lts as lts
 
--- src/heap.rt:30:13
 shared-slice-read-c : tie.Need-shared-slice-read-c
 shared-slice-read-c c = search needs
 
--- src/heap.rt:30:13
 cast-c : tie.Need-cast-c
 cast-c c = omega (arith, c .shared-slice-known .given (c .before .args .i))
 
--- src/heap.rt:32:9
 returns : tie.Need-returns
 returns c = rw (le-ltb _ _ (c .if1 .taken))
 
--- src/heap.rt:34:5
 shared-slice-read-result : tie.Need-shared-slice-read-result
 shared-slice-read-result c = search needs
 
--- src/heap.rt:34:5
 cast-result : tie.Need-cast-result
 cast-result c = omega (arith, c .shared-slice-known2 .given (getD (c .before .before .before .args .a .now) (c .before .before .before .args .i) 0))
 
--- src/heap.rt:26:1
 returns-2 : tie.Need-returns-2
 returns-2 c = rw (lt-ltb _ _ (c .before .if1 .left))
 

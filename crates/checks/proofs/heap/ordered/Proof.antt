@@ -1,5 +1,6 @@
-use mathlib.Core.Path.{_≡_, refl, sym, ap, _∙_}
-use borrow.Author.Tests.{lt-ltb, le-ltb, le-leb, lt-leb, eq-eqb, ne-eqb, not-true, not-false}
+-- `heap::ordered` meets its contract. Assumes nothing.
+use mathlib.Core.Path.{_≡_, sym, _∙_}
+use borrow.Author.Tests.{not-true, not-false}
 use Prim.Native.Nat.{_-_, _≤_}
 use native.Mathlib.Nat.{sub-zero}
 use Rattle.halting.specs.Every.{every}
@@ -10,9 +11,6 @@ use native.Mathlib.Omega.{arith}
 use borrow.Author.Needs.{needs}
 use Rattle.checks.proofs.heap.ordered.Statement.{statement}
 use Rattle.checks.proofs.heap.ordered.Tie as tie
-use Rattle.checks.proofs.heap.ordered.Reads as reads
-use Rattle.checks.proofs.heap.ordered.Lts as lts
-use Rattle.checks.proofs.heap.in_order.Reads as in-order-reads
 
 abbrev Inv-loop : tie.InvT-loop
 Inv-loop heap queue events room n i₀ i = (i ≤ n) × (every (inOrder (headIn events queue room) heap n) (n - i) i ≡ every (inOrder (headIn events queue room) heap n) n 0)
@@ -20,31 +18,24 @@ Inv-loop heap queue events room n i₀ i = (i ≤ n) × (every (inOrder (headIn 
 abbrev μ-loop : tie.MeasureT-loop
 μ-loop heap queue events room n i₀ i = n - i
 
--- src/heap.rt:60:5
 loop-holds : tie.Need-loop-holds Inv-loop μ-loop
 loop-holds c = (omega arith, rw sub-zero)
 
--- src/heap.rt:61:13
 in-order-requires : tie.Need-in-order-requires Inv-loop μ-loop
 in-order-requires c κs = search needs
 
--- src/heap.rt:62:13
 returns : tie.Need-returns Inv-loop μ-loop
 returns c = let g = c .before .before .before .before .before .before .before .args in sym (failed (inOrder (headIn (g .events .now) (g .queue .now) (g .room)) (g .heap .now) (g .n)) _ _ (c .before .before .loop-test .taken) (sym (c .before .in-order .ensures) ∙ not-true _ (c .if1 .taken))) ∙ c .before .before .before .loop .inv .1
 
--- src/heap.rt:64:9
 add-i : tie.Need-add-i Inv-loop μ-loop
 add-i c = search needs
 
--- src/heap.rt:60:5
 loop-less : tie.Need-loop-less Inv-loop μ-loop
 loop-less c = search needs
 
--- src/heap.rt:60:5
 loop-again : tie.Need-loop-again Inv-loop μ-loop
 loop-again c = let g = c .before .before .before .before .before .before .before .args in let h = c .before .before .loop-test .taken in (omega (arith, h), sym (passed (inOrder (headIn (g .events .now) (g .queue .now) (g .room)) (g .heap .now) (g .n)) _ _ h (sym (c .before .in-order .ensures) ∙ not-false _ (c .if1 .left))) ∙ c .before .before .before .loop .inv .1)
 
--- src/heap.rt:55:1
 returns-2 : tie.Need-returns-2 Inv-loop μ-loop
 returns-2 c = let g = c .before .before .before .before .before .args in sym (ended (inOrder (headIn (g .events .now) (g .queue .now) (g .room)) (g .heap .now) (g .n)) _ _ (c .loop-test .left)) ∙ c .before .loop .inv .1
 

@@ -1,9 +1,9 @@
-use mathlib.Core.Path.{_≡_, refl, sym, ap, _∙_}
-use borrow.Author.Tests.{lt-ltb, le-ltb, le-leb, lt-leb, eq-eqb, ne-eqb, not-true, not-false}
-use Rattle.checks.proofs.Cut.{tail-long, less-rows, rest-long, take-none, take-step, cut-none, cut-step, rowed-first, rowed-rest, first-of, first-at, rowed-in}
-use Rattle.checks.proofs.Cut.{both-none, both-step}
-use Rattle.checks.proofs.Lists.{all-none, all-no, all-more, walk-none, walk-no, walk-more, has-none, has-yes, has-more, once-none, once-no, once-more}
-use Rattle.checks.specs.Decode.{rowAt, rowsOf, placeAt, placesOf, queueAt, queuesOf}
+-- `places::all_held` meets its contract. Assumes nothing.
+use mathlib.Core.Path.{sym, _∙_}
+use borrow.Author.Tests.{not-true, not-false}
+use Rattle.checks.proofs.Cut.{less-rows, rest-long, both-none, both-step}
+use Rattle.checks.proofs.Lists.{all-none, all-no, all-more}
+use Rattle.checks.specs.Decode.{placeAt}
 use lib.ListN.{length, take}
 use Rattle.model.specs.Check.{held}
 use native.Mathlib.Omega.{arith}
@@ -28,54 +28,42 @@ abbrev all-held-below : ℕ → In 3 all-held-kinds.ps
 all-held-below t =
     and 3 all-held-kinds.ps (falls 3 all-held-kinds.ps _<_ μ-all-held t) all-held.Pre
 
--- src/places.rt:98:9
 abbrev Rd : ℕ → all-held-lts.Claims
 Rd t = (held-reads.Asked, held-reads.Learnt, all-held-below t, all-held.Post)
 
 all-held-returns : (t : ℕ) → all-held-lts.Need-returns (Rd t) (all-held-at t) all-held.Post
 all-held-returns t c = let b = c .before .before .before .before in let l = b .args .nums .now in let e = b .args .reals .now in let j = b .args .j in let h = held (b .args .n) (b .args .c) (take (b .args .k) (b .args .members .now)) in all-none h (both-none placeAt 4 10 j l e (c .if1 .taken))
 
--- src/places.rt:100:9
 all-held-held-requires : (t : ℕ) → all-held-lts.Need-held-requires (Rd t) (all-held-at t) all-held.Post
-all-held-held-requires t c κs = let b = c .before .before .before .before in let l = b .args .nums .now in let e = b .args .reals .now in let j = b .args .j in let h = held (b .args .n) (b .args .c) (take (b .args .k) (b .args .members .now)) in let d = less-rows j 4 (length l) (c .if1 .left) (b .pre .1 .0) in let d′ = less-rows j 10 (length e) (c .if1 .left) (b .pre .1 .1) in (d .0, d′ .0, b .pre .1 .2)
+all-held-held-requires t c κs = let b = c .before .before .before .before in let l = b .args .nums .now in let e = b .args .reals .now in let j = b .args .j in let d = less-rows j 4 (length l) (c .if1 .left) (b .pre .1 .0) in let d′ = less-rows j 10 (length e) (c .if1 .left) (b .pre .1 .1) in (d .0, d′ .0, b .pre .1 .2)
 
--- src/places.rt:101:9
 all-held-returns-2 : (t : ℕ) → all-held-lts.Need-returns-2 (Rd t) (all-held-at t) all-held.Post
 all-held-returns-2 t c = let b = c .before .before .before .before .before .before in let l = b .args .nums .now in let e = b .args .reals .now in let j = b .args .j in let h = held (b .args .n) (b .args .c) (take (b .args .k) (b .args .members .now)) in all-no h _ _ (both-step placeAt 4 10 j l e (c .before .before .if1 .left)) (sym (c .before .held .ensures) ∙ not-true _ (c .if2 .taken))
 
--- src/places.rt:103:14
 all-held-sub-all-held : (t : ℕ) → all-held-lts.Need-sub-all-held (Rd t) (all-held-at t) all-held.Post
-all-held-sub-all-held t c = let b = c .before .before .before .before .before .before in let l = b .args .nums .now in let e = b .args .reals .now in let j = b .args .j in let h = held (b .args .n) (b .args .c) (take (b .args .k) (b .args .members .now)) in let d = less-rows j 4 (length l) (c .before .before .if1 .left) (b .pre .1 .0) in let d′ = less-rows j 10 (length e) (c .before .before .if1 .left) (b .pre .1 .1) in omega arith
+all-held-sub-all-held t c = let b = c .before .before .before .before .before .before in let l = b .args .nums .now in let e = b .args .reals .now in let j = b .args .j in let d = less-rows j 4 (length l) (c .before .before .if1 .left) (b .pre .1 .0) in let d′ = less-rows j 10 (length e) (c .before .before .if1 .left) (b .pre .1 .1) in omega arith
 
--- src/places.rt:103:14
 all-held-part-all-held-start : (t : ℕ) → all-held-lts.Need-part-all-held-start (Rd t) (all-held-at t) all-held.Post
-all-held-part-all-held-start t c = let b = c .before .before .before .before .before .before in let l = b .args .nums .now in let e = b .args .reals .now in let j = b .args .j in let h = held (b .args .n) (b .args .c) (take (b .args .k) (b .args .members .now)) in let d = less-rows j 4 (length l) (c .before .before .if1 .left) (b .pre .1 .0) in let d′ = less-rows j 10 (length e) (c .before .before .if1 .left) (b .pre .1 .1) in omega arith
+all-held-part-all-held-start t c = let b = c .before .before .before .before .before .before in let l = b .args .nums .now in let e = b .args .reals .now in let j = b .args .j in let d = less-rows j 4 (length l) (c .before .before .if1 .left) (b .pre .1 .0) in let d′ = less-rows j 10 (length e) (c .before .before .if1 .left) (b .pre .1 .1) in omega arith
 
--- src/places.rt:103:14
 all-held-part-all-held-end : (t : ℕ) → all-held-lts.Need-part-all-held-end (Rd t) (all-held-at t) all-held.Post
 all-held-part-all-held-end t c = search needs
 
--- src/places.rt:103:26
 all-held-sub-all-held-2 : (t : ℕ) → all-held-lts.Need-sub-all-held-2 (Rd t) (all-held-at t) all-held.Post
-all-held-sub-all-held-2 t c = let b = c .before .before .before .before .before .before .before in let l = b .args .nums .now in let e = b .args .reals .now in let j = b .args .j in let h = held (b .args .n) (b .args .c) (take (b .args .k) (b .args .members .now)) in let d = less-rows j 4 (length l) (c .before .before .before .if1 .left) (b .pre .1 .0) in let d′ = less-rows j 10 (length e) (c .before .before .before .if1 .left) (b .pre .1 .1) in omega arith
+all-held-sub-all-held-2 t c = let b = c .before .before .before .before .before .before .before in let l = b .args .nums .now in let e = b .args .reals .now in let j = b .args .j in let d = less-rows j 4 (length l) (c .before .before .before .if1 .left) (b .pre .1 .0) in let d′ = less-rows j 10 (length e) (c .before .before .before .if1 .left) (b .pre .1 .1) in omega arith
 
--- src/places.rt:103:26
 all-held-part-all-held-start-2 : (t : ℕ) → all-held-lts.Need-part-all-held-start-2 (Rd t) (all-held-at t) all-held.Post
-all-held-part-all-held-start-2 t c = let b = c .before .before .before .before .before .before .before in let l = b .args .nums .now in let e = b .args .reals .now in let j = b .args .j in let h = held (b .args .n) (b .args .c) (take (b .args .k) (b .args .members .now)) in let d = less-rows j 4 (length l) (c .before .before .before .if1 .left) (b .pre .1 .0) in let d′ = less-rows j 10 (length e) (c .before .before .before .if1 .left) (b .pre .1 .1) in omega arith
+all-held-part-all-held-start-2 t c = let b = c .before .before .before .before .before .before .before in let l = b .args .nums .now in let e = b .args .reals .now in let j = b .args .j in let d = less-rows j 4 (length l) (c .before .before .before .if1 .left) (b .pre .1 .0) in let d′ = less-rows j 10 (length e) (c .before .before .before .if1 .left) (b .pre .1 .1) in omega arith
 
--- src/places.rt:103:26
 all-held-part-all-held-end-2 : (t : ℕ) → all-held-lts.Need-part-all-held-end-2 (Rd t) (all-held-at t) all-held.Post
 all-held-part-all-held-end-2 t c = search needs
 
--- src/places.rt:103:40
 all-held-sub-all-held-3 : (t : ℕ) → all-held-lts.Need-sub-all-held-3 (Rd t) (all-held-at t) all-held.Post
 all-held-sub-all-held-3 t c = search needs
 
--- src/places.rt:103:5
 all-held-all-held-requires : (t : ℕ) → all-held-lts.Need-all-held-requires (Rd t) (all-held-at t) all-held.Post
-all-held-all-held-requires t c κs = let b = c .before .before .before .before .before .before .before .before in let l = b .args .nums .now in let e = b .args .reals .now in let j = b .args .j in let h = held (b .args .n) (b .args .c) (take (b .args .k) (b .args .members .now)) in (omega arith, (rest-long j 4 l (c .before .before .before .before .if1 .left) (b .pre .1 .0), rest-long j 10 e (c .before .before .before .before .if1 .left) (b .pre .1 .1), b .pre .1 .2))
+all-held-all-held-requires t c κs = let b = c .before .before .before .before .before .before .before .before in let l = b .args .nums .now in let e = b .args .reals .now in let j = b .args .j in (omega arith, (rest-long j 4 l (c .before .before .before .before .if1 .left) (b .pre .1 .0), rest-long j 10 e (c .before .before .before .before .if1 .left) (b .pre .1 .1), b .pre .1 .2))
 
--- src/places.rt:93:1
 all-held-returns-3 : (t : ℕ) → all-held-lts.Need-returns-3 (Rd t) (all-held-at t) all-held.Post
 all-held-returns-3 t c = let b = c .before .before .before .before .before .before .before .before .before in let l = b .args .nums .now in let e = b .args .reals .now in let j = b .args .j in let h = held (b .args .n) (b .args .c) (take (b .args .k) (b .args .members .now)) in all-more h _ _ (both-step placeAt 4 10 j l e (c .before .before .before .before .before .if1 .left)) (sym (c .before .before .before .before .held .ensures) ∙ not-false _ (c .before .before .before .if2 .left)) (c .all-held .ensures)
 

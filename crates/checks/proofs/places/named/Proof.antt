@@ -1,73 +1,55 @@
-use mathlib.Core.Path.{_≡_, refl, sym, ap, _∙_}
-use borrow.Author.Tests.{lt-ltb, le-ltb, le-leb, lt-leb, eq-eqb, ne-eqb, not-true, not-false}
-use Rattle.checks.proofs.OnePlace.{rising-none, rising-no, rising-more, syncs-none, syncs-step, syncs-most, one-sync, one-past, one-other, named-sync, named-past, named-no, named-hit-no, named-hit, named-to, named-out, named-wall, fine-is, queue-live, queue-no, queue-more}
-use Rattle.checks.specs.Decode.{rowAt, rowsOf, placeAt, placesOf, queueAt, queuesOf}
+-- `places::named` meets its contract. Assumes nothing.
+use mathlib.Core.Path.{sym, _∙_}
+use borrow.Author.Tests.{not-true, not-false}
+use Rattle.checks.proofs.OnePlace.{named-sync, named-past, named-no, named-hit-no, named-hit, named-to, named-out, named-wall}
+use Rattle.checks.specs.Decode.{placeAt}
 use lib.ListN.{getD, take}
-use native.Mathlib.Omega.{arith}
 use borrow.Author.Needs.{needs}
 use Rattle.checks.proofs.places.named.Statement.{statement}
 use Rattle.checks.proofs.places.named.Tie as tie
-use Rattle.checks.proofs.places.named.Reads as reads
-use Rattle.checks.proofs.places.named.Lts as lts
-use Rattle.checks.proofs.rows.has.Reads as has-reads
 
--- src/places.rt:47:16
 shared-slice-read-kind : tie.Need-shared-slice-read-kind
 shared-slice-read-kind c = search needs
 
--- src/places.rt:49:9
 returns : tie.Need-returns
 returns c = let b = c .before .before .before .before in let l = b .args .nums .now in let n = b .args .n in let c′ = b .args .c in let ms = take (b .args .k) (b .args .members .now) in λ e. named-sync n c′ ms (placeAt l e) (getD l 0 0) (c .if1 .taken)
 
--- src/places.rt:52:9
 returns-2 : tie.Need-returns-2
 returns-2 c = let b = c .before .before .before .before .before in let l = b .args .nums .now in let n = b .args .n in let c′ = b .args .c in let ms = take (b .args .k) (b .args .members .now) in λ e. named-past n c′ ms (placeAt l e) (getD l 0 0) (c .if2 .taken)
 
--- src/places.rt:54:13
 shared-slice-read-p : tie.Need-shared-slice-read-p
 shared-slice-read-p c = search needs
 
--- src/places.rt:55:9
 has-requires : tie.Need-has-requires
 has-requires c κs = search needs
 
--- src/places.rt:56:9
 returns-3 : tie.Need-returns-3
 returns-3 c = let b = c .before .before .before .before .before .before .before .before in let l = b .args .nums .now in let n = b .args .n in let c′ = b .args .c in let ms = take (b .args .k) (b .args .members .now) in λ e. named-no n c′ ms (placeAt l e) (getD l 0 0) (c .before .before .before .before .if1 .left) (c .before .before .before .if2 .left) (sym (c .before .has .ensures) ∙ not-true _ (c .if3 .taken))
 
--- src/places.rt:59:17
 shared-slice-read-q : tie.Need-shared-slice-read-q
 shared-slice-read-q c = search needs
 
--- src/places.rt:60:13
 has-requires-2 : tie.Need-has-requires-2
 has-requires-2 c κs = search needs
 
--- src/places.rt:61:13
 returns-4 : tie.Need-returns-4
 returns-4 c = let b = c .before .before .before .before .before .before .before .before .before .before .before .before in let l = b .args .nums .now in let n = b .args .n in let c′ = b .args .c in let ms = take (b .args .k) (b .args .members .now) in λ e. named-hit-no n c′ ms (placeAt l e) (getD l 0 0) (c .before .before .before .if4 .taken) (sym (c .before .before .before .before .before .has .ensures) ∙ not-false _ (c .before .before .before .before .if3 .left)) (sym (c .before .has2 .ensures) ∙ not-true _ (c .if5 .taken))
 
--- src/places.rt:63:9
 returns-5 : tie.Need-returns-5
 returns-5 c = let b = c .before .before .before .before .before .before .before .before .before .before .before .before in let l = b .args .nums .now in let n = b .args .n in let c′ = b .args .c in let ms = take (b .args .k) (b .args .members .now) in λ e. named-hit n c′ ms (placeAt l e) (getD l 0 0) (c .before .before .before .if4 .taken) (sym (c .before .before .before .before .before .has .ensures) ∙ not-false _ (c .before .before .before .before .if3 .left)) (sym (c .before .has2 .ensures) ∙ not-false _ (c .if5 .left))
 
--- src/places.rt:66:16
 shared-slice-read-result : tie.Need-shared-slice-read-result
 shared-slice-read-result c = search needs
 
--- src/places.rt:66:9
 returns-6 : tie.Need-returns-6
 returns-6 c = let b = c .before .before .before .before .before .before .before .before .before .before .before in let l = b .args .nums .now in let n = b .args .n in let c′ = b .args .c in let ms = take (b .args .k) (b .args .members .now) in λ e. named-to n c′ ms (placeAt l e) (getD l 0 0) (c .before .if6 .taken) (sym (c .before .before .before .before .has .ensures) ∙ not-false _ (c .before .before .before .if3 .left))
 
--- src/places.rt:69:16
 shared-slice-read-result-2 : tie.Need-shared-slice-read-result-2
 shared-slice-read-result-2 c = search needs
 
--- src/places.rt:69:9
 returns-7 : tie.Need-returns-7
 returns-7 c = let b = c .before .before .before .before .before .before .before .before .before .before .before .before in let l = b .args .nums .now in let n = b .args .n in let c′ = b .args .c in let ms = take (b .args .k) (b .args .members .now) in λ e. named-out n c′ ms (placeAt l e) (getD l 0 0) (c .before .if7 .taken) (sym (c .before .before .before .before .before .has .ensures) ∙ not-false _ (c .before .before .before .before .if3 .left))
 
--- src/places.rt:43:1
 returns-8 : tie.Need-returns-8
 returns-8 c = let b = c .before .before .before .before .before .before .before .before .before .before .before in let l = b .args .nums .now in let n = b .args .n in let c′ = b .args .c in let ms = take (b .args .k) (b .args .members .now) in λ e. named-wall n c′ ms (placeAt l e) (getD l 0 0) (c .before .before .before .before .before .before .before .if1 .left) (c .before .before .before .before .before .before .if2 .left) (c .before .before .if4 .left) (c .before .if6 .left) (c .if7 .left) (sym (c .before .before .before .before .has .ensures) ∙ not-false _ (c .before .before .before .if3 .left))
 

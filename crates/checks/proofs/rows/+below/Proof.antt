@@ -1,7 +1,7 @@
-use mathlib.Core.Path.{_≡_, refl, sym, ap, _∙_}
-use borrow.Author.Tests.{lt-ltb, le-ltb, le-leb, lt-leb, eq-eqb, ne-eqb, not-true, not-false}
-use Rattle.checks.proofs.Cut.{tail-long, less-rows, rest-long, take-none, take-step, cut-none, cut-step, rowed-first, rowed-rest, first-of, first-at, rowed-in}
-use Rattle.checks.proofs.Lists.{all-none, all-no, all-more, walk-none, walk-no, walk-more, has-none, has-yes, has-more, once-none, once-no, once-more}
+-- `rows::below` meets its contract. Assumes nothing.
+use borrow.Author.Tests.{lt-ltb, le-ltb}
+use Rattle.checks.proofs.Cut.{tail-long, take-none, take-step}
+use Rattle.checks.proofs.Lists.{all-none, all-no, all-more}
 use lib.Dec.{ltb}
 use native.Mathlib.Omega.{arith}
 use borrow.Author.Needs.{needs}
@@ -23,49 +23,40 @@ below-at t = and 1 below-kinds.ps (is 1 below-kinds.ps μ-below t) below.Pre
 abbrev below-below : ℕ → In 1 below-kinds.ps
 below-below t = and 1 below-kinds.ps (falls 1 below-kinds.ps _<_ μ-below t) below.Pre
 
--- src/rows.rt:32:9
 below-returns :
     (t : ℕ) → below-lts.Need-returns (below-below t, below.Post) (below-at t) below.Post
 below-returns t c = all-none _ (take-none _ _ (c .if1 .taken))
 
--- src/rows.rt:34:13
 abbrev Rd : ℕ → below-lts.Claims
 Rd t = (below-below t, below.Post)
 
 below-shared-slice-read-if2 : (t : ℕ) → below-lts.Need-shared-slice-read-if2 (Rd t) (below-at t) below.Post
 below-shared-slice-read-if2 t c = search needs
 
--- src/rows.rt:35:9
 below-returns-2 :
     (t : ℕ) → below-lts.Need-returns-2 (below-below t, below.Post) (below-at t) below.Post
 below-returns-2 t c = let b = c .before .before .before .before in let l = b .args .nums .now in let k = b .args .k in all-no (λ x. ltb x (b .args .n)) _ _ (take-step k l 0 (c .before .before .if1 .left) (b .pre .1)) (le-ltb _ _ (c .if2 .taken))
 
--- src/rows.rt:37:11
 below-sub-below :
     (t : ℕ) → below-lts.Need-sub-below (below-below t, below.Post) (below-at t) below.Post
 below-sub-below t c = search needs
 
--- src/rows.rt:37:11
 below-part-below-start :
     (t : ℕ) → below-lts.Need-part-below-start (below-below t, below.Post) (below-at t) below.Post
 below-part-below-start t c = search needs
 
--- src/rows.rt:37:11
 below-part-below-end :
     (t : ℕ) → below-lts.Need-part-below-end (below-below t, below.Post) (below-at t) below.Post
 below-part-below-end t c = search needs
 
--- src/rows.rt:37:23
 below-sub-below-2 :
     (t : ℕ) → below-lts.Need-sub-below-2 (below-below t, below.Post) (below-at t) below.Post
 below-sub-below-2 t c = search needs
 
--- src/rows.rt:37:5
 below-below-requires :
     (t : ℕ) → below-lts.Need-below-requires (below-below t, below.Post) (below-at t) below.Post
-below-below-requires t c κs = let b = c .before .before .before .before .before in let l = b .args .nums .now in let k = b .args .k in (omega arith, (let e = tail-long 1 l in omega arith))
+below-below-requires t c κs = let b = c .before .before .before .before .before in let l = b .args .nums .now in (omega arith, (let e = tail-long 1 l in omega arith))
 
--- src/rows.rt:27:1
 below-returns-3 :
     (t : ℕ) → below-lts.Need-returns-3 (below-below t, below.Post) (below-at t) below.Post
 below-returns-3 t c = let b = c .before .before .before .before .before .before in let l = b .args .nums .now in let k = b .args .k in all-more (λ x. ltb x (b .args .n)) _ _ (take-step k l 0 (c .before .before .before .before .if1 .left) (b .pre .1)) (lt-ltb _ _ (c .before .before .if2 .left)) (c .below .ensures)

@@ -1,8 +1,6 @@
-use mathlib.Core.Path.{_≡_, refl, sym, ap, _∙_}
-use borrow.Author.Tests.{lt-ltb, le-ltb, le-leb, lt-leb, eq-eqb, ne-eqb, not-true, not-false}
-use Rattle.checks.proofs.Cut.{tail-long, less-rows, rest-long, take-none, take-step, cut-none, cut-step, rowed-first, rowed-rest, first-of, first-at, rowed-in}
-use lib.ListN.{length, getD, take, drop}
-use Rattle.checks.proofs.Cut.{counted-none, counted-no, counted-more}
+-- `rows::counted` meets its contract. Assumes nothing.
+use Rattle.checks.proofs.Cut.{less-rows, rest-long, counted-none, counted-no, counted-more}
+use lib.ListN.{length}
 use native.Mathlib.Omega.{arith}
 use borrow.Author.Needs.{needs}
 use Prim.Native.Nat.{ℕ, _<_}
@@ -23,59 +21,49 @@ counted-at t = and 1 counted-kinds.ps (is 1 counted-kinds.ps μ-counted t) count
 abbrev counted-below : ℕ → In 1 counted-kinds.ps
 counted-below t = and 1 counted-kinds.ps (falls 1 counted-kinds.ps _<_ μ-counted t) counted.Pre
 
--- src/rows.rt:60:9
 counted-returns :
     (t : ℕ) → counted-lts.Need-returns (counted-below t, counted.Post) (counted-at t) counted.Post
-counted-returns t c = let b = c .before .before in let l = b .args .rows .now in let n = b .args .n in let w = b .args .w in counted-none _ w _ l (c .if1 .taken)
+counted-returns t c = let b = c .before .before in let l = b .args .rows .now in let w = b .args .w in counted-none _ w _ l (c .if1 .taken)
 
--- src/rows.rt:62:21
 abbrev Rd : ℕ → counted-lts.Claims
 Rd t = (counted-below t, counted.Post)
 
 counted-shared-slice-read-if2 : (t : ℕ) → counted-lts.Need-shared-slice-read-if2 (Rd t) (counted-at t) counted.Post
 counted-shared-slice-read-if2 t c = let b = c .before .before .before in let l = b .args .rows .now in let n = b .args .n in let w = b .args .w in let d = less-rows n w (length l) (c .before .if1 .left) (b .pre .1 .1) in omega (arith, b .pre .1 .0)
 
--- src/rows.rt:63:9
 counted-returns-2 :
     (t : ℕ) →
     counted-lts.Need-returns-2 (counted-below t, counted.Post) (counted-at t) counted.Post
-counted-returns-2 t c = let b = c .before .before .before .before in let l = b .args .rows .now in let n = b .args .n in let w = b .args .w in counted-no _ w _ l (c .before .before .if1 .left) (c .if2 .taken)
+counted-returns-2 t c = let b = c .before .before .before .before in let l = b .args .rows .now in let w = b .args .w in counted-no _ w _ l (c .before .before .if1 .left) (c .if2 .taken)
 
--- src/rows.rt:65:13
 counted-mul-counted :
     (t : ℕ) →
     counted-lts.Need-mul-counted (counted-below t, counted.Post) (counted-at t) counted.Post
 counted-mul-counted t c = let b = c .before .before .before .before in let l = b .args .rows .now in let n = b .args .n in let w = b .args .w in let d = less-rows n w (length l) (c .before .before .if1 .left) (b .pre .1 .1) in omega (arith, b .pre .1 .0)
 
--- src/rows.rt:65:13
 counted-sub-counted :
     (t : ℕ) →
     counted-lts.Need-sub-counted (counted-below t, counted.Post) (counted-at t) counted.Post
 counted-sub-counted t c = let b = c .before .before .before .before in let l = b .args .rows .now in let n = b .args .n in let w = b .args .w in let d = less-rows n w (length l) (c .before .before .if1 .left) (b .pre .1 .1) in omega (arith, b .pre .1 .0)
 
--- src/rows.rt:65:13
 counted-part-counted-start : (t : ℕ) → counted-lts.Need-part-counted-start (Rd t) (counted-at t) counted.Post
 counted-part-counted-start t c = let b = c .before .before .before .before in let l = b .args .rows .now in let n = b .args .n in let w = b .args .w in let d = less-rows n w (length l) (c .before .before .if1 .left) (b .pre .1 .1) in omega (arith, b .pre .1 .0)
 
--- src/rows.rt:65:13
 counted-part-counted-end : (t : ℕ) → counted-lts.Need-part-counted-end (Rd t) (counted-at t) counted.Post
 counted-part-counted-end t c = search needs
 
--- src/rows.rt:65:31
 counted-sub-counted-2 :
     (t : ℕ) →
     counted-lts.Need-sub-counted-2 (counted-below t, counted.Post) (counted-at t) counted.Post
 counted-sub-counted-2 t c = search needs
 
--- src/rows.rt:65:5
 counted-counted-requires : (t : ℕ) → counted-lts.Need-counted-requires (Rd t) (counted-at t) counted.Post
 counted-counted-requires t c κs = let b = c .before .before .before .before .before in let l = b .args .rows .now in let n = b .args .n in let w = b .args .w in (omega arith, (b .pre .1 .0, rest-long n w l (c .before .before .before .if1 .left) (b .pre .1 .1)))
 
--- src/rows.rt:55:1
 counted-returns-3 :
     (t : ℕ) →
     counted-lts.Need-returns-3 (counted-below t, counted.Post) (counted-at t) counted.Post
-counted-returns-3 t c = let b = c .before .before .before .before .before .before in let l = b .args .rows .now in let n = b .args .n in let w = b .args .w in counted-more _ w _ l _ (c .before .before .before .before .if1 .left) (c .before .before .if2 .left) (c .counted .ensures)
+counted-returns-3 t c = let b = c .before .before .before .before .before .before in let l = b .args .rows .now in let w = b .args .w in counted-more _ w _ l _ (c .before .before .before .before .if1 .left) (c .before .before .if2 .left) (c .counted .ensures)
 
 pub +counted-spec : {M : Type 1} → statement M
 +counted-spec =

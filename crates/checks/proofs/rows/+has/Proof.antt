@@ -1,7 +1,7 @@
-use mathlib.Core.Path.{_≡_, refl, sym, ap, _∙_}
-use borrow.Author.Tests.{lt-ltb, le-ltb, le-leb, lt-leb, eq-eqb, ne-eqb, not-true, not-false}
-use Rattle.checks.proofs.Cut.{tail-long, less-rows, rest-long, take-none, take-step, cut-none, cut-step, rowed-first, rowed-rest, first-of, first-at, rowed-in}
-use Rattle.checks.proofs.Lists.{all-none, all-no, all-more, walk-none, walk-no, walk-more, has-none, has-yes, has-more, once-none, once-no, once-more}
+-- `rows::has` meets its contract. Assumes nothing.
+use borrow.Author.Tests.{eq-eqb, ne-eqb}
+use Rattle.checks.proofs.Cut.{tail-long, take-none, take-step}
+use Rattle.checks.proofs.Lists.{has-none, has-yes, has-more}
 use native.Mathlib.Omega.{arith}
 use borrow.Author.Needs.{needs}
 use Prim.Native.Nat.{ℕ, _<_}
@@ -22,44 +22,35 @@ has-at t = and 1 has-kinds.ps (is 1 has-kinds.ps μ-has t) has.Pre
 abbrev has-below : ℕ → In 1 has-kinds.ps
 has-below t = and 1 has-kinds.ps (falls 1 has-kinds.ps _<_ μ-has t) has.Pre
 
--- src/rows.rt:18:9
 abbrev Rd : ℕ → has-lts.Claims
 Rd t = (has-below t, has.Post)
 
 has-returns : (t : ℕ) → has-lts.Need-returns (Rd t) (has-at t) has.Post
 has-returns t c = has-none _ (take-none _ _ (c .if1 .taken))
 
--- src/rows.rt:20:13
 has-shared-slice-read-if2 :
     (t : ℕ) → has-lts.Need-shared-slice-read-if2 (Rd t) (has-at t) has.Post
 has-shared-slice-read-if2 t c = search needs
 
--- src/rows.rt:21:9
 has-returns-2 : (t : ℕ) → has-lts.Need-returns-2 (Rd t) (has-at t) has.Post
 has-returns-2 t c = let b = c .before .before .before .before in let l = b .args .nums .now in let k = b .args .k in has-yes _ _ _ (take-step k l 0 (c .before .before .if1 .left) (b .pre .1)) (eq-eqb _ _ (c .if2 .taken))
 
--- src/rows.rt:23:9
 has-sub-has : (t : ℕ) → has-lts.Need-sub-has (Rd t) (has-at t) has.Post
 has-sub-has t c = search needs
 
--- src/rows.rt:23:9
 has-part-has-start :
     (t : ℕ) → has-lts.Need-part-has-start (Rd t) (has-at t) has.Post
 has-part-has-start t c = search needs
 
--- src/rows.rt:23:9
 has-part-has-end : (t : ℕ) → has-lts.Need-part-has-end (Rd t) (has-at t) has.Post
 has-part-has-end t c = search needs
 
--- src/rows.rt:23:21
 has-sub-has-2 : (t : ℕ) → has-lts.Need-sub-has-2 (Rd t) (has-at t) has.Post
 has-sub-has-2 t c = search needs
 
--- src/rows.rt:23:5
 has-has-requires : (t : ℕ) → has-lts.Need-has-requires (Rd t) (has-at t) has.Post
-has-has-requires t c κs = let b = c .before .before .before .before .before in let l = b .args .nums .now in let k = b .args .k in (omega arith, (let e = tail-long 1 l in omega arith))
+has-has-requires t c κs = let b = c .before .before .before .before .before in let l = b .args .nums .now in (omega arith, (let e = tail-long 1 l in omega arith))
 
--- src/rows.rt:13:1
 has-returns-3 : (t : ℕ) → has-lts.Need-returns-3 (Rd t) (has-at t) has.Post
 has-returns-3 t c = let b = c .before .before .before .before .before .before in let l = b .args .nums .now in let k = b .args .k in has-more _ _ _ (take-step k l 0 (c .before .before .before .before .if1 .left) (b .pre .1)) (ne-eqb _ _ (c .before .before .if2 .left)) (c .has .ensures)
 

@@ -1,9 +1,10 @@
-use mathlib.Core.Path.{_≡_, refl, sym, ap, _∙_}
-use borrow.Author.Tests.{lt-ltb, le-ltb, le-leb, lt-leb, eq-eqb, ne-eqb, not-true, not-false}
-use Rattle.checks.proofs.Cut.{tail-long, less-rows, rest-long, take-none, take-step, cut-none, cut-step, rowed-first, rowed-rest, first-of, first-at, rowed-in}
-use Rattle.checks.proofs.Lists.{all-none, all-no, all-more, walk-none, walk-no, walk-more, has-none, has-yes, has-more, once-none, once-no, once-more}
-use Rattle.model.specs.State.{has, liveAt, none}
-use Rattle.checks.specs.Decode.{rowAt, rowsOf}
+-- `rows::listed_by` meets its contract. Assumes nothing.
+use mathlib.Core.Path.{sym, _∙_}
+use borrow.Author.Tests.{not-true, not-false}
+use Rattle.checks.proofs.Cut.{tail-long, take-none, take-step}
+use Rattle.checks.proofs.Lists.{all-none, all-no, all-more}
+use Rattle.model.specs.State.{has, liveAt}
+use Rattle.checks.specs.Decode.{rowsOf}
 use native.Mathlib.Omega.{arith}
 use borrow.Author.Needs.{needs}
 use Prim.Native.Nat.{ℕ, _<_}
@@ -26,46 +27,36 @@ abbrev listed-by-below : ℕ → In 2 listed-by-kinds.ps
 listed-by-below t =
     and 2 listed-by-kinds.ps (falls 2 listed-by-kinds.ps _<_ μ-listed-by t) listed-by.Pre
 
--- src/rows.rt:137:9
 abbrev Rd : ℕ → listed-by-lts.Claims
 Rd t = (lists-reads.Asked, lists-reads.Learnt, listed-by-below t, listed-by.Post)
 
 listed-by-returns : (t : ℕ) → listed-by-lts.Need-returns (Rd t) (listed-by-at t) listed-by.Post
-listed-by-returns t c = let b = c .before .before .before in let l = b .args .nums .now in let k = b .args .k in all-none (λ c. has (b .args .x) (liveAt (rowsOf (b .args .v) (b .args .n) (b .args .others .now)) c)) (take-none _ _ (c .if1 .taken))
+listed-by-returns t c = let b = c .before .before .before in all-none (λ c. has (b .args .x) (liveAt (rowsOf (b .args .v) (b .args .n) (b .args .others .now)) c)) (take-none _ _ (c .if1 .taken))
 
--- src/rows.rt:139:29
 listed-by-shared-slice-read-lists : (t : ℕ) → listed-by-lts.Need-shared-slice-read-lists (Rd t) (listed-by-at t) listed-by.Post
 listed-by-shared-slice-read-lists t c = search needs
 
--- src/rows.rt:139:9
 listed-by-lists-requires : (t : ℕ) → listed-by-lts.Need-lists-requires (Rd t) (listed-by-at t) listed-by.Post
-listed-by-lists-requires t c κs = let b = c .before .before .before .before in let l = b .args .nums .now in let k = b .args .k in (b .pre .1 .1, b .pre .1 .2, b .pre .1 .3)
+listed-by-lists-requires t c κs = let b = c .before .before .before .before in (b .pre .1 .1, b .pre .1 .2, b .pre .1 .3)
 
--- src/rows.rt:140:9
 listed-by-returns-2 : (t : ℕ) → listed-by-lts.Need-returns-2 (Rd t) (listed-by-at t) listed-by.Post
 listed-by-returns-2 t c = let b = c .before .before .before .before .before .before in let l = b .args .nums .now in let k = b .args .k in all-no (λ c. has (b .args .x) (liveAt (rowsOf (b .args .v) (b .args .n) (b .args .others .now)) c)) _ _ (take-step k l 0 (c .before .before .before .if1 .left) (b .pre .1 .0)) (sym (c .before .lists .ensures) ∙ not-true _ (c .if2 .taken))
 
--- src/rows.rt:142:15
 listed-by-sub-listed-by : (t : ℕ) → listed-by-lts.Need-sub-listed-by (Rd t) (listed-by-at t) listed-by.Post
 listed-by-sub-listed-by t c = search needs
 
--- src/rows.rt:142:15
 listed-by-part-listed-by-start : (t : ℕ) → listed-by-lts.Need-part-listed-by-start (Rd t) (listed-by-at t) listed-by.Post
 listed-by-part-listed-by-start t c = search needs
 
--- src/rows.rt:142:15
 listed-by-part-listed-by-end : (t : ℕ) → listed-by-lts.Need-part-listed-by-end (Rd t) (listed-by-at t) listed-by.Post
 listed-by-part-listed-by-end t c = search needs
 
--- src/rows.rt:142:27
 listed-by-sub-listed-by-2 : (t : ℕ) → listed-by-lts.Need-sub-listed-by-2 (Rd t) (listed-by-at t) listed-by.Post
 listed-by-sub-listed-by-2 t c = search needs
 
--- src/rows.rt:142:5
 listed-by-listed-by-requires : (t : ℕ) → listed-by-lts.Need-listed-by-requires (Rd t) (listed-by-at t) listed-by.Post
-listed-by-listed-by-requires t c κs = let b = c .before .before .before .before .before .before .before in let l = b .args .nums .now in let k = b .args .k in (omega arith, ((let e = tail-long 1 l in omega arith), b .pre .1 .1, b .pre .1 .2, b .pre .1 .3))
+listed-by-listed-by-requires t c κs = let b = c .before .before .before .before .before .before .before in let l = b .args .nums .now in (omega arith, ((let e = tail-long 1 l in omega arith), b .pre .1 .1, b .pre .1 .2, b .pre .1 .3))
 
--- src/rows.rt:132:1
 listed-by-returns-3 : (t : ℕ) → listed-by-lts.Need-returns-3 (Rd t) (listed-by-at t) listed-by.Post
 listed-by-returns-3 t c = let b = c .before .before .before .before .before .before .before .before in let l = b .args .nums .now in let k = b .args .k in all-more (λ c. has (b .args .x) (liveAt (rowsOf (b .args .v) (b .args .n) (b .args .others .now)) c)) _ _ (take-step k l 0 (c .before .before .before .before .before .if1 .left) (b .pre .1 .0)) (sym (c .before .before .before .lists .ensures) ∙ not-false _ (c .before .before .if2 .left)) (c .listed-by .ensures)
 

@@ -1,7 +1,7 @@
-use mathlib.Core.Path.{_≡_, refl, sym, ap, _∙_}
-use borrow.Author.Tests.{lt-ltb, le-ltb, le-leb, lt-leb, eq-eqb, ne-eqb, not-true, not-false}
-use Rattle.checks.proofs.Cut.{tail-long, less-rows, rest-long, take-none, take-step, cut-none, cut-step, rowed-first, rowed-rest, first-of, first-at, rowed-in}
-use Rattle.checks.proofs.Lists.{all-none, all-no, all-more, walk-none, walk-no, walk-more, has-none, has-yes, has-more, once-none, once-no, once-more}
+-- `rows::once` meets its contract. Assumes nothing.
+use mathlib.Core.Path.{sym, _∙_}
+use Rattle.checks.proofs.Cut.{tail-long, take-none, take-step}
+use Rattle.checks.proofs.Lists.{once-none, once-no, once-more}
 use native.Mathlib.Omega.{arith}
 use borrow.Author.Needs.{needs}
 use Prim.Native.Nat.{ℕ, _<_}
@@ -23,62 +23,48 @@ once-at t = and 1 once-kinds.ps (is 1 once-kinds.ps μ-once t) once.Pre
 abbrev once-below : ℕ → In 1 once-kinds.ps
 once-below t = and 1 once-kinds.ps (falls 1 once-kinds.ps _<_ μ-once t) once.Pre
 
--- src/rows.rt:46:9
 abbrev Rd : ℕ → once-lts.Claims
 Rd t = (has-reads.Asked, has-reads.Learnt, once-below t, once.Post)
 
 once-returns : (t : ℕ) → once-lts.Need-returns (Rd t) (once-at t) once.Post
 once-returns t c = once-none (take-none _ _ (c .if1 .taken))
 
--- src/rows.rt:48:12
 once-sub-has : (t : ℕ) → once-lts.Need-sub-has (Rd t) (once-at t) once.Post
 once-sub-has t c = search needs
 
--- src/rows.rt:48:12
 once-part-has-start : (t : ℕ) → once-lts.Need-part-has-start (Rd t) (once-at t) once.Post
 once-part-has-start t c = search needs
 
--- src/rows.rt:48:12
 once-part-has-end : (t : ℕ) → once-lts.Need-part-has-end (Rd t) (once-at t) once.Post
 once-part-has-end t c = search needs
 
--- src/rows.rt:48:24
 once-sub-has-2 : (t : ℕ) → once-lts.Need-sub-has-2 (Rd t) (once-at t) once.Post
 once-sub-has-2 t c = search needs
 
--- src/rows.rt:48:31
 once-shared-slice-read-has : (t : ℕ) → once-lts.Need-shared-slice-read-has (Rd t) (once-at t) once.Post
 once-shared-slice-read-has t c = search needs
 
--- src/rows.rt:48:8
 once-has-requires : (t : ℕ) → once-lts.Need-has-requires (Rd t) (once-at t) once.Post
-once-has-requires t c κs = let b = c .before .before .before .before in let l = b .args .nums .now in let k = b .args .k in (let e = tail-long 1 l in omega arith)
+once-has-requires t c κs = let b = c .before .before .before .before in let l = b .args .nums .now in (let e = tail-long 1 l in omega arith)
 
--- src/rows.rt:49:9
 once-returns-2 : (t : ℕ) → once-lts.Need-returns-2 (Rd t) (once-at t) once.Post
 once-returns-2 t c = let b = c .before .before .before .before .before .before in let l = b .args .nums .now in let k = b .args .k in once-no _ _ (take-step k l 0 (c .before .before .before .before .if1 .left) (b .pre .1)) (sym (c .before .has .ensures) ∙ c .if2 .taken)
 
--- src/rows.rt:51:10
 once-sub-once : (t : ℕ) → once-lts.Need-sub-once (Rd t) (once-at t) once.Post
 once-sub-once t c = search needs
 
--- src/rows.rt:51:10
 once-part-once-start : (t : ℕ) → once-lts.Need-part-once-start (Rd t) (once-at t) once.Post
 once-part-once-start t c = search needs
 
--- src/rows.rt:51:10
 once-part-once-end : (t : ℕ) → once-lts.Need-part-once-end (Rd t) (once-at t) once.Post
 once-part-once-end t c = search needs
 
--- src/rows.rt:51:22
 once-sub-once-2 : (t : ℕ) → once-lts.Need-sub-once-2 (Rd t) (once-at t) once.Post
 once-sub-once-2 t c = search needs
 
--- src/rows.rt:51:5
 once-once-requires : (t : ℕ) → once-lts.Need-once-requires (Rd t) (once-at t) once.Post
-once-once-requires t c κs = let b = c .before .before .before .before .before .before .before in let l = b .args .nums .now in let k = b .args .k in (omega arith, (let e = tail-long 1 l in omega arith))
+once-once-requires t c κs = let b = c .before .before .before .before .before .before .before in let l = b .args .nums .now in (omega arith, (let e = tail-long 1 l in omega arith))
 
--- src/rows.rt:41:1
 once-returns-3 : (t : ℕ) → once-lts.Need-returns-3 (Rd t) (once-at t) once.Post
 once-returns-3 t c = let b = c .before .before .before .before .before .before .before .before in let l = b .args .nums .now in let k = b .args .k in once-more _ _ (take-step k l 0 (c .before .before .before .before .before .before .if1 .left) (b .pre .1)) (sym (c .before .before .before .has .ensures) ∙ c .before .before .if2 .left) (c .once .ensures)
 

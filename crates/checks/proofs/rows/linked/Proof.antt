@@ -1,52 +1,37 @@
-use mathlib.Core.Path.{_≡_, refl, sym, ap, _∙_}
-use borrow.Author.Tests.{lt-ltb, le-ltb, le-leb, lt-leb, eq-eqb, ne-eqb, not-true, not-false}
-use native.Mathlib.Omega.{arith}
+-- `rows::linked` meets its contract. Assumes nothing.
+use mathlib.Core.Path.{sym, _∙_}
+use borrow.Author.Tests.{not-true, not-false}
 use borrow.Author.Needs.{needs}
 use Rattle.checks.proofs.rows.linked.Statement.{statement}
 use Rattle.checks.proofs.rows.linked.Tie as tie
-use Rattle.checks.proofs.rows.linked.Reads as reads
-use Rattle.checks.proofs.rows.linked.Lts as lts
-use Rattle.checks.proofs.rows.back.Reads as back-reads
-use Rattle.checks.proofs.rows.housed.Reads as housed-reads
-use Rattle.checks.proofs.rows.side.Reads as side-reads
 
--- src/rows.rt:166:9
 side-requires : tie.Need-side-requires
 side-requires c κs = search needs
 
--- src/rows.rt:167:9
 returns : tie.Need-returns
 returns c = rw (sym (c .before .side .ensures) ∙ not-true _ (c .if1 .taken))
 
--- src/rows.rt:169:9
 side-requires-2 : tie.Need-side-requires-2
 side-requires-2 c κs = search needs
 
--- src/rows.rt:170:9
 returns-2 : tie.Need-returns-2
 returns-2 c = rw (sym (c .before .before .before .side .ensures) ∙ not-false _ (c .before .before .if1 .left), sym (c .before .side2 .ensures) ∙ not-true _ (c .if2 .taken))
 
--- src/rows.rt:172:9
 back-requires : tie.Need-back-requires
 back-requires c κs = search needs
 
--- src/rows.rt:173:9
 returns-3 : tie.Need-returns-3
 returns-3 c = rw (sym (c .before .before .before .before .before .side .ensures) ∙ not-false _ (c .before .before .before .before .if1 .left), sym (c .before .before .before .side2 .ensures) ∙ not-false _ (c .before .before .if2 .left), sym (c .before .back .ensures) ∙ not-true _ (c .if3 .taken))
 
--- src/rows.rt:175:9
 back-requires-2 : tie.Need-back-requires-2
 back-requires-2 c κs = search needs
 
--- src/rows.rt:176:9
 returns-4 : tie.Need-returns-4
 returns-4 c = rw (sym (c .before .before .before .before .before .before .before .side .ensures) ∙ not-false _ (c .before .before .before .before .before .before .if1 .left), sym (c .before .before .before .before .before .side2 .ensures) ∙ not-false _ (c .before .before .before .before .if2 .left), sym (c .before .before .before .back .ensures) ∙ not-false _ (c .before .before .if3 .left), sym (c .before .back2 .ensures) ∙ not-true _ (c .if4 .taken))
 
--- src/rows.rt:178:5
 housed-requires : tie.Need-housed-requires
 housed-requires c κs = search needs
 
--- src/rows.rt:162:1
 returns-5 : tie.Need-returns-5
 returns-5 c = rw (sym (c .before .before .before .before .before .before .before .before .side .ensures) ∙ not-false _ (c .before .before .before .before .before .before .before .if1 .left), sym (c .before .before .before .before .before .before .side2 .ensures) ∙ not-false _ (c .before .before .before .before .before .if2 .left), sym (c .before .before .before .before .back .ensures) ∙ not-false _ (c .before .before .before .if3 .left), sym (c .before .before .back2 .ensures) ∙ not-false _ (c .before .if4 .left)) (c .housed .ensures)
 

@@ -1,48 +1,37 @@
-use mathlib.Core.Path.{_≡_, refl, sym, ap, _∙_}
-use Rattle.checks.proofs.Cut.{tail-long, less-rows, rest-long, take-none, take-step, cut-none, cut-step, rowed-first, rowed-rest, first-of, first-at, rowed-in}
-use Rattle.checks.proofs.OneRow.{live-is, live-long, numbers-no, numbers-more, row-in, row-out, lists-out}
-use Rattle.model.specs.State.{has, liveAt, none}
+-- `rows::lists` meets its contract. Assumes nothing.
+use mathlib.Core.Path.{sym, ap, _∙_}
+use Rattle.checks.proofs.Cut.{first-at, rowed-in}
+use Rattle.checks.proofs.OneRow.{row-in, lists-out}
+use Rattle.model.specs.State.{has}
 use native.Mathlib.Omega.{arith}
 use borrow.Author.Needs.{needs}
 use Rattle.checks.proofs.rows.lists.Statement.{statement}
 use Rattle.checks.proofs.rows.lists.Tie as tie
-use Rattle.checks.proofs.rows.lists.Reads as reads
-use Rattle.checks.proofs.rows.lists.Lts as lts
-use Rattle.checks.proofs.rows.row_has.Reads as row-has-reads
 
--- src/rows.rt:125:9
 returns : tie.Need-returns
 returns c = let b = c .before .before in let l = b .args .rows .now in let v = b .args .v in let n = b .args .n in let c′ = b .args .c in let R = b .pre .0 in lists-out v n l c′ (b .args .x) (c .if1 .taken)
 
--- src/rows.rt:127:29
 add-a : tie.Need-add-a
-add-a c = let b = c .before .before in let l = b .args .rows .now in let v = b .args .v in let n = b .args .n in let c′ = b .args .c in let R = b .pre .0 in let k = rowed-in R c′ (c .if1 .left) in omega (arith, b .pre .1)
+add-a c = let b = c .before .before in let c′ = b .args .c in let R = b .pre .0 in let k = rowed-in R c′ (c .if1 .left) in omega (arith, b .pre .1)
 
--- src/rows.rt:127:13
 mul-a : tie.Need-mul-a
-mul-a c = let b = c .before .before in let l = b .args .rows .now in let v = b .args .v in let n = b .args .n in let c′ = b .args .c in let R = b .pre .0 in let k = rowed-in R c′ (c .if1 .left) in omega (arith, b .pre .1)
+mul-a c = let b = c .before .before in let c′ = b .args .c in let R = b .pre .0 in let k = rowed-in R c′ (c .if1 .left) in omega (arith, b .pre .1)
 
--- src/rows.rt:128:13
 mul-row-has : tie.Need-mul-row-has
-mul-row-has c = let b = c .before .before in let l = b .args .rows .now in let v = b .args .v in let n = b .args .n in let c′ = b .args .c in let R = b .pre .0 in let k = rowed-in R c′ (c .if1 .left) in omega (arith, b .pre .1)
+mul-row-has c = let b = c .before .before in let c′ = b .args .c in let R = b .pre .0 in let k = rowed-in R c′ (c .if1 .left) in omega (arith, b .pre .1)
 
--- src/rows.rt:128:13
 sub-row-has : tie.Need-sub-row-has
-sub-row-has c = let b = c .before .before in let l = b .args .rows .now in let v = b .args .v in let n = b .args .n in let c′ = b .args .c in let R = b .pre .0 in let k = rowed-in R c′ (c .if1 .left) in omega (arith, b .pre .1)
+sub-row-has c = let b = c .before .before in let c′ = b .args .c in let R = b .pre .0 in let k = rowed-in R c′ (c .if1 .left) in omega (arith, b .pre .1)
 
--- src/rows.rt:128:13
 part-row-has-start : tie.Need-part-row-has-start
-part-row-has-start c = let b = c .before .before in let l = b .args .rows .now in let v = b .args .v in let n = b .args .n in let c′ = b .args .c in let R = b .pre .0 in let k = rowed-in R c′ (c .if1 .left) in omega (arith, b .pre .1)
+part-row-has-start c = let b = c .before .before in let c′ = b .args .c in let R = b .pre .0 in let k = rowed-in R c′ (c .if1 .left) in omega (arith, b .pre .1)
 
--- src/rows.rt:128:13
 part-row-has-end : tie.Need-part-row-has-end
 part-row-has-end c = search needs
 
--- src/rows.rt:128:5
 row-has-requires : tie.Need-row-has-requires
-row-has-requires c κs = let b = c .before .before .before in let l = b .args .rows .now in let v = b .args .v in let n = b .args .n in let c′ = b .args .c in let R = b .pre .0 in first-at R c′ (c .before .if1 .left)
+row-has-requires c κs = let b = c .before .before .before in let c′ = b .args .c in let R = b .pre .0 in first-at R c′ (c .before .if1 .left)
 
--- src/rows.rt:120:1
 returns-2 : tie.Need-returns-2
 returns-2 c = let b = c .before .before .before .before in let l = b .args .rows .now in let v = b .args .v in let n = b .args .n in let c′ = b .args .c in let R = b .pre .0 in c .row-has .ensures ∙ ap (λ r. has (b .args .x) (r .live)) (sym (row-in v n l c′ (c .before .before .if1 .left)))
 

@@ -1,58 +1,42 @@
-use mathlib.Core.Path.{_≡_, refl, sym, ap, _∙_}
-use borrow.Author.Tests.{lt-ltb, le-ltb, le-leb, lt-leb, eq-eqb, ne-eqb, not-true, not-false}
-use Rattle.checks.proofs.Cut.{tail-long, less-rows, rest-long, take-none, take-step, cut-none, cut-step, rowed-first, rowed-rest, first-of, first-at, rowed-in}
-use Rattle.checks.proofs.OneRow.{live-is, live-long, numbers-no, numbers-more, row-in, row-out, lists-out}
-use Rattle.model.specs.State.{has, liveAt, none}
+-- `rows::numbers` meets its contract. Assumes nothing.
+use borrow.Author.Tests.{not-true, not-false}
+use Rattle.checks.proofs.Cut.{tail-long}
+use Rattle.checks.proofs.OneRow.{numbers-no, numbers-more}
 use native.Mathlib.Omega.{arith}
 use borrow.Author.Needs.{needs}
 use Rattle.checks.proofs.rows.numbers.Statement.{statement}
 use Rattle.checks.proofs.rows.numbers.Tie as tie
-use Rattle.checks.proofs.rows.numbers.Reads as reads
-use Rattle.checks.proofs.rows.numbers.Lts as lts
-use Rattle.checks.proofs.rows.below.Reads as below-reads
-use Rattle.checks.proofs.rows.once.Reads as once-reads
 
--- src/rows.rt:73:13
 shared-slice-read-k : tie.Need-shared-slice-read-k
-shared-slice-read-k c = let b = c .before .before in let l = b .args .row .now in let v = b .args .v in let n = b .args .n in let f = b .pre in omega (arith, f .long)
+shared-slice-read-k c = let b = c .before .before in let f = b .pre in omega (arith, f .long)
 
--- src/rows.rt:74:15
 sub-below : tie.Need-sub-below
-sub-below c = let b = c .before .before in let l = b .args .row .now in let v = b .args .v in let n = b .args .n in let f = b .pre in omega (arith, f .long)
+sub-below c = let b = c .before .before in let f = b .pre in omega (arith, f .long)
 
--- src/rows.rt:74:15
 part-below-start : tie.Need-part-below-start
-part-below-start c = let b = c .before .before in let l = b .args .row .now in let v = b .args .v in let n = b .args .n in let f = b .pre in omega (arith, f .long)
+part-below-start c = let b = c .before .before in let f = b .pre in omega (arith, f .long)
 
--- src/rows.rt:74:15
 part-below-end : tie.Need-part-below-end
 part-below-end c = search needs
 
--- src/rows.rt:74:9
 below-requires : tie.Need-below-requires
-below-requires c κs = let b = c .before .before .before in let l = b .args .row .now in let v = b .args .v in let n = b .args .n in let f = b .pre in (let e = tail-long 1 l in omega (arith, f .long, f .count))
+below-requires c κs = let b = c .before .before .before in let l = b .args .row .now in let f = b .pre in (let e = tail-long 1 l in omega (arith, f .long, f .count))
 
--- src/rows.rt:75:9
 returns : tie.Need-returns
 returns c = let b = c .before .before .before .before .before in let l = b .args .row .now in let v = b .args .v in let n = b .args .n in let f = b .pre in numbers-no n v l f (c .before .below .ensures) (not-true _ (c .if1 .taken))
 
--- src/rows.rt:77:10
 sub-once : tie.Need-sub-once
-sub-once c = let b = c .before .before .before .before .before in let l = b .args .row .now in let v = b .args .v in let n = b .args .n in let f = b .pre in omega (arith, f .long)
+sub-once c = let b = c .before .before .before .before .before in let f = b .pre in omega (arith, f .long)
 
--- src/rows.rt:77:10
 part-once-start : tie.Need-part-once-start
-part-once-start c = let b = c .before .before .before .before .before in let l = b .args .row .now in let v = b .args .v in let n = b .args .n in let f = b .pre in omega (arith, f .long)
+part-once-start c = let b = c .before .before .before .before .before in let f = b .pre in omega (arith, f .long)
 
--- src/rows.rt:77:10
 part-once-end : tie.Need-part-once-end
 part-once-end c = search needs
 
--- src/rows.rt:77:5
 once-requires : tie.Need-once-requires
-once-requires c κs = let b = c .before .before .before .before .before .before in let l = b .args .row .now in let v = b .args .v in let n = b .args .n in let f = b .pre in (let e = tail-long 1 l in omega (arith, f .long, f .count))
+once-requires c κs = let b = c .before .before .before .before .before .before in let l = b .args .row .now in let f = b .pre in (let e = tail-long 1 l in omega (arith, f .long, f .count))
 
--- src/rows.rt:69:1
 returns-2 : tie.Need-returns-2
 returns-2 c = let b = c .before .before .before .before .before .before .before in let l = b .args .row .now in let v = b .args .v in let n = b .args .n in let f = b .pre in numbers-more n v l f (c .before .before .before .below .ensures) (not-false _ (c .before .before .if1 .left)) (c .once .ensures)
 

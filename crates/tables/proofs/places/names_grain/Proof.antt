@@ -1,7 +1,8 @@
 use mathlib.Core.Path.{_≡_, sym, ap, _∙_}
 use Rattle.model.specs.declared.Event.{Event}
 use Rattle.model.specs.Events.{names, eventOf}
-use Rattle.tables.proofs.Runs.{or-yes, or-no, event-rest}
+use Rattle.model.proofs.Places.{event-rest}
+use Rattle.tables.proofs.Runs.{or-yes, or-no}
 use native.Mathlib.Omega.{arith}
 use borrow.Author.Needs.{needs}
 use Rattle.tables.proofs.places.names_grain.Statement.{statement}
