@@ -18,7 +18,7 @@ use Rattle.model.specs.Grid.{cells}
 use Rattle.model.specs.Events.{zeroP}
 use Rattle.model.specs.State.{Row, zeroG}
 use Rattle.model.specs.Start.{empty, clear}
-use Rattle.model.proofs.Starts.{clear-sound}
+use Rattle.model.proofs.Cleared.{clear-sound}
 use Rattle.tables.specs.declared.Sizes.{Sizes}
 use Rattle.tables.specs.Layout.{places, grainReals, rowNums, placeNums, placeReals, queueNums, queueReals, orderBytes}
 use Rattle.tables.specs.Holds.{Rows, Listed, Grained, Queued, Holds}
