@@ -22,6 +22,8 @@ use event::move_out_of_cell;
 use event::move_to_neighbour;
 use event::wall_reflection;
 use libc::STDOUT_FILENO;
+use listing_text::bits_of_float;
+use listing_text::float_of_bits;
 use model::Domain;
 use model::Particle;
 use model::Place;
@@ -45,7 +47,7 @@ fn next() -> u64 {
 }
 
 fn vec(x: u64, y: u64) -> MyVec {
-    MyVec::new(words::float(x), words::float(y))
+    MyVec::new(float_of_bits(x), float_of_bits(y))
 }
 
 fn domain_of(w: &[u64; 20]) -> Domain {
@@ -58,7 +60,7 @@ fn grain_of(w: &[u64; 20], at: usize) -> Particle
 {
     let pos = vec(w[at], w[at + 1]);
     let vel = vec(w[at + 2], w[at + 3]);
-    Particle::new(pos, vel, words::float(w[4]), words::float(w[at + 4]))
+    Particle::new(pos, vel, float_of_bits(w[4]), float_of_bits(w[at + 4]))
 }
 
 // Whether the box's flags are 0 or 1.
@@ -100,7 +102,7 @@ fn wanted() -> Want {
 }
 
 fn same_vec(v: MyVec, x: u64, y: u64) -> bool {
-    words::bits(v.x) == x && words::bits(v.y) == y
+    bits_of_float(v.x) == x && bits_of_float(v.y) == y
 }
 
 fn same_numbers(s: Place, w: &[u64; 14]) -> bool {
@@ -108,11 +110,11 @@ fn same_numbers(s: Place, w: &[u64; 14]) -> bool {
 }
 
 fn same_floats(s: Place, w: &[u64; 14]) -> bool {
-    words::bits(s.time) == w[4]
+    bits_of_float(s.time) == w[4]
         && (same_vec(s.a, w[5], w[6])
             && (same_vec(s.b, w[7], w[8])
                 && (same_vec(s.c, w[9], w[10])
-                    && (same_vec(s.d, w[11], w[12]) && words::bits(s.val) == w[13]))))
+                    && (same_vec(s.d, w[11], w[12]) && bits_of_float(s.val) == w[13]))))
 }
 
 fn due_as_wanted(s: Place, want: Want) -> bool {
@@ -193,7 +195,7 @@ fn stepping_holds() -> bool {
         return false;
     }
     let domain = Domain::new(vec(w[0], w[1]), true, true);
-    let dt = words::float(w[6]);
+    let dt = float_of_bits(w[6]);
     same_vec(
         particle::get_new_pos(domain, vec(w[2], w[3]), vec(w[4], w[5]), dt),
         w[7],
@@ -272,8 +274,8 @@ fn cells_hold() -> bool {
         return false;
     }
     let grid = Grid::new(domain);
-    let x = particle::touched(domain.lengths.x, grid.n0, words::float(w[2]));
-    let y = particle::touched(domain.lengths.y, grid.n1, words::float(w[3]));
+    let x = particle::touched(domain.lengths.x, grid.n0, float_of_bits(w[2]));
+    let y = particle::touched(domain.lengths.y, grid.n1, float_of_bits(w[3]));
     if !small(x) {
         return false;
     }

@@ -1,14 +1,16 @@
 // Compares the square root with a second program's answers (tools/roots): a line of standard input has a float's bits and its root's,
 // a NaN's for a root that is refused. Writes how many were compared, and how many differ.
 ghost use Prim.Native.Nat.{_≤_};
+use listing_text::bits_of_float;
+use listing_text::float_of_bits;
 use root::Root;
 use words::Word;
 
 // Whether the square root of x's float has the bits y; it is refused where they are a NaN's.
 fn agrees(x: u64, y: u64) -> bool {
-    let r = root::square_root(words::float(x));
+    let r = root::square_root(float_of_bits(x));
     match r {
-        Root::Value(v) => v == v && words::bits(v) == y,
+        Root::Value(v) => v == v && bits_of_float(v) == y,
         Root::Refused => 9218868437227405312 < y % 9223372036854775808,
     }
 }

@@ -1,9 +1,8 @@
-// Words of 64 bits on standard input, each 16 upper-case hexadecimal digits and one byte behind them; floats by their bits; and the line that a comparison writes.
-ghost use mathlib.Core.Path.{_≡_};
+// Words of 64 bits on standard input, each 16 upper-case hexadecimal digits and one byte behind them; and the line that a comparison writes.
 ghost use Prim.Native.Nat.{_≤_};
-ghost use lib.Ieee.{binary64, ofBits, toBits};
 use libc::STDIN_FILENO;
 use libc::STDOUT_FILENO;
+use listing_text::hex_value;
 
 // What is read: a word, something that is none, or the end.
 pub enum Word {
@@ -12,31 +11,12 @@ pub enum Word {
     End,
 }
 
-// The value of a digit, 16 for any other byte.
-fn digit(b: u8) -> u64
-    ensures { λ r. ⌜ r ≤ 16 ⌝ }
-{
-    if b < b'0' {
-        return 16;
-    }
-    if b <= b'9' {
-        return b as u64 - 48;
-    }
-    if b < b'A' {
-        return 16;
-    }
-    if b <= b'F' {
-        return b as u64 - 55;
-    }
-    16
-}
-
 // The word that 16 digits spell.
 fn spelled(text: &[u8; 17]) -> Word {
     let mut bits = 0u64;
     for i in 0..16usize {
-        let d = digit(text[i]);
-        if d == 16 {
+        let d = hex_value(text[i]);
+        if d > 15 {
             return Word::Bad;
         }
         bits = bits % 1152921504606846976 * 16 + d;
@@ -69,26 +49,6 @@ pub fn fill(t: &mut [u64]) -> bool {
         i += 1;
     }
     true
-}
-
-// A pattern's float: a NaN for the pattern of any NaN.
-pub fn float(b: u64) -> f64
-    ensures { λ r. ⌜ r ≡ ofBits binary64 b ⌝ }
-{
-    if b % 9223372036854775808 <= 9218868437227405312 {
-        return f64::from_bits(b);
-    }
-    0.0 / 0.0
-}
-
-// A float's pattern: one and the same for any NaN.
-pub fn bits(x: f64) -> u64
-    ensures { λ r. ⌜ r ≡ toBits binary64 x ⌝ }
-{
-    if x != x {
-        return 9221120237041090560;
-    }
-    f64::to_bits(x)
 }
 
 // How much a comparison adds to those that differ.

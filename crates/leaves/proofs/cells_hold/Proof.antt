@@ -55,20 +55,20 @@ returns-4 c = search needs
 new-requires-2 : tie.Need-new-requires-2
 new-requires-2 c κs = search needs
 
-array-read-float : tie.Need-array-read-float
-array-read-float c = search needs
+array-read-float-of-bits : tie.Need-array-read-float-of-bits
+array-read-float-of-bits c = search needs
 
-float-requires : tie.Need-float-requires
-float-requires c κs = search needs
+float-of-bits-requires : tie.Need-float-of-bits-requires
+float-of-bits-requires c κs = search needs
 
 touched-requires : tie.Need-touched-requires
 touched-requires c κs = omega (arith, (narrow _ _ _ (c .before .before .before .box-ok .ensures) (c .before .before .if4 .left) (c .before .new2 .ensures)) .0)
 
-array-read-float-2 : tie.Need-array-read-float-2
-array-read-float-2 c = search needs
+array-read-float-of-bits-2 : tie.Need-array-read-float-of-bits-2
+array-read-float-of-bits-2 c = search needs
 
-float-requires-2 : tie.Need-float-requires-2
-float-requires-2 c κs = search needs
+float-of-bits-requires-2 : tie.Need-float-of-bits-requires-2
+float-of-bits-requires-2 c κs = search needs
 
 touched-requires-2 : tie.Need-touched-requires-2
 touched-requires-2 c κs = omega (arith, (narrow _ _ _ (c .before .before .before .before .before .box-ok .ensures) (c .before .before .before .before .if4 .left) (c .before .before .before .new2 .ensures)) .1)
@@ -111,11 +111,11 @@ cells-hold-spec =
     box-ok-requires
     returns-4
     new-requires-2
-    array-read-float
-    float-requires
+    array-read-float-of-bits
+    float-of-bits-requires
     touched-requires
-    array-read-float-2
-    float-requires-2
+    array-read-float-of-bits-2
+    float-of-bits-requires-2
     touched-requires-2
     small-requires
     returns-5

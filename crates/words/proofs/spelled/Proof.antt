@@ -13,11 +13,11 @@ abbrev μ-loop : tie.MeasureT-loop
 loop-holds : tie.Need-loop-holds Inv-loop μ-loop
 loop-holds c = search needs
 
-element-copy-out-digit : tie.Need-element-copy-out-digit Inv-loop μ-loop
-element-copy-out-digit c = search needs
+element-copy-out-hex-value : tie.Need-element-copy-out-hex-value Inv-loop μ-loop
+element-copy-out-hex-value c = search needs
 
-digit-requires : tie.Need-digit-requires Inv-loop μ-loop
-digit-requires c κs = search needs
+hex-value-requires : tie.Need-hex-value-requires Inv-loop μ-loop
+hex-value-requires c κs = search needs
 
 returns : tie.Need-returns Inv-loop μ-loop
 returns c = search needs
@@ -47,8 +47,8 @@ spelled-spec =
     Inv-loop
     μ-loop
     loop-holds
-    element-copy-out-digit
-    digit-requires
+    element-copy-out-hex-value
+    hex-value-requires
     returns
     mul-bits
     add-bits

@@ -1,0 +1,106 @@
+-- What the check's answer says: 0, that the tables hold a state whose facts stand. Assumes nothing.
+use mathlib.Core.Path.{_≡_, refl, sym, ap, _∙_, subst}
+use Prim.Native.Nat.{ℕ, zero, suc, _+_, _*_}
+use native.Mathlib.Omega.{arith}
+use mathlib.Core.List.{List, [], _∷_}
+use mathlib.Core.Bool.{Bool, true, false}
+use lib.Dec.{T, leb}
+use lib.ListN.{getD, take, drop}
+use lib.Seq.{getD-drop}
+use lib.Ieee.{Float, nan, binary64, fits}
+use borrow.Author.Tests.{leb-true, le-leb}
+use Rattle.halting.specs.Out.{pick}
+use Rattle.model.specs.declared.Place.{Place}
+use Rattle.model.specs.Sizes.{rated}
+use Rattle.model.specs.State.{none}
+use Rattle.model.specs.Standing.{All}
+use Rattle.model.specs.Check.{halt, Fitted}
+use Rattle.model.specs.Check as model
+use Rattle.model.proofs.Queue.{and-l, and-r}
+use Rattle.model.proofs.Stands.{stands}
+use Rattle.model.proofs.Reflect.{says-standing}
+use Rattle.checks.specs.Decode.{Tables, mark, sizesOf, decoded, cutBoth, grainAt, grainsPart, placesOf, queuesOf}
+use Rattle.checks.specs.Check.{sized, legible, standing, checked}
+use Rattle.checks.specs.Held.{Fits, Answered, Accepted}
+use Rattle.checks.proofs.Cut.{cut-long}
+use Rattle.checks.proofs.Same.{legible-means}
+use Rattle.checks.proofs.Stages.{sized-means}
+use Rattle.checks.proofs.Holding.{held}
+
+-- ---- times that are read are 64-bit floats
+fits-drop : (k : ℕ) (l : List Float) → Fits l → Fits (drop k l)
+fits-drop k l f i = subst (λ (x : Float). T (fits binary64 x)) (sym (getD-drop k l i nan)) (f (k + i))
+
+abbrev Timed : Place → Type 0
+Timed p = T (fits binary64 (p .time))
+
+places-timed : (n : ℕ) (q : List ℕ) (e : List Float) → Fits e → All Timed (placesOf n q e)
+unfolding cutBoth
+places-timed zero q e f = tt
+places-timed (suc n) q e f = (f 0, places-timed n (drop 4 q) (drop 10 e) (fits-drop 10 e f))
+
+all-take : (P : Place → Type 0) (k : ℕ) (ps : List Place) → All P ps → All P (take k ps)
+all-take P zero ps a = tt
+all-take P (suc k) [] a = tt
+all-take P (suc k) (p ∷ ps) a = (a .0, all-take P k ps (a .1))
+
+queues-timed : (room n : ℕ) (q : List ℕ) (e : List Float) (c : ℕ) → Fits e → All Timed ((getD (queuesOf room n q e) c none) .live)
+unfolding cutBoth
+queues-timed room zero q e c f = tt
+queues-timed room (suc n) q e zero f = all-take Timed (getD q 0 0) (placesOf room (drop 1 q) e) (places-timed room (drop 1 q) e f)
+queues-timed room (suc n) q e (suc c) f = queues-timed room n (drop (room * 4 + 1) q) (drop (room * 10) e) c (fits-drop (room * 10) e f)
+
+pub fitted : (t : Tables) → Fits (t .grains) → Fits (t .events) → Fitted (decoded t)
+fitted t f g = record { clock = f 2; times = λ c. queues-timed ((sizesOf (t .lists)) .room) ((sizesOf (t .lists)) .cells) (t .queue) (t .events) c g }
+
+-- ---- the answer 0
+halted : (m : ℕ) → halt m ≡ true → m ≡ 0 → ⊥
+halted m e z = let p = leb-true 5 m (and-l (leb 5 m) (leb m 9) e) in omega arith
+
+pub record Passed (rate : Float) (t : Tables) : Type 0 where
+  pub sizes : sized t ≡ true
+  pub unmarked : halt (mark (t .lists)) ≡ false
+  pub rate-in : rated rate ≡ true
+  pub stands : standing t ≡ true
+
+pub checked-means : (rate : Float) (t : Tables) → checked rate t ≡ 0 → Passed rate t
+unfolding checked
+checked-means rate t z = go (sized t) (halt (mark (t .lists))) (rated rate) (standing t) refl refl refl refl z
+  where
+    go : (a b c d : Bool) → sized t ≡ a → halt (mark (t .lists)) ≡ b → rated rate ≡ c → standing t ≡ d → _≡_ {A = ℕ} (pick a (pick b (mark (t .lists)) (pick c (pick d 0 10) 3)) 2) 0 → Passed rate t
+    go true false true true a b c d z = record { sizes = a; unmarked = b; rate-in = c; stands = d }
+    go true false true false a b c d z = absurd (omega arith)
+    go true false false d a b c d′ z = absurd (omega arith)
+    go true true c d a b c′ d′ z = absurd (halted (mark (t .lists)) b z)
+    go false b c d a b′ c′ d′ z = absurd (omega arith)
+
+both : (t : Tables) → standing t ≡ true → (legible t ≡ true) × (model.standing (decoded t) ≡ true)
+unfolding standing
+both t s = (and-l (legible t) (model.standing (decoded t)) s, and-r (legible t) (model.standing (decoded t)) s)
+
+-- A PASSED CHECK MEANS THAT THE TABLES HOLD A STATE WHOSE FACTS STAND
+pub accepted : (rate : Float) (t : Tables) (r : ℕ) → Answered rate t r → r ≡ 0 → Accepted t
+accepted rate t r A e = from (checked-means rate t (sym (A .is) ∙ e))
+  where
+    from : Passed rate t → Accepted t
+    from p =
+        let z = sizesOf (t .lists) in
+        let S = sized-means t (p .sizes) in
+        let b = both t (p .stands) in
+        let L = legible-means z (t .lists) (t .queue) (b .0) in
+        let f = fitted t (A .grains-fit) (A .events-fit) in
+        let F = stands (decoded t) f (says-standing (decoded t) f .means (b .1)) in
+        record { sized = S; hold = record { sizes = refl; mark-is = refl; flags = (L .flag0, L .flag1); box-is = refl; clock-is = refl; body = held z t S L F }; stands = F }
+
+-- tables that pass check 2 pass it as a state
+pub sized-model : (t : Tables) → sized t ≡ true → model.sized (decoded t) ≡ true
+sized-model t e =
+    let z = sizesOf (t .lists) in
+    let S = sized-means t e in
+    rw (
+      ap (λ (n : ℕ). leb n 256) (cut-long grainAt 6 (z .grains) (grainsPart (t .grains))) ∙ le-leb (z .grains) 256 (S .grains-most),
+      le-leb 16 (z .room) (S .room-least),
+      le-leb (z .room) 256 (S .room-most),
+      le-leb 9 (z .cells) (S .cells-least),
+      le-leb (z .cells) 256 (S .cells-most),
+    )

@@ -1,0 +1,78 @@
+-- Tables that hold a state whose facts stand pass the check again. Assumes nothing.
+use mathlib.Core.Path.{_≡_, refl, sym, ap, _∙_, subst}
+use Prim.Native.Nat.{ℕ, zero, suc, _+_, _*_, _≤_, _<_}
+use native.Mathlib.Nat.{suc-ne-zero}
+use native.Mathlib.Decide.{decLt}
+use native.Mathlib.Omega.{arith}
+use mathlib.Core.List.{List, [], _∷_, _++_, append-assoc}
+use mathlib.Core.Bool.{Bool, true, false, _&&_}
+use lib.Dec.{T}
+use lib.ListN.{length, getD, drop, length-append, List·getD-eq-default}
+use lib.Seq.{drop-at}
+use lib.Ieee.{Float, binary64, fits}
+use borrow.Author.Tests.{le-leb, lt-leb}
+use Rattle.chunks.specs.Flat.{flat, Every}
+use Rattle.model.specs.declared.Place.{Place}
+use Rattle.model.specs.Grid.{cells}
+use Rattle.model.specs.Sizes.{rated}
+use Rattle.model.specs.State.{Row, none, State, queue, listed}
+use Rattle.model.specs.Sound.{Stands}
+use Rattle.model.proofs.Stands.{standing as facts, sound-fitted}
+use Rattle.model.specs.Check.{halt, Fitted}
+use Rattle.model.specs.Check as model
+use Rattle.model.proofs.Reflect.{says-standing}
+use Rattle.tables.specs.declared.Sizes.{Sizes}
+use Rattle.tables.specs.Layout.{places, rowNums, queueNums}
+use Rattle.tables.specs.Holds.{Rows, Good}
+use Rattle.checks.specs.Decode.{Tables, mark, decoded}
+use Rattle.checks.specs.Check.{Sized, counted, legible, legibleBy, standing, checked, queueNeed}
+use Rattle.checks.specs.Held.{Hold}
+use Rattle.checks.proofs.Back.{row-wide, long-nums, lists-cut, members-cut, queue-cut, read-back}
+use Rattle.checks.proofs.Stages.{means-sized, check-0}
+
+-- ---- counts of rows that are written are within their room
+module _ {A : Type 0} (enc : A → List ℕ) (v w : ℕ) (P : A → Type 0) (long : (x : A) → P x → length (enc x) ≡ w) (few : (x : A) (y : List ℕ) → P x → getD (enc x ++ y) 0 0 ≤ v) where
+  counted-flat : (n : ℕ) (xs : List A) (y : List ℕ) → length xs ≡ n → Every P xs → counted v w n (flat enc xs ++ y) ≡ true
+  unfolding counted
+  counted-flat zero xs y e f = refl
+  counted-flat (suc n) [] y e f = absurd (suc-ne-zero n (sym e))
+  counted-flat (suc n) (x ∷ xs) y e f =
+      ap (counted v w (suc n)) (append-assoc (enc x) (flat enc xs) y)
+      ∙ ap (λ (b : Bool). b && counted v w n (drop w (enc x ++ (flat enc xs ++ y)))) (le-leb _ v (few x (flat enc xs ++ y) (f .0)))
+      ∙ ap (counted v w n) (drop-at (enc x) (flat enc xs ++ y) w (long x (f .0))) ∙ counted-flat n xs y (omega arith) (f .1)
+
+live-few : {A : Type 0} (r : Row A) {k : ℕ} → length (places r) ≡ k → length (r .live) ≤ k
+live-few r e = let a = length-append (r .live) (r .spare) in omega arith
+
+rows-counted : (k : ℕ) {m n : ℕ} (rs : List (Row ℕ)) (y : List ℕ) → Rows m k n rs → counted k (k + 1) m (flat rowNums rs ++ y) ≡ true
+rows-counted k {m = m} rs y R =
+    counted-flat rowNums k (k + 1) (λ (r : Row ℕ). length (rowNums r) ≡ k + 1) (λ r p. p) (λ r y p. live-few r (omega arith)) m rs y (R .many) (row-wide k rs (R .wide))
+
+module _ (z : Sizes) (t : Tables) (s : State) (H : Hold z t s) where
+  legible-held : legibleBy z (t .lists) (t .queue) ≡ true
+  legible-held =
+      let room = z .room in
+      rw (
+        le-leb (getD (t .lists) 4 0) 1 (H .flags .0),
+        le-leb (getD (t .lists) 5 0) 1 (H .flags .1),
+        ap (counted 8 9 (z .grains)) (lists-cut z t s H) ∙ rows-counted 8 (s .homes) _ (H .body .listed .homes),
+        ap (counted 32 33 (z .cells)) (members-cut z t s H) ∙ rows-counted 32 (s .members) _ (H .body .listed .members),
+        ap (counted room (room * 4 + 1) (z .cells)) (queue-cut z t s H)
+            ∙ counted-flat queueNums room (room * 4 + 1) (Good room) (λ r g. long-nums room r (g .full)) (λ r y g. live-few r (g .full)) (z .cells) (s .queues) (drop (queueNeed z) (t .queue)) (H .body .queued .tables .many) (H .body .queued .tables .good),
+      )
+
+  standing-held : Stands s → standing t ≡ true
+  unfolding standing
+  standing-held F =
+      let a : legible t ≡ true = ap (λ (y : Sizes). legibleBy y (t .lists) (t .queue)) (sym (H .sizes)) ∙ legible-held in
+      let b : model.standing (decoded t) ≡ true = ap model.standing (read-back z t s H) ∙ says-standing s (sound-fitted s (F .sound)) .holds (facts s F) in
+      rw (a, b)
+
+  -- THEY PASS AGAIN
+  pub passes : Sized z t → Stands s → (rate : Float) → rated rate ≡ true → checked rate t ≡ 0
+  passes S F rate r =
+      let m : mark (t .lists) ≡ 0 = H .mark-is ∙ F .free in
+      sym (check-0 rate t (means-sized t (subst (λ (y : Sizes). Sized y t) (H .sizes) S)) (ap halt m ∙ unmarked) r (standing-held F))
+    where
+      unmarked : halt 0 ≡ false
+      unmarked = rw (lt-leb 5 0 (omega arith))

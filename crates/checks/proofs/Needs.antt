@@ -1,0 +1,17 @@
+-- 01: "no table needs more than 32 numbers for each grain, cell, list place and event place that the counts give, and 1,024 besides". Assumes nothing.
+use mathlib.Core.Path.{_≡_, sym, ap, _∙_}
+use Prim.Native.Nat.{ℕ, _+_, _*_, _≤_}
+use native.Mathlib.Nat.{mul-add, mul-assoc, mul-one}
+use native.Mathlib.Omega.{arith}
+use Rattle.tables.specs.declared.Sizes.{Sizes}
+use Rattle.checks.specs.Check.{listsNeed, grainsNeed, queueNeed, eventsNeed, orderNeed}
+
+-- grains, cells, list places and event places
+abbrev pub allowed : Sizes → ℕ
+allowed z = 32 * (z .grains + z .cells + (z .grains * 8 + z .cells * 32) + z .cells * z .room) + 1024
+
+pub needs-most : (z : Sizes) → (listsNeed z ≤ allowed z) × (grainsNeed z ≤ allowed z) × (queueNeed z ≤ allowed z) × (eventsNeed z ≤ allowed z) × (orderNeed ≤ allowed z)
+needs-most z =
+    let q : queueNeed z ≡ z .cells * z .room * 4 + z .cells = mul-add (z .cells) (z .room * 4) 1 ∙ ap (λ (k : ℕ). k + z .cells * 1) (sym (mul-assoc (z .cells) (z .room) 4)) ∙ ap (λ (k : ℕ). z .cells * z .room * 4 + k) (mul-one (z .cells)) in
+    let e : eventsNeed z ≡ z .cells * z .room * 10 = sym (mul-assoc (z .cells) (z .room) 10) in
+    (omega arith, omega arith, omega arith, omega arith, omega arith)

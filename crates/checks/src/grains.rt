@@ -1,0 +1,25 @@
+// Tests of the grains: six floats each.
+ghost use mathlib.Core.Path.{_≡_};
+ghost use Prim.Native.Nat.{_*_, _≤_};
+ghost use lib.ListN.{length};
+ghost use Rattle.model.specs.Check.{all};
+ghost use Rattle.checks.specs.Decode.{grainsOf};
+ghost use Rattle.checks.specs.Parts.{grainOk};
+use crate::floats;
+
+// Are the numbers of n grains finite, and their times at most t?
+pub fn settled(reals: &[f64], n: usize, t: f64) -> bool
+    requires { ⌜ n * 6 ≤ length (now reals) ⌝ }
+    ensures { λ r. ⌜ r ≡ all (grainOk t) (grainsOf n (now (reals .entry))) ⌝ }
+{
+    if n == 0 {
+        return true;
+    }
+    if !floats::all_finite(reals, 6) {
+        return false;
+    }
+    if reals[4] <= t {
+        return settled(&reals[6..], n - 1, t);
+    }
+    false
+}

@@ -1,0 +1,230 @@
+// What a run tests before it does anything, over the lent tables: 2, the halt mark, 3, 10.
+ghost use mathlib.Core.Path.{_≡_};
+ghost use Prim.Native.Nat.{_+_, _*_, _≤_};
+ghost use lib.ListN.{length};
+ghost use Rattle.model.specs.Sizes.{rated};
+ghost use Rattle.model.specs.Check.{halt};
+ghost use Rattle.checks.specs.Decode.{tables, rowsOf};
+ghost use Rattle.checks.specs.Check.{long, sizedBy, Sized, legibleBy, standing, listsNeed, grainsNeed, queueNeed};
+ghost use Rattle.checks.specs.Held.{Answered};
+ghost use Rattle.checks.specs.Walk.{Rowed};
+ghost use Rattle.checks.specs.Parts.{settled, queued, heaped};
+use tables::Sizes;
+
+mod domain;
+mod floats;
+mod grains;
+mod heap;
+mod places;
+mod rows;
+
+// Check 2: are the counts in range, and the tables as long as they need?
+pub fn sized(lists: &[u64], grains: usize, queue: usize, events: usize, order: usize) -> bool
+    ensures { λ r. ⌜ r ≡ sizedBy (now (lists .entry)) grains queue events order ⌝ }
+{
+    if lists.len() < 6 {
+        return false;
+    }
+    if 256 < lists[1] {
+        return false;
+    }
+    if lists[2] < 9 {
+        return false;
+    }
+    if 256 < lists[2] {
+        return false;
+    }
+    if lists[3] < 16 {
+        return false;
+    }
+    if 256 < lists[3] {
+        return false;
+    }
+    let z = Sizes {
+        grains: lists[1] as usize,
+        cells: lists[2] as usize,
+        room: lists[3] as usize,
+    };
+    long(z, lists.len(), grains, queue, events, order)
+}
+
+// Are the tables as long as these counts need?
+pub fn long(
+    z: Sizes,
+    lists: usize,
+    grains: usize,
+    queue: usize,
+    events: usize,
+    order: usize,
+) -> bool
+    requires { ⌜ (z .grains ≤ 256) × (z .cells ≤ 256) × (z .room ≤ 256) ⌝ }
+    ensures { λ r. ⌜ r ≡ long z lists grains queue events order ⌝ }
+{
+    let g = z.grains;
+    let n = z.cells;
+    let room = z.room;
+    if lists < 6 + g * 9 + n * 33 {
+        return false;
+    }
+    if grains < 3 + g * 6 {
+        return false;
+    }
+    if queue < n * (room * 4 + 1) {
+        return false;
+    }
+    if events < n * (room * 10) {
+        return false;
+    }
+    512 <= order
+}
+
+// The marks that an earlier halt left.
+pub fn halt(mark: u64) -> bool
+    ensures { λ r. ⌜ r ≡ halt mark ⌝ }
+{
+    if mark < 5 {
+        return false;
+    }
+    mark <= 9
+}
+
+// Check 3: is the sync rate in range?
+pub fn rated(rate: f64) -> bool
+    ensures { λ r. ⌜ r ≡ rated rate ⌝ }
+{
+    cell::within(0.00000095367431640625, 1048576.0, rate)
+}
+
+// Are the flags 0 or 1, and is every list count within its room?
+fn legible(lists: &[u64], queue: &[u64], z: Sizes) -> bool
+    requires { ⌜ (listsNeed z ≤ length (now lists)) × (queueNeed z ≤ length (now queue)) × (z .grains ≤ 256) × (z .cells ≤ 256) × (z .room ≤ 256) ⌝ }
+    ensures { λ r. ⌜ r ≡ legibleBy z (now (lists .entry)) (now (queue .entry)) ⌝ }
+{
+    if 1 < lists[4] {
+        return false;
+    }
+    if 1 < lists[5] {
+        return false;
+    }
+    let g = z.grains;
+    let n = z.cells;
+    let room = z.room;
+    if !rows::counted(&lists[6..], 8, 9, g) {
+        return false;
+    }
+    let a = 6 + g * 9;
+    if !rows::counted(&lists[a..], 32, 33, n) {
+        return false;
+    }
+    let w = room * 4 + 1;
+    rows::counted(queue, room, w, n)
+}
+
+// The headers and the grains: no mark, a finite clock, a box in range with these cells, and grains that are finite and not past the clock.
+fn settled(lists: &[u64], grains: &[f64], z: Sizes) -> bool
+    requires { ⌜ (6 ≤ length (now lists)) × (grainsNeed z ≤ length (now grains)) ⌝ }
+    ensures { λ r. ⌜ r ≡ settled z (now (lists .entry)) (now (grains .entry)) ⌝ }
+{
+    if lists[0] != 0 {
+        return false;
+    }
+    let clock = grains[2];
+    if !particle::is_finite(clock) {
+        return false;
+    }
+    if !domain::boxed(grains[0], grains[1], z.cells) {
+        return false;
+    }
+    grains::settled(&grains[3..], z.grains, clock)
+}
+
+// The queues: each as it should be, and one synchronisation in cell 0's.
+fn queued(queue: &[u64], events: &[f64], members: &[u64], z: Sizes, clock: f64) -> bool
+    requires { ⌜ Rowed (z .room) (z .room * 4 + 1) (z .cells) (now queue) × (z .cells * (z .room * 10) ≤ length (now events)) × (z .room ≤ 256) × Rowed 32 33 (z .cells) (now members) × (z .cells ≤ 256) × (9 ≤ z .cells) ⌝ }
+    ensures { λ r. ⌜ r ≡ queued z clock (now (queue .entry)) (now (events .entry)) (rowsOf 32 (z .cells) (now (members .entry))) ⌝ }
+{
+    let n = z.cells;
+    let room = z.room;
+    if !places::queues_ok(queue, events, room, n, members, n, 0, clock) {
+        return false;
+    }
+    let k = queue[0] as usize;
+    places::syncs(&queue[1..], k) == 1
+}
+
+// The heap: inverse to its lookups on the cells, and in order.
+fn heaped(order: &[u8], queue: &[u64], events: &[f64], z: Sizes) -> bool
+    requires { ⌜ (512 ≤ length (now order)) × (z .room ≤ 256) × (z .cells ≤ 256) ⌝ }
+    ensures { λ r. ⌜ r ≡ heaped z (now (order .entry)) (now (queue .entry)) (now (events .entry)) ⌝ }
+{
+    let n = z.cells;
+    if !heap::inverse(&order[..256], &order[256..512], n) {
+        return false;
+    }
+    if !heap::inverse(&order[256..512], &order[..256], n) {
+        return false;
+    }
+    heap::ordered(&order[..256], queue, events, z.room, n)
+}
+
+// Check 10: do the standing facts hold?
+pub fn standing(
+    lists: &[u64],
+    grains: &[f64],
+    queue: &[u64],
+    events: &[f64],
+    order: &[u8],
+    z: Sizes,
+) -> bool
+    requires { ⌜ Sized z (tables (now lists) (now grains) (now queue) (now events) (now order)) ⌝ }
+    ensures { λ r. ⌜ r ≡ standing (tables (now (lists .entry)) (now (grains .entry)) (now (queue .entry)) (now (events .entry)) (now (order .entry))) ⌝ }
+{
+    if !legible(lists, queue, z) {
+        return false;
+    }
+    if !settled(lists, grains, z) {
+        return false;
+    }
+    let a = 6 + z.grains * 9;
+    if !rows::linked(&lists[6..], &lists[a..], z.grains, z.cells) {
+        return false;
+    }
+    if !queued(queue, events, &lists[a..], z, grains[2]) {
+        return false;
+    }
+    heaped(order, queue, events, z)
+}
+
+// What refuses a run: 2, the mark of an earlier halt, 3 or 10; 0 for nothing.
+pub fn check(
+    lists: &[u64],
+    grains: &[f64],
+    queue: &[u64],
+    events: &[f64],
+    order: &[u8],
+    rate: f64,
+) -> u64
+    ensures { λ r. ⌜ Answered rate (tables (now (lists .entry)) (now (grains .entry)) (now (queue .entry)) (now (events .entry)) (now (order .entry))) r ⌝ }
+{
+    floats::known(grains);
+    floats::known(events);
+    if !sized(lists, grains.len(), queue.len(), events.len(), order.len()) {
+        return 2;
+    }
+    let mark = lists[0];
+    if halt(mark) {
+        return mark;
+    }
+    if !rated(rate) {
+        return 3;
+    }
+    let z = Sizes {
+        grains: lists[1] as usize,
+        cells: lists[2] as usize,
+        room: lists[3] as usize,
+    };
+    if !standing(lists, grains, queue, events, order, z) {
+        return 10;
+    }
+    0
+}

@@ -1,0 +1,178 @@
+// Tests of rows of events: a count and then places of four numbers in one table, ten floats a place in another.
+ghost use mathlib.Core.Path.{_≡_};
+ghost use Prim.Native.Nat.{ℕ, _+_, _*_, _≤_};
+ghost use mathlib.Core.List.{List};
+ghost use lib.ListN.{length, getD, take};
+ghost use lib.Ieee.{Float};
+ghost use Rattle.model.specs.Events.{eventOf, finePlace};
+ghost use Rattle.model.specs.State.{liveAt};
+ghost use Rattle.model.specs.Standing.{syncs};
+ghost use Rattle.model.specs.Check.{all, rising, named, held, queueOk};
+ghost use Rattle.checks.specs.Decode.{rowAt, rowsOf, placeAt, placesOf, queueAt, queuesOf};
+ghost use Rattle.checks.specs.Walk.{First, Rowed, walk};
+use crate::floats;
+use crate::rows;
+
+// Are the times of the first k places in order, from t on?
+fn rising(reals: &[f64], k: usize, t: f64) -> bool
+    requires { ⌜ k * 10 ≤ length (now reals) ⌝ }
+    ensures { λ r. ⌜ ((q : List ℕ) → r ≡ rising t (placesOf k q (now (reals .entry)))) ⌝ }
+{
+    if k == 0 {
+        return true;
+    }
+    let u = reals[0];
+    if t <= u {
+        return rising(&reals[10..], k - 1, u);
+    }
+    false
+}
+
+// The first place: are its floats finite, and its time below f64::MAX?
+fn fine_place(reals: &[f64]) -> bool
+    requires { ⌜ 10 ≤ length (now reals) ⌝ }
+    ensures { λ r. ⌜ ((q : List ℕ) → r ≡ finePlace (placeAt q (now (reals .entry)))) ⌝ }
+{
+    if !floats::all_finite(reals, 10) {
+        return false;
+    }
+    reals[0] < 1.7976931348623157e308
+}
+
+// The first place, of cell c of n, which lists the first k of `members`: does its event name only grains and cells that it may?
+fn named(nums: &[u64], members: &[u64], k: usize, n: u64, c: u64) -> bool
+    requires { ⌜ (4 ≤ length (now nums)) × (k ≤ length (now members)) ⌝ }
+    ensures { λ r. ⌜ ((e : List Float) → r ≡ named n c (take k (now (members .entry))) (eventOf (getD (now (nums .entry)) 0 0) (placeAt (now (nums .entry)) e))) ⌝ }
+{
+    let kind = nums[0];
+    if kind < 1 {
+        return c == 0;
+    }
+    if 4 < kind {
+        return c == 0;
+    }
+    let p = nums[1];
+    if !rows::has(members, k, p) {
+        return false;
+    }
+    if kind == 1 {
+        let q = nums[2];
+        if !rows::has(members, k, q) {
+            return false;
+        }
+        return p != q;
+    }
+    if kind == 2 {
+        return nums[3] < n;
+    }
+    if kind == 3 {
+        return nums[3] == c;
+    }
+    true
+}
+
+// The first place: its kind is one, its floats are fine, and it names what it may.
+fn held(nums: &[u64], reals: &[f64], members: &[u64], k: usize, n: u64, c: u64) -> bool
+    requires { ⌜ (4 ≤ length (now nums)) × (10 ≤ length (now reals)) × (k ≤ length (now members)) ⌝ }
+    ensures { λ r. ⌜ r ≡ held n c (take k (now (members .entry))) (placeAt (now (nums .entry)) (now (reals .entry))) ⌝ }
+{
+    let kind = nums[0];
+    if kind < 1 {
+        return false;
+    }
+    if 5 < kind {
+        return false;
+    }
+    if !fine_place(reals) {
+        return false;
+    }
+    named(nums, members, k, n, c)
+}
+
+// The same for each of the first j places.
+fn all_held(
+    nums: &[u64],
+    reals: &[f64],
+    j: usize,
+    members: &[u64],
+    k: usize,
+    n: u64,
+    c: u64,
+) -> bool
+    requires { ⌜ (j * 4 ≤ length (now nums)) × (j * 10 ≤ length (now reals)) × (k ≤ length (now members)) ⌝ }
+    ensures { λ r. ⌜ r ≡ all (held n c (take k (now (members .entry)))) (placesOf j (now (nums .entry)) (now (reals .entry))) ⌝ }
+{
+    if j == 0 {
+        return true;
+    }
+    if !held(nums, reals, members, k, n, c) {
+        return false;
+    }
+    all_held(&nums[4..], &reals[10..], j - 1, members, k, n, c)
+}
+
+// The first row, of cell c of n, whose grains are the first row of `members`: in time order from t on, and each event held.
+fn queue_ok(
+    queue: &[u64],
+    events: &[f64],
+    room: usize,
+    members: &[u64],
+    n: u64,
+    c: u64,
+    t: f64,
+) -> bool
+    requires { ⌜ (getD (now queue) 0 0 ≤ room) × (room * 4 + 1 ≤ length (now queue)) × (room * 10 ≤ length (now events)) × First 32 (now members) ⌝ }
+    ensures { λ r. ⌜ r ≡ queueOk t room n c ((rowAt 32 (now (members .entry))) .live) (queueAt room (now (queue .entry)) (now (events .entry))) ⌝ }
+{
+    let j = queue[0] as usize;
+    if !rising(events, j, t) {
+        return false;
+    }
+    let k = members[0] as usize;
+    all_held(&queue[1..], events, j, &members[1..], k, n, c)
+}
+
+// The same for each of m rows, the first of which is cell c's.
+pub fn queues_ok(
+    queue: &[u64],
+    events: &[f64],
+    room: usize,
+    m: usize,
+    members: &[u64],
+    n: usize,
+    c: usize,
+    t: f64,
+) -> bool
+    requires { ⌜ Rowed room (room * 4 + 1) m (now queue) × (m * (room * 10) ≤ length (now events)) × (room ≤ 256) × Rowed 32 33 n (now members) × (n ≤ 256) × (c + m ≡ n) ⌝ }
+    ensures { λ r. ⌜ r ≡ walk (λ i q. queueOk t room n i (liveAt (rowsOf 32 n (now (members .entry))) i) q) c (queuesOf room m (now (queue .entry)) (now (events .entry))) ⌝ }
+{
+    if m == 0 {
+        return true;
+    }
+    let a = c * 33;
+    if !queue_ok(queue, events, room, &members[a..], n as u64, c as u64, t) {
+        return false;
+    }
+    let w = room * 4 + 1;
+    let v = room * 10;
+    queues_ok(&queue[w..], &events[v..], room, m - 1, members, n, c + 1, t)
+}
+
+// Synchronisations among the first k places.
+pub fn syncs(nums: &[u64], k: usize) -> usize
+    requires { ⌜ k * 4 ≤ length (now nums) ⌝ }
+    ensures { λ r. ⌜ ((e : List Float) → r ≡ syncs (placesOf k (now (nums .entry)) e)) ⌝ }
+{
+    if k == 0 {
+        return 0;
+    }
+    let kind = nums[0];
+    let others = syncs(&nums[4..], k - 1);
+    if kind < 1 {
+        return 1 + others;
+    }
+    if 4 < kind {
+        return 1 + others;
+    }
+    others
+}

@@ -1,0 +1,179 @@
+// Tests of rows of numbers, each a count and then its places, one row after another.
+ghost use mathlib.Core.Path.{_≡_};
+ghost use Prim.Native.Nat.{_+_, _*_, _≤_};
+ghost use lib.Dec.{ltb};
+ghost use lib.ListN.{length, take};
+ghost use Rattle.model.specs.State.{has, liveAt};
+ghost use Rattle.model.specs.Check.{all, once, numbers};
+ghost use Rattle.checks.specs.Decode.{rowAt, rowsOf};
+ghost use Rattle.checks.specs.Check.{counted};
+ghost use Rattle.checks.specs.Walk.{First, Rowed, walk, backRow, housed, linked};
+
+// Is x one of the first k numbers?
+pub fn has(nums: &[u64], k: usize, x: u64) -> bool
+    requires { ⌜ k ≤ length (now nums) ⌝ }
+    ensures { λ r. ⌜ r ≡ has x (take k (now (nums .entry))) ⌝ }
+{
+    if k == 0 {
+        return false;
+    }
+    if x == nums[0] {
+        return true;
+    }
+    has(&nums[1..], k - 1, x)
+}
+
+// Is each of them below n?
+fn below(nums: &[u64], k: usize, n: u64) -> bool
+    requires { ⌜ k ≤ length (now nums) ⌝ }
+    ensures { λ r. ⌜ r ≡ all (λ x. ltb x n) (take k (now (nums .entry))) ⌝ }
+{
+    if k == 0 {
+        return true;
+    }
+    if n <= nums[0] {
+        return false;
+    }
+    below(&nums[1..], k - 1, n)
+}
+
+// Does none of them come twice?
+fn once(nums: &[u64], k: usize) -> bool
+    requires { ⌜ k ≤ length (now nums) ⌝ }
+    ensures { λ r. ⌜ r ≡ once (take k (now (nums .entry))) ⌝ }
+{
+    if k == 0 {
+        return true;
+    }
+    if has(&nums[1..], k - 1, nums[0]) {
+        return false;
+    }
+    once(&nums[1..], k - 1)
+}
+
+// Is each count of n rows, which are w wide, at most v?
+pub fn counted(rows: &[u64], v: usize, w: usize, n: usize) -> bool
+    requires { ⌜ (1 ≤ w) × (n * w ≤ length (now rows)) ⌝ }
+    ensures { λ r. ⌜ r ≡ counted v w n (now (rows .entry)) ⌝ }
+{
+    if n == 0 {
+        return true;
+    }
+    if (v as u64) < rows[0] {
+        return false;
+    }
+    counted(&rows[w..], v, w, n - 1)
+}
+
+// The first row: are its numbers below n, and once each?
+fn numbers(row: &[u64], v: usize, n: u64) -> bool
+    requires { ⌜ First v (now row) ⌝ }
+    ensures { λ r. ⌜ r ≡ numbers n v (rowAt v (now (row .entry))) ⌝ }
+{
+    let k = row[0] as usize;
+    if !below(&row[1..], k, n) {
+        return false;
+    }
+    once(&row[1..], k)
+}
+
+// The same for each of m rows.
+fn side(rows: &[u64], v: usize, m: usize, n: u64) -> bool
+    requires { ⌜ Rowed v (v + 1) m (now rows) × (v ≤ 256) ⌝ }
+    ensures { λ r. ⌜ r ≡ all (numbers n v) (rowsOf v m (now (rows .entry))) ⌝ }
+{
+    if m == 0 {
+        return true;
+    }
+    if !numbers(rows, v, n) {
+        return false;
+    }
+    let w = v + 1;
+    side(&rows[w..], v, m - 1, n)
+}
+
+// Does each of m rows list some?
+fn housed(rows: &[u64], v: usize, m: usize) -> bool
+    requires { ⌜ Rowed v (v + 1) m (now rows) × (v ≤ 256) ⌝ }
+    ensures { λ r. ⌜ r ≡ all housed (rowsOf v m (now (rows .entry))) ⌝ }
+{
+    if m == 0 {
+        return true;
+    }
+    if rows[0] < 1 {
+        return false;
+    }
+    let w = v + 1;
+    housed(&rows[w..], v, m - 1)
+}
+
+// Does the first row list x?
+fn row_has(row: &[u64], v: usize, x: u64) -> bool
+    requires { ⌜ First v (now row) ⌝ }
+    ensures { λ r. ⌜ r ≡ has x ((rowAt v (now (row .entry))) .live) ⌝ }
+{
+    let k = row[0] as usize;
+    has(&row[1..], k, x)
+}
+
+// Does row c of n list x?
+fn lists(rows: &[u64], v: usize, n: usize, c: u64, x: u64) -> bool
+    requires { ⌜ Rowed v (v + 1) n (now rows) × (v ≤ 256) × (n ≤ 256) ⌝ }
+    ensures { λ r. ⌜ r ≡ has x (liveAt (rowsOf v n (now (rows .entry))) c) ⌝ }
+{
+    if n as u64 <= c {
+        return false;
+    }
+    let a = (c as usize) * (v + 1);
+    row_has(&rows[a..], v, x)
+}
+
+// Do the rows that the first k numbers name list x?
+fn listed_by(nums: &[u64], k: usize, others: &[u64], v: usize, n: usize, x: u64) -> bool
+    requires { ⌜ (k ≤ length (now nums)) × Rowed v (v + 1) n (now others) × (v ≤ 256) × (n ≤ 256) ⌝ }
+    ensures { λ r. ⌜ r ≡ all (λ c. has x (liveAt (rowsOf v n (now (others .entry))) c)) (take k (now (nums .entry))) ⌝ }
+{
+    if k == 0 {
+        return true;
+    }
+    if !lists(others, v, n, nums[0], x) {
+        return false;
+    }
+    listed_by(&nums[1..], k - 1, others, v, n, x)
+}
+
+// Of m rows, the first of which is row x: does each that a row lists, list that row?
+fn back(rows: &[u64], u: usize, m: usize, others: &[u64], v: usize, n: usize, x: u64) -> bool
+    requires { ⌜ Rowed u (u + 1) m (now rows) × (u ≤ 256) × Rowed v (v + 1) n (now others) × (v ≤ 256) × (n ≤ 256) × (x + m ≤ 256) ⌝ }
+    ensures { λ r. ⌜ r ≡ walk (backRow (rowsOf v n (now (others .entry)))) x (rowsOf u m (now (rows .entry))) ⌝ }
+{
+    if m == 0 {
+        return true;
+    }
+    let k = rows[0] as usize;
+    if !listed_by(&rows[1..], k, others, v, n, x) {
+        return false;
+    }
+    let w = u + 1;
+    back(&rows[w..], u, m - 1, others, v, n, x + 1)
+}
+
+// Do g grains and n cells list each other, once each, and is each grain in some cell?
+pub fn linked(homes: &[u64], members: &[u64], g: usize, n: usize) -> bool
+    requires { ⌜ Rowed 8 9 g (now homes) × Rowed 32 33 n (now members) × (g ≤ 256) × (n ≤ 256) ⌝ }
+    ensures { λ r. ⌜ r ≡ linked g n (rowsOf 8 g (now (homes .entry))) (rowsOf 32 n (now (members .entry))) ⌝ }
+{
+    if !side(homes, 8, g, n as u64) {
+        return false;
+    }
+    if !side(members, 32, n, g as u64) {
+        return false;
+    }
+    if !back(homes, 8, g, members, 32, n, 0) {
+        return false;
+    }
+    if !back(members, 32, n, homes, 8, g, 0) {
+        return false;
+    }
+    housed(homes, 8, g)
+}

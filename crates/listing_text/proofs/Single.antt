@@ -1,0 +1,145 @@
+-- One text stands for one input (`one-input`), and one input has one text but for its last CR LF (`one-text`);
+-- so a text of 2 ^ 64 grains or more is not accepted (`uncounted-refused`). Assumes nothing.
+use mathlib.Core.Path.{_≡_, refl, sym, ap, _∙_, subst}
+use mathlib.Core.Logic.{_⊎_, inl, inr}
+use mathlib.Core.List.{List, [], _∷_, _++_, append-assoc, append-nil, append-cancel-right}
+use mathlib.Core.Bool.{Bool, true, false, cond}
+use Prim.Native.Nat.{ℕ, _+_, _/_, _%_, _^_, _≤_, _<_}
+use native.Mathlib.Omega.{arith}
+use lib.Dec.{ltb, lit<, lit≤}
+use lib.ListN.{length, getD, take, drop, replicate}
+use Rattle.listing_text.specs.declared.reader.Reader.{Reader}
+use Rattle.listing_text.specs.Bytes.{bytes}
+use Rattle.listing_text.specs.Numerals.{glyph, hex, decimal}
+use Rattle.listing_text.specs.Grammar.{Grain, Input, Word, GrainWords, AllWords, Words, flag, boxLine, grainLine, grainLines, textOf, Text}
+use Rattle.listing_text.specs.Reading.{startOf, put, feedAll, closedOf, fineOf}
+use Rattle.listing_text.proofs.DecimalDigits.{shown, shown-is, digits-of}
+use Rattle.listing_text.proofs.Fields.{hex-field}
+use Rattle.listing_text.proofs.Forward.{runs, six-fields}
+use Rattle.listing_text.proofs.Backward.{accepted-text}
+
+-- ---- fields
+hex-same : (v w : ℕ) → Word v → Word w → hex v ≡ hex w → v ≡ w
+hex-same v w a b e =
+    let r = put startOf 20 0 (replicate 10 0) in
+    let f : (u : ℕ) → Word u → feedAll r (hex u) ≡ put startOf 36 0 (u ∷ replicate 9 0) = λ (u : ℕ) (c : Word u). sym (ap (feedAll r) (append-nil (hex u))) ∙ hex-field r 0 u [] c (lit< tt) refl (runs .l0-run) (lit≤ tt) (inl (lit≤ tt)) in
+    ap (λ (q : Reader). getD (q .numbers) 0 0) (sym (f v a) ∙ ap (feedAll r) e ∙ f w b)
+
+flag-split : (p q : Bool) (s t : List ℕ) → flag p ++ (44 ∷ s) ≡ flag q ++ (44 ∷ t) → (p ≡ q) × (s ≡ t)
+flag-split false false s t e = (refl, ap (drop 2) e)
+flag-split true true s t e = (refl, ap (drop 2) e)
+flag-split false true s t e = absurd (let z : _≡_ {A = ℕ} 48 49 = ap (λ (l : List ℕ). getD l 0 0) e in omega arith)
+flag-split true false s t e = absurd (let z : _≡_ {A = ℕ} 49 48 = ap (λ (l : List ℕ). getD l 0 0) e in omega arith)
+
+shown-split : (ds es s t : List ℕ) → shown ds ++ (13 ∷ s) ≡ shown es ++ (13 ∷ t) → s ≡ t
+shown-split [] [] s t e = ap (drop 1) e
+shown-split [] (x ∷ es) s t e = absurd (let z : 13 ≡ 48 + x = ap (λ (l : List ℕ). getD l 0 0) e in omega arith)
+shown-split (d ∷ ds) [] s t e = absurd (let z : 48 + d ≡ 13 = ap (λ (l : List ℕ). getD l 0 0) e in omega arith)
+shown-split (d ∷ ds) (x ∷ es) s t e = shown-split ds es s t (ap (drop 1) e)
+
+decimal-split : (n m : ℕ) (s t : List ℕ) → decimal n ++ (13 ∷ s) ≡ decimal m ++ (13 ∷ t) → s ≡ t
+decimal-split n m s t e =
+    let (d, ds, u) = digits-of n in
+    let (x, xs, w) = digits-of m in
+    shown-split (d ∷ ds) (x ∷ xs) s t (ap (λ (l : List ℕ). l ++ (13 ∷ s)) (sym (shown-is d ds n u)) ∙ e ∙ ap (λ (l : List ℕ). l ++ (13 ∷ t)) (shown-is x xs m w))
+
+-- ---- the lines of grains, and what follows that is no digit
+abbrev Stop : List ℕ → Type 0
+Stop s = getD s 0 0 < 48
+
+glyph-big : (d : ℕ) → 48 ≤ glyph d
+glyph-big d = go (ltb d 10)
+  where
+    go : (b : Bool) → 48 ≤ cond b (48 + d) (55 + d)
+    go true = omega arith
+    go false = omega arith
+
+no-line : {A : Type 0} (s : List ℕ) (h : Grain) (t : List ℕ) → Stop s → s ≡ grainLine h ++ t → A
+no-line s h t l e =
+    let b = glyph-big (h .x / 16 ^ 15 % 16) in
+    let q : getD s 0 0 ≡ glyph (h .x / 16 ^ 15 % 16) = ap (λ (l : List ℕ). getD l 0 0) e in
+    absurd (omega arith)
+
+grain-same : (g h : Grain) → g .x ≡ h .x → g .y ≡ h .y → g .vx ≡ h .vx → g .vy ≡ h .vy → g .val ≡ h .val → g ≡ h
+grain-same g h a b c d e = λ k. record { x = a k; y = b k; vx = c k; vy = d k; val = e k }
+
+line-same : (g h : Grain) (s t : List ℕ) → GrainWords g → GrainWords h → grainLine g ++ s ≡ grainLine h ++ t → (g ≡ h) × (s ≡ t)
+line-same g h s t u w e = (
+  grain-same g h
+      (hex-same (g .x) (h .x) (u .x-word) (w .x-word) (ap (take 16) e))
+      (hex-same (g .y) (h .y) (u .y-word) (w .y-word) (ap (λ (l : List ℕ). take 16 (drop 17 l)) e))
+      (hex-same (g .vx) (h .vx) (u .vx-word) (w .vx-word) (ap (λ (l : List ℕ). take 16 (drop 34 l)) e))
+      (hex-same (g .vy) (h .vy) (u .vy-word) (w .vy-word) (ap (λ (l : List ℕ). take 16 (drop 51 l)) e))
+      (hex-same (g .val) (h .val) (u .val-word) (w .val-word) (ap (λ (l : List ℕ). take 16 (drop 68 l)) e)),
+  ap (drop 86) e,
+)
+
+lines-same : (gs hs : List Grain) (s t : List ℕ) → AllWords gs → AllWords hs → Stop s → Stop t → grainLines gs ++ s ≡ grainLines hs ++ t → (gs ≡ hs) × (s ≡ t)
+lines-same [] [] s t u w a b e = (refl, e)
+lines-same [] (h ∷ hs) s t u w a b e = no-line s h (grainLines hs ++ t) a (e ∙ append-assoc (grainLine h) (grainLines hs) t)
+lines-same (g ∷ gs) [] s t u w a b e = no-line t g (grainLines gs ++ s) b (sym e ∙ append-assoc (grainLine g) (grainLines gs) s)
+lines-same (g ∷ gs) (h ∷ hs) s t u w a b e =
+    let (p, q) = line-same g h (grainLines gs ++ s) (grainLines hs ++ t) (u .0) (w .0) (sym (append-assoc (grainLine g) (grainLines gs) s) ∙ e ∙ append-assoc (grainLine h) (grainLines hs) t) in
+    let (p1, q1) = lines-same gs hs s t (u .1) (w .1) a b q in
+    ((λ k. p k ∷ p1 k), q1)
+
+-- ---- whole texts
+input-same : (i j : Input) → i .l0 ≡ j .l0 → i .l1 ≡ j .l1 → i .p0 ≡ j .p0 → i .p1 ≡ j .p1 → i .rate ≡ j .rate → i .grains ≡ j .grains → i ≡ j
+input-same i j a b c d e f = λ k. record { l0 = a k; l1 = b k; p0 = c k; p1 = d k; rate = e k; grains = f k }
+
+abbrev fields : Input → List ℕ → List ℕ
+fields i s = hex (i .l0) ++ (44 ∷ (hex (i .l1) ++ (44 ∷ (flag (i .p0) ++ (44 ∷ (flag (i .p1) ++ (44 ∷ (hex (i .rate) ++ (44 ∷ (decimal (length (i .grains)) ++ (13 ∷ 10 ∷ s)))))))))))
+
+text-fields : (i : Input) (s : List ℕ) → textOf i ++ s ≡ bytes "l0,l1,p0,p1,rate,n\r\n" ++ fields i (bytes "x,y,vx,vy,val\r\n" ++ (grainLines (i .grains) ++ s))
+text-fields i s =
+    ap (λ (l : List ℕ). bytes "l0,l1,p0,p1,rate,n\r\n" ++ l)
+    (append-assoc (boxLine i) (bytes "x,y,vx,vy,val\r\n" ++ grainLines (i .grains)) s
+    ∙ six-fields (hex (i .l0)) (hex (i .l1)) (flag (i .p0)) (flag (i .p1)) (hex (i .rate)) (decimal (length (i .grains))) (bytes "x,y,vx,vy,val\r\n" ++ (grainLines (i .grains) ++ s)))
+
+fields-same : (i j : Input) (s t : List ℕ) → Words i → Words j → Stop s → Stop t → fields i (bytes "x,y,vx,vy,val\r\n" ++ (grainLines (i .grains) ++ s)) ≡ fields j (bytes "x,y,vx,vy,val\r\n" ++ (grainLines (j .grains) ++ t)) → (i ≡ j) × (s ≡ t)
+fields-same i j s t u w a b e =
+    let (p, q) = flag-split (i .p0) (j .p0) _ _ (ap (drop 34) e) in
+    let (p1, q1) = flag-split (i .p1) (j .p1) _ _ q in
+    let (g, r) = lines-same (i .grains) (j .grains) s t (u .grain-words) (w .grain-words) a b (ap (drop 16) (decimal-split (length (i .grains)) (length (j .grains)) _ _ (ap (drop 17) q1))) in (
+      input-same i j
+          (hex-same (i .l0) (j .l0) (u .l0-word) (w .l0-word) (ap (take 16) e))
+          (hex-same (i .l1) (j .l1) (u .l1-word) (w .l1-word) (ap (λ (l : List ℕ). take 16 (drop 17 l)) e))
+          p p1
+          (hex-same (i .rate) (j .rate) (u .rate-word) (w .rate-word) (ap (take 16) q1))
+          g,
+      r,
+    )
+
+text-same : (i j : Input) (s t : List ℕ) → Words i → Words j → Stop s → Stop t → textOf i ++ s ≡ textOf j ++ t → (i ≡ j) × (s ≡ t)
+text-same i j s t u w a b e = fields-same i j s t u w a b (ap (drop 20) (sym (text-fields i s) ∙ e ∙ text-fields j t))
+
+not-nil : {A : Type 0} → _≡_ {A = List ℕ} (13 ∷ 10 ∷ []) [] → A
+not-nil e = absurd (let z : _≡_ {A = ℕ} 2 0 = ap length e in omega arith)
+
+-- a text has one reading
+pub one-input : (s : List ℕ) (i j : Input) → Words i → Words j → Text s i → Text s j → i ≡ j
+one-input s i j u w (inl e) (inl f) = text-same i j [] [] u w (lit< tt) (lit< tt) (append-nil (textOf i) ∙ sym e ∙ f ∙ sym (append-nil (textOf j))) .0
+one-input s i j u w (inl e) (inr f) = not-nil (text-same i j (bytes "\r\n") [] u w (lit< tt) (lit< tt) (ap (λ (l : List ℕ). l ++ bytes "\r\n") (sym e) ∙ f ∙ sym (append-nil (textOf j))) .1)
+one-input s i j u w (inr e) (inl f) = not-nil (sym (text-same i j [] (bytes "\r\n") u w (lit< tt) (lit< tt) (append-nil (textOf i) ∙ sym e ∙ ap (λ (l : List ℕ). l ++ bytes "\r\n") f) .1))
+one-input s i j u w (inr e) (inr f) = text-same i j [] [] u w (lit< tt) (lit< tt) (append-nil (textOf i) ∙ sym e ∙ f ∙ sym (append-nil (textOf j))) .0
+
+-- an input has one text, but for its last CR LF
+pub one-text : (s t : List ℕ) (i : Input) → Text s i → Text t i → (s ≡ t) ⊎ ((s ++ bytes "\r\n" ≡ t) ⊎ (s ≡ t ++ bytes "\r\n"))
+one-text s t i (inl e) (inl f) = inl (e ∙ sym f)
+one-text s t i (inl e) (inr f) = inr (inr (e ∙ sym f))
+one-text s t i (inr e) (inl f) = inr (inl (e ∙ sym f))
+one-text s t i (inr e) (inr f) = inl (append-cancel-right s t (bytes "\r\n") (e ∙ sym f))
+
+-- more grains than 64 bits count are refused
+pub uncounted-refused : (s : List ℕ) (i : Input) → Words i → 2 ^ 64 ≤ length (i .grains) → Text s i → fineOf (closedOf (feedAll startOf s)) ≡ false
+uncounted-refused s i w h t = go (fineOf (closedOf (feedAll startOf s))) refl
+  where
+    go : (b : Bool) → fineOf (closedOf (feedAll startOf s)) ≡ b → b ≡ false
+    go false e = refl
+    go true e =
+        let a = accepted-text s e in
+        let k : length (i .grains) < 2 ^ 64 = subst (λ (j : Input). length (j .grains) < 2 ^ 64) (one-input s (a .input) i (a .input-words) w (a .is-text) t) (a .countable) in
+        absurd (not-both (length (i .grains)) (2 ^ 64) k h)
+      where
+        not-both : (a b : ℕ) → a < b → b ≤ a → ⊥
+        not-both a b h k = omega arith

@@ -1,0 +1,73 @@
+-- The text that the listing program reads. A float is known here by its bits. Assumes nothing.
+use mathlib.Core.Path.{_≡_}
+use mathlib.Core.Logic.{_⊎_}
+use mathlib.Core.List.{List, [], _∷_, _++_}
+use mathlib.Core.Bool.{Bool, true, false}
+use Prim.Native.Nat.{ℕ, _^_, _<_}
+use lib.ListN.{length}
+use Rattle.listing_text.specs.Bytes.{bytes}
+use Rattle.listing_text.specs.Numerals.{hex, decimal}
+
+pub record Grain : Type 0 where
+  pub x : ℕ
+  pub y : ℕ
+  pub vx : ℕ
+  pub vy : ℕ
+  pub val : ℕ
+
+pub record Input : Type 0 where
+  pub l0 : ℕ
+  pub l1 : ℕ
+  pub p0 : Bool
+  pub p1 : Bool
+  pub rate : ℕ
+  pub grains : List Grain
+
+-- fields with commas between them, ended by CR LF
+abbrev pub line : List (List ℕ) → List ℕ
+line [] = bytes "\r\n"
+line (f ∷ []) = f ++ bytes "\r\n"
+line (f ∷ g ∷ fs) = f ++ (bytes "," ++ line (g ∷ fs))
+
+abbrev pub flag : Bool → List ℕ
+flag false = bytes "0"
+flag true = bytes "1"
+
+abbrev pub boxLine : Input → List ℕ
+boxLine i = line (hex (i .l0) ∷ hex (i .l1) ∷ flag (i .p0) ∷ flag (i .p1) ∷ hex (i .rate) ∷ decimal (length (i .grains)) ∷ [])
+
+abbrev pub grainLine : Grain → List ℕ
+grainLine g = line (hex (g .x) ∷ hex (g .y) ∷ hex (g .vx) ∷ hex (g .vy) ∷ hex (g .val) ∷ [])
+
+abbrev pub grainLines : List Grain → List ℕ
+grainLines [] = []
+grainLines (g ∷ gs) = grainLine g ++ grainLines gs
+
+-- the text of an input, its last line ended
+abbrev pub textOf : Input → List ℕ
+textOf i = bytes "l0,l1,p0,p1,rate,n\r\n" ++ (boxLine i ++ (bytes "x,y,vx,vy,val\r\n" ++ grainLines (i .grains)))
+
+-- s is a text of the input: the CR LF of the last line may be missing
+abbrev pub Text : List ℕ → Input → Type 0
+Text s i = (s ≡ textOf i) ⊎ (s ++ bytes "\r\n" ≡ textOf i)
+
+-- numbers of 64 bits
+abbrev pub Word : ℕ → Type 0
+Word v = v < 2 ^ 64
+
+pub record GrainWords (g : Grain) : Type 0 where
+  pub x-word : Word (g .x)
+  pub y-word : Word (g .y)
+  pub vx-word : Word (g .vx)
+  pub vy-word : Word (g .vy)
+  pub val-word : Word (g .val)
+
+abbrev pub AllWords : List Grain → Type 0
+AllWords [] = Unit {0}
+AllWords (g ∷ gs) = GrainWords g × AllWords gs
+
+pub record Words (i : Input) : Type 0 where
+  pub l0-word : Word (i .l0)
+  pub l1-word : Word (i .l1)
+  pub rate-word : Word (i .rate)
+  pub grain-words : AllWords (i .grains)

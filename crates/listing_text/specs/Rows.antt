@@ -1,0 +1,27 @@
+-- Grains as rows of five numbers each, one row after the other in one list. Assumes nothing.
+use mathlib.Core.List.{List, [], _∷_, _++_}
+use Prim.Native.Nat.{ℕ, zero, suc, _+_, _*_}
+use lib.ListN.{getD}
+use Rattle.listing_text.specs.Grammar.{Grain}
+
+-- a row
+abbrev pub fiveOf : Grain → List ℕ
+fiveOf g = g .x ∷ g .y ∷ g .vx ∷ g .vy ∷ g .val ∷ []
+
+abbrev pub noGrain : Grain
+noGrain = record { x = 0; y = 0; vx = 0; vy = 0; val = 0 }
+
+-- k rows of five: the grains' numbers, as far as they go, then zeros
+abbrev pub rowsOf : ℕ → List Grain → List ℕ
+rowsOf zero gs = []
+rowsOf (suc k) [] = fiveOf noGrain ++ rowsOf k []
+rowsOf (suc k) (g ∷ gs) = fiveOf g ++ rowsOf k gs
+
+-- the grain whose five numbers stand in row i
+abbrev pub grainAt : List ℕ → ℕ → Grain
+grainAt l i = record { x = getD l (i * 5) 0; y = getD l (i * 5 + 1) 0; vx = getD l (i * 5 + 2) 0; vy = getD l (i * 5 + 3) 0; val = getD l (i * 5 + 4) 0 }
+
+-- k grains from row i on
+abbrev pub grainsFrom : List ℕ → ℕ → ℕ → List Grain
+grainsFrom l i zero = []
+grainsFrom l i (suc k) = grainAt l i ∷ grainsFrom l (suc i) k

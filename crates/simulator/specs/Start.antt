@@ -1,0 +1,61 @@
+-- 01: "Start takes no rate and checks 1, 2, 4 in that order"; "a start refused 1, 2 or 4 changes nothing"; "accepted start clears every table place to zero";
+-- "start can halt too, and then gives that number". Assumes nothing: these are definitions.
+use Prim.Native.Nat.{ℕ, zero, suc, _*_}
+use mathlib.Core.List.{List}
+use mathlib.Core.Bool.{Bool, _&&_}
+use lib.Dec.{eqb, leb}
+use lib.ListN.{length, replicate}
+use lib.Ieee.{Float}
+use Rattle.order.specs.Numbers.{fzero}
+use Rattle.halting.specs.Out.{pick}
+use Rattle.model.specs.declared.Domain.{Domain}
+use Rattle.model.specs.declared.Started.{Started}
+use Rattle.model.specs.declared.Started.the-variants as answer
+use Rattle.model.specs.Sizes.{boxOk, countsOk}
+use Rattle.model.specs.Grid.{cells}
+use Rattle.model.specs.Start.{Begun, refused, started, start}
+use Rattle.tables.specs.declared.Sizes.{Sizes}
+use Rattle.checks.specs.Decode.{Tables, tables}
+use Rattle.checks.specs.Check.{long}
+use Rattle.simulator.specs.Inputs.{inputsOf}
+use Rattle.simulator.specs.Encode.{encoded}
+
+-- 2: a count is out of range, or a lent table is shorter than the counts need
+abbrev pub sizesFor : Domain → ℕ → ℕ → Sizes
+sizesFor b n room = record { grains = n; cells = cells b; room = room }
+
+unfoldable pub fits : Sizes → ℕ → ℕ → ℕ → ℕ → ℕ → ℕ → Bool
+fits z inputs l g q e o = countsOk (z .room) (z .grains) && (leb (z .grains * 5) inputs && long z l g q e o)
+
+-- every place of every table, also beyond what the counts need
+abbrev pub cleared : Tables → Tables
+cleared t =
+    tables (replicate (length (t .lists)) 0) (replicate (length (t .grains)) fzero) (replicate (length (t .queue)) 0) (replicate (length (t .events)) fzero) (replicate (length (t .order)) 0)
+
+-- an answer, and the tables afterwards
+pub record StartedWith : Type 0 where
+  pub answer : Started
+  pub after : Tables
+
+abbrev pub with : Started → Tables → StartedWith
+with a t = record { answer = a; after = t }
+
+-- by the mark that the start left, 0 or a halt's number; by a refusal's number, and the grain that 4 names
+abbrev pub byMark : ℕ → Started
+byMark zero = answer.Accepted
+byMark (suc r) = answer.Halted (suc r)
+
+abbrev pub byNumber : ℕ → ℕ → Started
+byNumber r g = pick (eqb r 4) (answer.BadGrain g) (answer.Refused r)
+
+abbrev pub leaving : Begun → Tables → StartedWith
+leaving (refused r g) t = with (byNumber r g) t
+leaving (started s) t = with (byMark (s .mark)) (encoded s (cleared t))
+
+unfoldable pub startAll : Domain → ℕ → ℕ → List Float → Tables → StartedWith
+startAll b n room inputs t =
+    pick (boxOk b)
+    (pick (fits (sizesFor b n room) (length inputs) (length (t .lists)) (length (t .grains)) (length (t .queue)) (length (t .events)) (length (t .order)))
+    (leaving (start b room (inputsOf n inputs)) t)
+    (with (answer.Refused 2) t))
+    (with (answer.Refused 1) t)

@@ -1,0 +1,66 @@
+use Rattle.step.proofs.Executions.{land-does, enter-does, neighbour-first, neighbour-second, neighbour-third}
+use Rattle.step.proofs.Does.{after}
+use mathlib.Core.Path.{_∙_}
+use Rattle.step.proofs.execute.do_neighbour.Statement.{statement}
+use Rattle.step.proofs.execute.do_neighbour.Tie as tie
+
+land-requires : tie.Need-land-requires
+land-requires c κs = let b = c .before .before .before .before .before .before in let a = b .args in let o = b .pre .0 in ((o .0, o .1 .seen .grained), o .1 .seen .queued .ranged, b .pre .2)
+
+same-length : tie.Need-same-length
+same-length c = c .before .before .before .land .kept .0
+
+returns : tie.Need-returns
+returns c = let b = c .before .before .before .before .before .before .before .before .before .before in let a = b .args in neighbour-first (a .p) (a .pos) (a .cell) (c .if1 .taken) (land-does (a .p) (a .pos) (c .before .before .before .land .ensures))
+
+enter-requires : tie.Need-enter-requires
+enter-requires c κs = let b = c .before .before .before .before .before .before .before .before .before .before .before in let a = b .args in let o = b .pre .0 in ((o .0, o .1 .listed), o .1 .seen .queued .ranged, b .pre .2, b .pre .3)
+
+same-length-2 : tie.Need-same-length-2
+same-length-2 c = c .before .before .before .enter .kept .0
+
+same-length-3 : tie.Need-same-length-3
+same-length-3 c = c .before .before .before .before .before .before .before .before .land .kept .0
+
+returns-2 : tie.Need-returns-2
+returns-2 c = let b = c .before .before .before .before .before .before .before .before .before .before .before .before .before .before .before in let a = b .args in neighbour-second (a .p) (a .pos) (a .cell) (c .before .before .before .before .before .if1 .left) (c .if2 .taken) (land-does (a .p) (a .pos) (c .before .before .before .before .before .before .before .before .land .ensures)) (enter-does (a .p) (a .cell) (c .before .before .before .enter .ensures))
+
+schedule-events-requires : tie.Need-schedule-events-requires
+schedule-events-requires c κs = let b = c .before .before .before .before .before .before .before .before .before .before .before .before .before .before .before .before .before .before .before .before in let a = b .args in (after (enter-does (a .p) (a .cell) (c .before .before .before .before .before .before .before .before .enter .ensures)) (after (land-does (a .p) (a .pos) (c .before .before .before .before .before .before .before .before .before .before .before .before .before .land .ensures)) (b .pre .0)), b .pre .1, b .pre .2, b .pre .3)
+
+same-length-4 : tie.Need-same-length-4
+same-length-4 c = c .before .before .before .before .before .before .before .before .before .before .before .before .before .before .before .before .before .enter .kept .0
+
+same-length-5 : tie.Need-same-length-5
+same-length-5 c = c .before .before .before .before .before .before .before .before .schedule-events .kept .1 .0 ∙ c .before .before .before .before .before .before .before .before .before .before .before .before .before .before .before .before .before .before .before .before .before .before .land .kept .0
+
+same-length-6 : tie.Need-same-length-6
+same-length-6 c = c .before .before .before .before .before .before .before .before .schedule-events .kept .1 .1 .0
+
+same-length-7 : tie.Need-same-length-7
+same-length-7 c = c .before .before .before .before .before .before .before .before .schedule-events .kept .1 .1 .1 .0
+
+same-length-8 : tie.Need-same-length-8
+same-length-8 c = c .before .before .before .before .before .before .before .before .schedule-events .kept .1 .1 .1 .1 .0
+
+returns-3 : tie.Need-returns-3
+returns-3 c = let b = c .before .before .before .before .before .before .before .before .before .before .before .before .before .before .before .before .before .before .before .before .before .before .before .before .before .before .before .before .before in let a = b .args in neighbour-third (a .p) (a .pos) (a .cell) (c .before .before .before .before .before .before .before .before .before .before .before .before .before .before .before .before .before .before .before .if1 .left) (c .before .before .before .before .before .before .before .before .before .before .before .before .before .before .if2 .left) (land-does (a .p) (a .pos) (c .before .before .before .before .before .before .before .before .before .before .before .before .before .before .before .before .before .before .before .before .before .before .land .ensures)) (enter-does (a .p) (a .cell) (c .before .before .before .before .before .before .before .before .before .before .before .before .before .before .before .before .before .enter .ensures)) (c .before .before .before .before .before .before .before .before .schedule-events .ensures)
+
+pub do-neighbour-spec : {M : Type 1} → statement M
+do-neighbour-spec =
+    tie.close
+    (tie.spec
+    land-requires
+    same-length
+    returns
+    enter-requires
+    same-length-2
+    same-length-3
+    returns-2
+    schedule-events-requires
+    same-length-4
+    same-length-5
+    same-length-6
+    same-length-7
+    same-length-8
+    returns-3)

@@ -1,0 +1,29 @@
+use Rattle.acts.specs.Tell.{InGrains}
+use Rattle.step.proofs.Does.{does-stop, does-on}
+use Rattle.model.specs.Acts.{store}
+use mathlib.Core.Path.{_∙_}
+use Rattle.step.proofs.execute.store_both.Statement.{statement}
+use Rattle.step.proofs.execute.store_both.Tie as tie
+
+store-requires : tie.Need-store-requires
+store-requires c κs = let b = c .before .before in let a = b .args in (b .pre .0, b .pre .1, b .pre .2)
+
+same-length : tie.Need-same-length
+same-length c = c .before .before .before .store .kept .0
+
+returns : tie.Need-returns
+returns c = let b = c .before .before .before .before .before .before in let a = b .args in does-stop {a = store (a .p) (a .x)} (λ s. store (a .q) (a .y)) (c .if1 .taken) (record { says = c .before .before .before .store .ensures })
+
+store-requires-2 : tie.Need-store-requires-2
+store-requires-2 c κs = let b = c .before .before .before .before .before .before .before in let a = b .args in let o = b .pre .0 in (((store (a .p) (a .x) (o .0)) .st, c .before .before .before .before .store .ensures (o .0) (o .1) .1), b .pre .1, b .pre .3)
+
+same-length-2 : tie.Need-same-length-2
+same-length-2 c = c .before .before .store2 .kept .0 ∙ c .before .before .before .before .before .before .before .store .kept .0
+
+returns-2 : tie.Need-returns-2
+returns-2 c = let b = c .before .before .before .before .before .before .before .before .before .before in let a = b .args in does-on {Q = InGrains (a .z) (c .before .before .before .before .before .before .before .store .last .0)} {a = store (a .p) (a .x)} {k = store (a .q) (a .y)} (c .before .before .before .before .if1 .left) (record { says = c .before .before .before .before .before .before .before .store .ensures }) (record { says = c .before .before .store2 .ensures })
+
+pub store-both-spec : {M : Type 1} → statement M
+store-both-spec =
+    tie.close
+    (tie.spec store-requires same-length returns store-requires-2 same-length-2 returns-2)
