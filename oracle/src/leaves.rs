@@ -1,6 +1,6 @@
 // Single schedulings, steppings and cell lookups with floats of full width: the Rust with document 01's
 // rules against the model, and a supply of such cases for the vectors.
-use crate::model::grid::{cells_along, from_p_to_c, get_new_pos};
+use crate::model::grid::{cells_along, corrected, from_p_to_c, get_new_pos, span};
 use crate::model::plan::{collision, out_of_cell, to_neighbour, wall, Plan};
 use crate::model::state::{Grain, Place, State, COLLISION, NEIGHBOUR, OUT, WALL};
 use crate::random::Random;
@@ -25,6 +25,13 @@ impl Leaf {
         s.clock = self.clock;
         s.grains = self.grains.iter().map(grain).collect();
         s
+    }
+
+    /// How far the second grain is from the first, corrected, and the difference of their velocities.
+    pub fn apart(&self) -> [f64; 4] {
+        let [g, h] = self.grains;
+        let dpos = |i: usize| corrected(h[i] - g[i], self.lengths[i], span(self.lengths, self.cell, i).edge);
+        [dpos(0), dpos(1), h[2] - g[2], h[3] - g[3]]
     }
 
     /// What the model plans.
@@ -135,8 +142,11 @@ pub fn agreed_stepping(&(lengths, pos, vel, dt): &Stepping) -> Result<[f64; 2], 
     }
 }
 
+/// Lengths, and a position.
+pub type Spot = ([f64; 2], [f64; 2]);
+
 /// An accepted start position in a box, often on a border.
-pub fn random_spot(r: &mut Random) -> ([f64; 2], [f64; 2]) {
+pub fn random_spot(r: &mut Random) -> Spot {
     let lengths = [length(r), length(r)];
     let pos = lengths.map(|l| {
         let n = cells_along(l);
@@ -148,7 +158,7 @@ pub fn random_spot(r: &mut Random) -> ([f64; 2], [f64; 2]) {
     (lengths, pos)
 }
 
-pub fn agreed_spot(&(lengths, pos): &([f64; 2], [f64; 2])) -> Result<Vec<usize>, String> {
+pub fn agreed_spot(&(lengths, pos): &Spot) -> Result<Vec<usize>, String> {
     let ours = from_p_to_c(lengths, pos);
     if ours == WithRules::cells_touched(lengths, pos) {
         Ok(ours)

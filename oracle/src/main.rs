@@ -9,6 +9,7 @@ mod lost;
 mod model;
 mod mutate;
 mod random;
+mod replay;
 mod rust;
 mod starts;
 mod text;
@@ -24,7 +25,8 @@ const USAGE: &str = "usage:
   oracle refusals                                crafted inputs for every refusal, by the model
   oracle differ                                  what docs/DIFFERENCES.md says, by running it
   oracle lost                                    the grain that the text as published loses
-  oracle vectors FOLDER                          files for other programs to replay";
+  oracle vectors FOLDER                          files for other programs to replay
+  oracle leaves                                  those of single schedulings and the like as words, on stdout";
 
 fn main() {
     let arguments: Vec<String> = std::env::args().skip(1).collect();
@@ -36,6 +38,7 @@ fn main() {
         ["differ"] => passed(differ::differ()),
         ["vectors", folder] => vectors::vectors(folder),
         ["lost"] => passed(lost::lost()),
+        ["leaves"] => replay::leaves(),
         _ => Err(USAGE.into()),
     };
     if let Err(message) = done {

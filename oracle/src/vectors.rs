@@ -16,11 +16,11 @@
 //
 // BOX is `L0 L1 P0 P1 CLOCK CELL`, G is `X Y VX VY VAL`, DIM is 0 or 1.
 use crate::crafted::{answer, crafted, grain, Answer};
-use crate::leaves::{agreed_spot, agreed_stepping, random_leaf, random_spot, random_stepping, Leaf};
-use crate::model::grid::{corrected, span};
-use crate::model::plan::root;
+use crate::leaves::{agreed_spot, agreed_stepping, random_leaf, random_spot, random_stepping};
+use crate::leaves::{Leaf, Spot, Stepping};
+use crate::model::plan::{root, Plan};
 use crate::model::run::Started;
-use crate::model::state::{Place, COLLISION, NEIGHBOUR, OUT, WALL};
+use crate::model::state::{COLLISION, NEIGHBOUR, OUT, WALL};
 use crate::random::Random;
 use crate::text::{dump, hex, Start};
 use crate::walk::walk;
@@ -111,31 +111,37 @@ fn root_arguments() -> Vec<f64> {
 
 // ---- single schedulings
 
-fn leaves(kind: u64) -> Result<String, String> {
+/// A leaf, the direction of the scheduling, and what is found.
+pub type Scheduling = (Leaf, usize, Plan);
+
+pub fn schedulings(kind: u64) -> Result<Vec<Scheduling>, String> {
     let mut random = Random(100 + kind);
-    let mut out = String::new();
+    let mut all = Vec::new();
     // as many cases with an event as without
     let (mut due, mut none) = (0, 0);
-    while due + none < LEAVES {
+    while all.len() < LEAVES {
         let leaf = random_leaf(&mut random);
         let dim = random.below(2) as usize;
         let plan = leaf.agreed(kind, dim)?;
         let count = if matches!(plan, Ok(None)) { &mut none } else { &mut due };
         if *count < LEAVES / 2 {
             *count += 1;
-            out += &leaf_line(&leaf, kind, dim, plan);
+            all.push((leaf, dim, plan));
         }
     }
-    Ok(out)
+    Ok(all)
 }
 
-fn leaf_line(leaf: &Leaf, kind: u64, dim: usize, plan: Result<Option<Place>, u64>) -> String {
+fn leaves(kind: u64) -> Result<String, String> {
+    Ok(schedulings(kind)?.iter().map(|(leaf, dim, plan)| leaf_line(leaf, kind, *dim, plan)).collect())
+}
+
+fn leaf_line(leaf: &Leaf, kind: u64, dim: usize, plan: &Plan) -> String {
     let [p0, p1] = leaf.periodic.map(u8::from);
     let head = format!("{} {p0} {p1} {} {}", floats(&leaf.lengths), hex(leaf.clock), leaf.cell);
     let [g, h] = leaf.grains;
     let given = if kind == COLLISION {
-        let apart = |i: usize| corrected(h[i] - g[i], leaf.lengths[i], span(leaf.lengths, leaf.cell, i).edge);
-        format!("{} {} {}", floats(&g), floats(&h), floats(&[apart(0), apart(1), h[2] - g[2], h[3] - g[3]]))
+        format!("{} {} {}", floats(&g), floats(&h), floats(&leaf.apart()))
     } else {
         format!("{dim} {}", floats(&g))
     };
@@ -151,25 +157,39 @@ fn leaf_line(leaf: &Leaf, kind: u64, dim: usize, plan: Result<Option<Place>, u64
     format!("{head} {given} : {told}\n")
 }
 
-fn steppings() -> Result<String, String> {
+/// Steppings, and where each ends.
+pub fn stepping_cases() -> Result<Vec<(Stepping, [f64; 2])>, String> {
     let mut random = Random(200);
-    let line = |_| {
+    let case = |_| {
         let case = random_stepping(&mut random);
-        let (lengths, pos, vel, dt) = case;
-        let new = agreed_stepping(&case)?;
-        Ok(format!("{} {} {} {} : {}\n", floats(&lengths), floats(&pos), floats(&vel), hex(dt), floats(&new)))
+        Ok((case, agreed_stepping(&case)?))
     };
-    (0..LEAVES).map(line).collect()
+    (0..LEAVES).map(case).collect()
+}
+
+fn steppings() -> Result<String, String> {
+    let line = |((lengths, pos, vel, dt), new): &(Stepping, [f64; 2])| {
+        format!("{} {} {} {} : {}\n", floats(lengths), floats(pos), floats(vel), hex(*dt), floats(new))
+    };
+    Ok(stepping_cases()?.iter().map(line).collect())
+}
+
+/// Spots, and the cells that each touches.
+pub fn spot_cases() -> Result<Vec<(Spot, Vec<usize>)>, String> {
+    let mut random = Random(300);
+    let case = |_| {
+        let case = random_spot(&mut random);
+        Ok((case, agreed_spot(&case)?))
+    };
+    (0..LEAVES).map(case).collect()
 }
 
 fn spots() -> Result<String, String> {
-    let mut random = Random(300);
-    let line = |_| {
-        let case = random_spot(&mut random);
-        let cells: Vec<String> = agreed_spot(&case)?.iter().map(|c| c.to_string()).collect();
-        Ok(format!("{} {} : {}\n", floats(&case.0), floats(&case.1), cells.join(" ")))
+    let line = |((lengths, pos), cells): &(Spot, Vec<usize>)| {
+        let cells: Vec<String> = cells.iter().map(|c| c.to_string()).collect();
+        format!("{} {} : {}\n", floats(lengths), floats(pos), cells.join(" "))
     };
-    (0..LEAVES).map(line).collect()
+    Ok(spot_cases()?.iter().map(line).collect())
 }
 
 // ---- whole runs

@@ -59,7 +59,8 @@ fn grain(g: &Grain, out: &mut Vec<u64>) {
     out.extend([g.pos[0], g.pos[1], g.vel[0], g.vel[1], g.time, g.val].map(f64::to_bits));
 }
 
-fn place(e: &Place, out: &mut Vec<u64>) {
+/// A place's numbers and floats, in table order.
+pub fn place(e: &Place, out: &mut Vec<u64>) {
     out.extend([e.kind, e.p, e.q, e.cell, e.time.to_bits()]);
     out.extend(e.floats().map(f64::to_bits));
 }

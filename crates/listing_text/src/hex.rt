@@ -5,7 +5,7 @@ ghost use lib.Ieee.{binary64, ofBits, toBits};
 ghost use Rattle.listing_text.specs.Numerals.{glyph, hexVal};
 
 // The value of a digit, 16 for any other byte.
-pub(crate) fn hex_value(b: u8) -> u64
+pub fn hex_value(b: u8) -> u64
     ensures { λ r. ⌜ r ≡ hexVal b ⌝ }
 {
     if b < 48 {

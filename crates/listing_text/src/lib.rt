@@ -6,6 +6,7 @@ mod writer;
 
 pub use hex::bits_of_float;
 pub use hex::float_of_bits;
+pub use hex::hex_value;
 pub use reader::Reader;
 pub use reader::feed_all;
 pub use reader::start;
