@@ -12,7 +12,7 @@ use tables::Sizes;
 
 // ---- a whole table
 
-pub fn clear_numbers(t: &mut [u64])
+pub(crate) fn clear_numbers(t: &mut [u64])
     ensures { λ _. ⌜ now (t .exit) ≡ replicate (length (now (t .entry))) 0 ⌝ }
 {
     let mut i: usize = 0;
@@ -22,7 +22,7 @@ pub fn clear_numbers(t: &mut [u64])
     }
 }
 
-pub fn clear_floats(t: &mut [f64])
+pub(crate) fn clear_floats(t: &mut [f64])
     ensures { λ _. ⌜ now (t .exit) ≡ replicate (length (now (t .entry))) fzero ⌝ }
 {
     let mut i: usize = 0;
@@ -32,7 +32,7 @@ pub fn clear_floats(t: &mut [f64])
     }
 }
 
-pub fn clear_bytes(t: &mut [u8])
+pub(crate) fn clear_bytes(t: &mut [u8])
     ensures { λ _. ⌜ now (t .exit) ≡ replicate (length (now (t .entry))) 0 ⌝ }
 {
     let mut i: usize = 0;
@@ -51,7 +51,7 @@ fn flag(set: bool) -> u64
 }
 
 // All places 0, but the counts and the box's flags.
-pub fn clear_lists(lists: &mut [u64], z: Sizes, domain: Domain)
+pub(crate) fn clear_lists(lists: &mut [u64], z: Sizes, domain: Domain)
     requires { ⌜ 6 ≤ length (now lists) ⌝ }
     ensures { λ _. ⌜ now (lists .exit) ≡ over (listsHead 0 z domain) (replicate (length (now (lists .entry))) 0) ⌝ }
 {
@@ -65,7 +65,7 @@ pub fn clear_lists(lists: &mut [u64], z: Sizes, domain: Domain)
 }
 
 // All places 0, but the box's lengths.
-pub fn clear_grains(grains: &mut [f64], domain: Domain)
+pub(crate) fn clear_grains(grains: &mut [f64], domain: Domain)
     requires { ⌜ 3 ≤ length (now grains) ⌝ }
     ensures { λ _. ⌜ now (grains .exit) ≡ over (grainsHead domain fzero) (replicate (length (now (grains .entry))) fzero) ⌝ }
 {
@@ -76,7 +76,7 @@ pub fn clear_grains(grains: &mut [f64], domain: Domain)
 }
 
 // All places 0, but the cells numbered in the heap and in the lookups.
-pub fn clear_order(order: &mut [u8], cells: usize)
+pub(crate) fn clear_order(order: &mut [u8], cells: usize)
     requires { ⌜ (512 ≤ length (now order)) × (cells ≤ 256) ⌝ }
     ensures { λ _. ⌜ now (order .exit) ≡ over (orderBytes (startHeap cells)) (replicate (length (now (order .entry))) 0) ⌝ }
 {

@@ -36,7 +36,7 @@ fn goes_in(
 }
 
 // The grains from i on.
-pub fn go_in(
+pub(crate) fn go_in(
     inputs: &[f64],
     lists: &mut [u64],
     grains: &mut [f64],

@@ -29,7 +29,7 @@ fn first_input(inputs: &[f64]) -> Particle
 }
 
 // Grain i of n.
-pub fn get_input(inputs: &[f64], n: usize, i: usize) -> Particle
+pub(crate) fn get_input(inputs: &[f64], n: usize, i: usize) -> Particle
     requires { ⌜ (n * 5 ≤ length (now inputs)) × (i < n) × (n ≤ 256) ⌝ }
     ensures { λ r. ⌜ r ≡ getD (inputsOf n (now (inputs .entry))) i zeroG ⌝ }
 {
@@ -38,7 +38,7 @@ pub fn get_input(inputs: &[f64], n: usize, i: usize) -> Particle
 }
 
 // The lowest of n grains whose numbers are out of range, and n if none is.
-pub fn first_bad(domain: Domain, inputs: &[f64], n: usize) -> usize
+pub(crate) fn first_bad(domain: Domain, inputs: &[f64], n: usize) -> usize
     requires { ⌜ n * 5 ≤ length (now inputs) ⌝ }
     ensures { λ r. ⌜ r ≡ firstBad domain (inputsOf n (now (inputs .entry))) ⌝ }
 {
