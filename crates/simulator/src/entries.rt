@@ -72,7 +72,14 @@ fn enter_rows(
 }
 
 // The cells that a grain touches: the spans x in direction 0, y in direction 1.
-pub(crate) fn enter_all(lists: &mut [u64], z: Sizes, grain: usize, n0: usize, x: Spans, y: Spans) -> u64
+pub(crate) fn enter_all(
+    lists: &mut [u64],
+    z: Sizes,
+    grain: usize,
+    n0: usize,
+    x: Spans,
+    y: Spans,
+) -> u64
     requires { ⌜ Enters z (now lists) grain (gridCells n0 (cellsIn x) (cellsIn y)) ⌝ }
     ensures { λ r. ⌜ ((s : State) → InLists z (now (lists .entry)) s
         → ListsTold z (now (lists .exit)) r (eachOf (enterAct grain) (gridCells n0 (cellsIn x) (cellsIn y)) s)) ⌝ }
