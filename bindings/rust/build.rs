@@ -25,7 +25,6 @@ fn made() -> PathBuf {
     for part in ["crates", "crates.txt", "tools/archive"] {
         println!("cargo:rerun-if-changed={}", root.join(part).display());
     }
-    println!("cargo:rerun-if-env-changed=PATH");
     if !on_path("rt") {
         fail("the Rattle kit's rt is not on the PATH. Put it there, or name the folder of an archive that was made before by FESOLOPI_ARCHIVE");
     }
