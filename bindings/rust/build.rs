@@ -1,5 +1,5 @@
 // Makes the proved archive by tools/archive and links it. FESOLOPI_ARCHIVE may name the folder of an archive
-// that was made before: the kit is then not needed.
+// that was made before, by its whole path: the kit is then not needed.
 use std::env;
 use std::path::{Path, PathBuf};
 use std::process::Command;
@@ -17,6 +17,8 @@ fn main() {
     println!("cargo:rerun-if-changed={}", archive.display());
     println!("cargo:rustc-link-search=native={}", folder.display());
     println!("cargo:rustc-link-lib=static=fesolopi");
+    // where the tests of the header find it
+    println!("cargo:rustc-env=FESOLOPI_FOLDER={}", folder.display());
 }
 
 /// Runs tools/archive, and says where the archive is.

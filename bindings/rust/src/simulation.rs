@@ -43,8 +43,8 @@ pub struct Report {
     pub events: u64,
 }
 
-/// A simulation and the tables that it lives in.
-#[derive(Clone, Debug, PartialEq)]
+/// A simulation and the tables that it lives in. Two are equal if their tables hold the same bits.
+#[derive(Clone, Debug, PartialEq, Eq)]
 pub struct Simulation {
     tables: Tables,
 }

@@ -1,7 +1,7 @@
 //! The five tables that a simulation lives in, as plain data.
 
 /// The tables, laid out as `docs/TABLES.md` says. They may hold anything and be of any length.
-#[derive(Clone, Debug, Default, PartialEq)]
+#[derive(Clone, Debug, Default)]
 pub struct Tables {
     /// The halt mark, the counts, the box's flags, and who lists whom.
     pub lists: Vec<u64>,
@@ -15,14 +15,18 @@ pub struct Tables {
     pub order: Vec<u8>,
 }
 
-impl Tables {
-    /// Whether two sets of tables hold the same bits: a NaN equals itself, and +0 differs from -0.
-    pub fn same_bits(&self, other: &Tables) -> bool {
-        let bits = |t: &[f64]| t.iter().map(|x| x.to_bits()).collect::<Vec<_>>();
+/// Tables are equal if they hold the same bits: a NaN equals itself, and +0 differs from -0.
+impl PartialEq for Tables {
+    fn eq(&self, other: &Tables) -> bool {
+        let same = |a: &[f64], b: &[f64]| {
+            a.len() == b.len() && a.iter().zip(b).all(|(x, y)| x.to_bits() == y.to_bits())
+        };
         self.lists == other.lists
-            && bits(&self.grains) == bits(&other.grains)
+            && same(&self.grains, &other.grains)
             && self.queue == other.queue
-            && bits(&self.events) == bits(&other.events)
+            && same(&self.events, &other.events)
             && self.order == other.order
     }
 }
+
+impl Eq for Tables {}

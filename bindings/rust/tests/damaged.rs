@@ -18,7 +18,7 @@ fn sound() -> Tables {
 fn answer(tables: Tables, rate: f64) -> Result<(), Error> {
     let mut simulation = Simulation::from_tables(tables.clone());
     let told = simulation.run(rate, 0);
-    assert!(simulation.tables().same_bits(&tables));
+    assert_eq!(simulation.tables(), &tables);
     told.map(|_| ())
 }
 
@@ -127,7 +127,7 @@ fn what_is_longer_than_needed_is_left_alone() {
     );
     assert!(tables.grains.pop().unwrap().is_nan());
     assert_eq!(tables.events.pop().map(f64::to_bits), Some((-0f64).to_bits()));
-    assert!(tables.same_bits(exact.tables()));
+    assert_eq!(&tables, exact.tables());
 }
 
 /// Reads all that there is to read, and counts it.

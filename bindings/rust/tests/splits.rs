@@ -37,7 +37,7 @@ fn two_runs_are_one() {
         let mut split = simulation.clone();
         let whole = simulation.run(rate, j + k);
         assert_eq!(in_two(&mut split, rate, j, k), whole);
-        assert!(simulation.tables().same_bits(split.tables()));
+        assert_eq!(simulation, split);
         let report = whole.unwrap();
         events += report.events;
         synchronised += u32::from(report.ending == Ending::Synchronised);
@@ -54,7 +54,7 @@ fn a_budget_of_none_does_nothing() {
     let before = simulation.clone();
     let report = simulation.run(1., 0).unwrap();
     assert_eq!((report.ending, report.clock, report.events), (Ending::Spent, before.clock(), 0));
-    assert!(simulation.tables().same_bits(before.tables()));
+    assert_eq!(simulation, before);
 }
 
 #[test]
@@ -67,6 +67,7 @@ fn a_split_run_halts_where_the_whole_one_does() {
     for j in 0..10 {
         let (mut whole, mut split) = (simulation.clone(), simulation.clone());
         assert_eq!(in_two(&mut split, 100., j, 20), whole.run(100., j + 20));
-        assert!(whole.halted().is_some() && whole.tables().same_bits(split.tables()));
+        assert_eq!(whole, split);
+        assert!(whole.halted().is_some());
     }
 }
