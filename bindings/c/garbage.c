@@ -1,5 +1,5 @@
-/* Calls start and run on tables of any length and any content, each in an allocation of its exact size, so that
- * valgrind sees a read or a write beyond. It also holds every answer to what the header says of it.
+/* Calls start and run on tables of any length and any content, each in an allocation of its exact size, so
+ * that valgrind sees a read or a write beyond. It also holds every answer to what the header says of it.
  *
  *   garbage [ROUNDS [SEED]]      tools/garbage builds it and runs it under valgrind */
 #include "../fesolopi.h"
@@ -28,37 +28,59 @@ static uint64_t draw(void) {
 static uint64_t below(uint64_t n) { return draw() % n; }
 
 static void must(bool holds, const char *what) {
-    if (holds) return;
+    if (holds)
+        return;
     printf("WRONG after %llu calls: %s\n", (unsigned long long)calls, what);
     exit(1);
 }
 
 static void *memory(size_t bytes) {
     void *at = malloc(bytes ? bytes : 1);
-    if (!at) exit(2);
+    if (!at)
+        exit(2);
     return at;
 }
 
 /* ---- numbers of every kind */
 
 static uint64_t number(void) {
-    static const uint64_t ends[] = {0,   1,   2,       5,         8,         9,          16,         17,         32,        33,
-                                    255, 256, 257, 1ull << 32, 1ull << 62, 1ull << 63, UINT64_MAX / 9, UINT64_MAX - 9, UINT64_MAX};
+    static const uint64_t ends[] = {0,
+                                    1,
+                                    2,
+                                    5,
+                                    8,
+                                    9,
+                                    16,
+                                    17,
+                                    32,
+                                    33,
+                                    255,
+                                    256,
+                                    257,
+                                    1ull << 32,
+                                    1ull << 62,
+                                    1ull << 63,
+                                    UINT64_MAX / 9,
+                                    UINT64_MAX - 9,
+                                    UINT64_MAX};
     return below(4) ? ends[below(sizeof ends / sizeof *ends)] : draw();
 }
 
 static double real(void) {
-    static const uint64_t ends[] = {0x0000000000000000, 0x8000000000000000, 0x0000000000000001, 0x3FF0000000000000,
-                                    0x4012000000000000, 0x4022000000000000, 0x4048000000000000, 0x4090000000000000,
-                                    0x7FEFFFFFFFFFFFFF, 0x7FF0000000000000, 0xFFF0000000000000, 0x7FF8000000000000,
-                                    0xFFFFFFFFFFFFFFFF, 0x7FF0000000000001, 0x3EB0000000000000, 0x4130000000000000};
+    static const uint64_t ends[] = {
+        0x0000000000000000, 0x8000000000000000, 0x0000000000000001, 0x3FF0000000000000,
+        0x4012000000000000, 0x4022000000000000, 0x4048000000000000, 0x4090000000000000,
+        0x7FEFFFFFFFFFFFFF, 0x7FF0000000000000, 0xFFF0000000000000, 0x7FF8000000000000,
+        0xFFFFFFFFFFFFFFFF, 0x7FF0000000000001, 0x3EB0000000000000, 0x4130000000000000};
     uint64_t bits = below(4) ? ends[below(sizeof ends / sizeof *ends)] : draw();
     double x;
     memcpy(&x, &bits, 8);
     return x;
 }
 
-static double between(double low, double high) { return low + (high - low) * (double)(draw() >> 11) / 9007199254740992.0; }
+static double between(double low, double high) {
+    return low + (high - low) * (double)(draw() >> 11) / 9007199254740992.0;
+}
 
 /* Any content for one place of a table. */
 static void put(int which, uint64_t place) {
@@ -81,19 +103,23 @@ static void make(int which, uint64_t length) {
     t[which].length = length;
     t[which].at = malloc(length * t[which].size);
     t[which].before = memory(length * t[which].size);
-    if (!t[which].at && length) exit(2);
-    for (uint64_t place = 0; place < length; place++) put(which, place);
+    if (!t[which].at && length)
+        exit(2);
+    for (uint64_t place = 0; place < length; place++)
+        put(which, place);
 }
 
 /* ---- the calls, held to the header */
 
 static void keep(void) {
-    for (int n = 0; n < TABLES; n++) memcpy(t[n].before, t[n].at, t[n].length * t[n].size);
+    for (int n = 0; n < TABLES; n++)
+        memcpy(t[n].before, t[n].at, t[n].length * t[n].size);
 }
 
 static bool kept(void) {
     bool same = true;
-    for (int n = 0; n < TABLES; n++) same = same && !memcmp(t[n].before, t[n].at, t[n].length * t[n].size);
+    for (int n = 0; n < TABLES; n++)
+        same = same && !memcmp(t[n].before, t[n].at, t[n].length * t[n].size);
     return same;
 }
 
@@ -102,21 +128,23 @@ static bool kept(void) {
 static uint64_t start(double l0, double l1, uint64_t count, uint64_t room) {
     uint64_t grain = 77;
     keep();
-    uint64_t answer =
-        fesolopi_start(l0, l1, below(2), below(2), count, room, PART(const double, INPUTS), PART(uint64_t, LISTS),
-                       PART(double, GRAINS), PART(uint64_t, QUEUE), PART(double, EVENTS), PART(uint8_t, ORDER), &grain);
+    uint64_t answer = fesolopi_start(l0, l1, below(2), below(2), count, room, PART(const double, INPUTS),
+                                     PART(uint64_t, LISTS), PART(double, GRAINS), PART(uint64_t, QUEUE),
+                                     PART(double, EVENTS), PART(uint8_t, ORDER), &grain);
     calls++;
     must(answer <= 9 && answer != 3, "a start's answer");
     answers[answer]++;
     must((answer == 4) ? grain < count : grain == 0, "the grain that is named");
-    if (answer == 1 || answer == 2 || answer == 4) must(kept(), "a refused start changes nothing");
+    if (answer == 1 || answer == 2 || answer == 4)
+        must(kept(), "a refused start changes nothing");
     return answer;
 }
 
 static uint64_t run(double rate, uint32_t budget) {
     double clock = 77;
     uint64_t done = 77, mark = 0;
-    if (t[LISTS].length) memcpy(&mark, t[LISTS].at, 8);
+    if (t[LISTS].length)
+        memcpy(&mark, t[LISTS].at, 8);
     keep();
     uint64_t answer = fesolopi_run(PART(uint64_t, LISTS), PART(double, GRAINS), PART(uint64_t, QUEUE),
                                    PART(double, EVENTS), PART(uint8_t, ORDER), rate, budget, &clock, &done);
@@ -128,7 +156,8 @@ static uint64_t run(double rate, uint32_t budget) {
         must(answer != 0 && answer != 11, "a mark is not run");
         must(kept() && clock == 0 && done == 0, "a refused run changes nothing and reports zeros");
     }
-    if (answer == 11) must(done == budget, "a spent budget");
+    if (answer == 11)
+        must(done == budget, "a spent budget");
     return answer;
 }
 
@@ -137,13 +166,14 @@ static uint64_t run(double rate, uint32_t budget) {
 /* Tables as a start needs them, or one of them longer, shorter or empty. */
 static uint64_t sized(double l0, double l1, uint64_t count, uint64_t room) {
     uint64_t need[TABLES];
-    uint64_t answer = fesolopi_needed(l0, l1, count, room, &need[INPUTS], &need[LISTS], &need[GRAINS], &need[QUEUE],
-                                      &need[EVENTS], &need[ORDER]);
+    uint64_t answer = fesolopi_needed(l0, l1, count, room, &need[INPUTS], &need[LISTS], &need[GRAINS],
+                                      &need[QUEUE], &need[EVENTS], &need[ORDER]);
     must(answer <= 2, "an answer on lengths");
     uint64_t odd = below(2 * TABLES), how = below(4);
     for (uint64_t n = 0; n < TABLES; n++) {
         uint64_t length = need[n];
-        if (n == odd) length = how == 0 ? 0 : how == 1 ? length + below(40) : length - (length > 0);
+        if (n == odd)
+            length = how == 0 ? 0 : how == 1 ? length + below(40) : length - (length > 0);
         make((int)n, length);
     }
     return answer;
@@ -155,7 +185,8 @@ static void any_start(void) {
     uint64_t count = below(3) ? below(6) : number(), room = below(3) ? 16 + below(20) : number();
     uint64_t refused = sized(l0, l1, count, room);
     uint64_t answer = start(l0, l1, count, room);
-    if (refused) must(answer == refused, "the lengths are refused as the start is");
+    if (refused)
+        must(answer == refused, "the lengths are refused as the start is");
     run(real(), (uint32_t)below(20));
 }
 
@@ -164,18 +195,25 @@ static void any_tables(void) {
     uint64_t head[6] = {below(2) ? below(12) : 0, below(8), 9 + below(8), 16 + below(9), below(3), below(3)};
     sized(9, 9 + 3 * (double)below(3), head[1], head[3]);
     for (uint64_t n = 0; n < 6 && n < t[LISTS].length; n++)
-        if (below(20)) memcpy(t[LISTS].at + 8 * n, &head[n], 8);
+        if (below(20))
+            memcpy(t[LISTS].at + 8 * n, &head[n], 8);
     run(below(2) ? 1 : real(), (uint32_t)below(20));
 }
 
-/* A place of a table, more often one in use: a count, an event among a cell's first, a heap place of a cell. */
+/* A place of a table, more often one in use: a count, an event among a cell's first, a heap place of a cell.
+ */
 static uint64_t aimed(int which, uint64_t cells, uint64_t room) {
-    if (below(4) == 0) return below(t[which].length);
+    if (below(4) == 0)
+        return below(t[which].length);
     switch (which) {
-    case QUEUE: return below(cells) * (1 + 4 * room) + below(13);
-    case EVENTS: return below(cells) * 10 * room + below(30);
-    case ORDER: return below(2) * 256 + below(cells);
-    default: return below(t[which].length);
+    case QUEUE:
+        return below(cells) * (1 + 4 * room) + below(13);
+    case EVENTS:
+        return below(cells) * 10 * room + below(30);
+    case ORDER:
+        return below(2) * 256 + below(cells);
+    default:
+        return below(t[which].length);
     }
 }
 
@@ -183,9 +221,11 @@ static uint64_t aimed(int which, uint64_t cells, uint64_t room) {
 static void damaged(double l0, double l1, uint64_t count, uint64_t room) {
     uint64_t need[TABLES];
     fesolopi_needed(l0, l1, count, room, &need[0], &need[1], &need[2], &need[3], &need[4], &need[5]);
-    for (int n = 0; n < TABLES; n++) make(n, need[n]);
+    for (int n = 0; n < TABLES; n++)
+        make(n, need[n]);
     for (uint64_t n = 0; n < count; n++) {
-        double grain[5] = {between(0.5, l0 - 0.5), between(0.5, l1 - 0.5), between(-2, 2), between(-2, 2), between(0, 1)};
+        double grain[5] = {between(0.5, l0 - 0.5), between(0.5, l1 - 0.5), between(-2, 2), between(-2, 2),
+                           between(0, 1)};
         memcpy(t[INPUTS].at + 40 * n, grain, 40);
     }
     uint64_t cells = need[QUEUE] / (1 + 4 * room), answer = start(l0, l1, count, room);
@@ -193,7 +233,8 @@ static void damaged(double l0, double l1, uint64_t count, uint64_t room) {
     for (int times = 0; times < 4 && answer < 5; times++) {
         answer = run(0.25, (uint32_t)below(40));
         must(answer != 2 && answer != 3 && answer != 10, "a sound run is not refused");
-        if (answer == 11) answer = 0;
+        if (answer == 11)
+            answer = 0;
     }
     for (uint64_t times = 0; times < 30; times++) {
         int which = LISTS + (int)below(TABLES - LISTS);
@@ -218,7 +259,8 @@ static void roots(void) {
     uint64_t answer = fesolopi_square_root(d, &root);
     calls++;
     must(answer == (d >= 0 ? 0 : 5), "a root's answer");
-    if (answer) must(root == 0, "no root is +0");
+    if (answer)
+        must(root == 0, "no root is +0");
 }
 
 int main(int words, char **word) {
@@ -229,10 +271,13 @@ int main(int words, char **word) {
         any_tables();
         damaged(between(9, 14), between(9, 14), below(9), 16 + below(33));
         roots();
-        if (n % 100 == 0) damaged(48, 48, 256, 256);
+        if (n % 100 == 0)
+            damaged(48, 48, 256, 256);
     }
-    for (int n = 0; n < TABLES; n++) free(t[n].at), free(t[n].before);
+    for (int n = 0; n < TABLES; n++)
+        free(t[n].at), free(t[n].before);
     printf("calls on garbage: %llu, seed %s; answers", (unsigned long long)calls, words > 2 ? word[2] : "1");
-    for (int n = 0; n < 12; n++) printf(" %d: %llu%s", n, (unsigned long long)answers[n], n < 11 ? "," : "\n");
+    for (int n = 0; n < 12; n++)
+        printf(" %d: %llu%s", n, (unsigned long long)answers[n], n < 11 ? "," : "\n");
     return 0;
 }
