@@ -126,9 +126,9 @@ static bool kept(void) {
 #define PART(of, which) (of *)t[which].at, t[which].length
 
 static uint64_t start(double l0, double l1, uint64_t count, uint64_t room) {
-    uint64_t grain = 77;
+    uint64_t grain = 77, flags = below(4);
     keep();
-    uint64_t answer = fesolopi_start(l0, l1, below(2), below(2), count, room, PART(const double, INPUTS),
+    uint64_t answer = fesolopi_start(l0, l1, flags & 1, flags & 2, count, room, PART(const double, INPUTS),
                                      PART(uint64_t, LISTS), PART(double, GRAINS), PART(uint64_t, QUEUE),
                                      PART(double, EVENTS), PART(uint8_t, ORDER), &grain);
     calls++;
@@ -192,7 +192,10 @@ static void any_start(void) {
 
 /* A run on garbage behind plausible counts, or behind none. */
 static void any_tables(void) {
-    uint64_t head[6] = {below(2) ? below(12) : 0, below(8), 9 + below(8), 16 + below(9), below(3), below(3)};
+    static const uint64_t least[6] = {0, 0, 9, 16, 0, 0}, kinds[6] = {12, 8, 8, 9, 3, 3};
+    uint64_t head[6];
+    for (int n = 0; n < 6; n++)
+        head[n] = least[n] + (n || below(2) ? below(kinds[n]) : 0);
     sized(9, 9 + 3 * (double)below(3), head[1], head[3]);
     for (uint64_t n = 0; n < 6 && n < t[LISTS].length; n++)
         if (below(20))
@@ -224,8 +227,10 @@ static void damaged(double l0, double l1, uint64_t count, uint64_t room) {
     for (int n = 0; n < TABLES; n++)
         make(n, need[n]);
     for (uint64_t n = 0; n < count; n++) {
-        double grain[5] = {between(0.5, l0 - 0.5), between(0.5, l1 - 0.5), between(-2, 2), between(-2, 2),
-                           between(0, 1)};
+        const double low[5] = {0.5, 0.5, -2, -2, 0}, high[5] = {l0 - 0.5, l1 - 0.5, 2, 2, 1};
+        double grain[5];
+        for (int m = 0; m < 5; m++)
+            grain[m] = between(low[m], high[m]);
         memcpy(t[INPUTS].at + 40 * n, grain, 40);
     }
     uint64_t cells = need[QUEUE] / (1 + 4 * room), answer = start(l0, l1, count, room);
@@ -269,7 +274,9 @@ int main(int words, char **word) {
     for (uint64_t n = 0; n < rounds; n++) {
         any_start();
         any_tables();
-        damaged(between(9, 14), between(9, 14), below(9), 16 + below(33));
+        double l0 = between(9, 14), l1 = between(9, 14);
+        uint64_t count = below(9), room = 16 + below(33);
+        damaged(l0, l1, count, room);
         roots();
         if (n % 100 == 0)
             damaged(48, 48, 256, 256);
