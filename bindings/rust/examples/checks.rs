@@ -20,22 +20,26 @@ fn largest() -> Simulation {
     Simulation::start(&domain, ROOM as u64, &grains).expect("an accepted start")
 }
 
-/// The same with every list and every event place in use: grain g is listed by cells g to g + 7, each cell
-/// holds 256 collisions of the two grains that it lists last, and cell 0 a synchronisation instead of one.
-fn full() -> Simulation {
+/// The same with every grain in eight cells, `wide` grains in each cell that lists any, and every event place
+/// of those cells in use: collisions of the two grains listed last, and one synchronisation in cell 0.
+fn full(wide: usize) -> Simulation {
     let mut t: Tables = largest().into_tables();
+    let groups = GRAINS / wide;
+    t.lists[6..].fill(0);
+    t.queue.fill(0);
     for grain in 0..GRAINS {
-        let cells = (0..8).map(|n| ((grain + n) % CELLS) as u64);
+        let cells = (0..8).map(|n| (grain / wide + groups * n) as u64);
         fill(&mut t.lists, 6 + 9 * grain, cells);
     }
-    for cell in 0..CELLS {
-        let grains = (0..8).map(|n| ((cell + GRAINS - n) % GRAINS) as u64);
+    for cell in 0..groups * 8 {
+        let first = cell % groups * wide;
+        let last = (first + wide - 1) as u64;
+        let grains = (first..first + wide).map(|n| n as u64);
         fill(&mut t.lists, 6 + 9 * GRAINS + 33 * cell, grains);
-        let pair = [6, 7].map(|n| ((cell + GRAINS - n) % GRAINS) as u64);
         t.queue[(1 + 4 * ROOM) * cell] = ROOM as u64;
         for place in 0..ROOM {
             let synchronisation = cell == 0 && place == 0;
-            let numbers = if synchronisation { [5, 0, 0, 0] } else { [1, pair[0], pair[1], 0] };
+            let numbers = if synchronisation { [5, 0, 0, 0] } else { [1, last - 1, last, 0] };
             let queue = (1 + 4 * ROOM) * cell + 1 + 4 * place;
             t.queue[queue..queue + 4].copy_from_slice(&numbers);
             let events = 10 * (ROOM * cell + place);
@@ -81,5 +85,6 @@ fn main() {
         run.run(1., 1_000_000).expect("a run that does not halt");
     }
     measure("after 20 synchronisations", run);
-    measure("every place in use", full());
+    measure("every event place in use", full(8));
+    measure("64 cells with 32 grains each", full(32));
 }
