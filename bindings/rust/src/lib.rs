@@ -23,6 +23,9 @@
 //!
 //! Nothing here panics on what tables hold: a run refuses what breaks a standing fact by number 10, and what
 //! reads them gives nothing where there is nothing.
+#![deny(unsafe_code)]
+
+#[allow(unsafe_code)]
 mod calls;
 mod error;
 mod event;

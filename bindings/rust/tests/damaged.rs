@@ -165,6 +165,11 @@ fn every_word_changed() {
             tried(changed_in(&tables, |t| t.grains[place] = bad));
         }
     }
+    for place in 0..tables.events.len() {
+        for bad in floats {
+            tried(changed_in(&tables, |t| t.events[place] = bad));
+        }
+    }
     for place in 0..tables.order.len() {
         for bad in [0, 8, 9, 255] {
             tried(changed_in(&tables, |t| t.order[place] = bad));

@@ -90,20 +90,28 @@ fn starts_that_halt() {
 fn runs_that_halt() {
     let mut visited = vec![still(); 32];
     visited.push(grain(1., 4.5, 1., 0.));
-    let cases: [(Halt, u64, Vec<Grain>); 10] = [
-        (Halt::NotFinite, 2, vec![grain(4.5, 5.5, 2f64.powi(-1015), 0.), grain(4.5, 2.5, 0., 1024.)]),
-        (Halt::ListFull, 2, visited),
-        (Halt::ListFull, 7, vec![grain(2.5, 2.5, -1., -0.875)]),
-        (Halt::ListedAlready, 7, vec![grain(2.5, 4.5, -1., 0.)]),
-        (Halt::ListedAlready, 1, vec![grain(2.4999999999999996, 4.5, 1., 0.)]),
-        (Halt::ListedAlready, 17, vec![grain(0., 1., -1., -1.)]),
-        (Halt::OnlyCell, 1, vec![grain(3.5, 4.5, -1., 0.)]),
-        (Halt::OnlyCell, 1, vec![grain(8.5, 4.5, 1., 0.)]),
-        (Halt::OnlyCell, 7, vec![grain(4.5, 4.5, 1., 1.)]),
-        (Halt::OnlyCell, 1, vec![grain(0.49999999999999994, 4.5, -1., 0.)]),
+    let four = vec![
+        grain(3.7, 3.9, 0.99, 0.65),
+        grain(4.2, 5.7, -0.24, -0.38),
+        grain(2.3, 2.2, 0.53, 0.84),
+        grain(2.6, 2., 0.12, 0.95),
     ];
-    for (by, whole, grains) in cases {
-        let mut simulation = Simulation::start(&BOX, 64, &grains).unwrap();
+    // the room, and the whole events before the halt, as the oracle's model has them
+    let cases: [(Halt, u64, u64, Vec<Grain>); 11] = [
+        (Halt::NotFinite, 64, 2, vec![grain(4.5, 5.5, 2f64.powi(-1015), 0.), grain(4.5, 2.5, 0., 1024.)]),
+        (Halt::EventsFull, 16, 5, four),
+        (Halt::ListFull, 64, 2, visited),
+        (Halt::ListFull, 64, 7, vec![grain(2.5, 2.5, -1., -0.875)]),
+        (Halt::ListedAlready, 64, 7, vec![grain(2.5, 4.5, -1., 0.)]),
+        (Halt::ListedAlready, 64, 1, vec![grain(2.4999999999999996, 4.5, 1., 0.)]),
+        (Halt::ListedAlready, 64, 17, vec![grain(0., 1., -1., -1.)]),
+        (Halt::OnlyCell, 64, 1, vec![grain(3.5, 4.5, -1., 0.)]),
+        (Halt::OnlyCell, 64, 1, vec![grain(8.5, 4.5, 1., 0.)]),
+        (Halt::OnlyCell, 64, 7, vec![grain(4.5, 4.5, 1., 1.)]),
+        (Halt::OnlyCell, 64, 1, vec![grain(0.49999999999999994, 4.5, -1., 0.)]),
+    ];
+    for (by, room, whole, grains) in cases {
+        let mut simulation = Simulation::start(&BOX, room, &grains).unwrap();
         let mut done = 0;
         let halt = loop {
             match simulation.run(1., 1000) {
