@@ -12,6 +12,7 @@ mod random;
 mod replay;
 mod rust;
 mod starts;
+mod tables;
 mod text;
 mod vectors;
 mod walk;
