@@ -10,6 +10,9 @@ pub struct Figures {
     /// Events after each of which the whole state was compared; those of them inside the domain.
     pub events: u64,
     pub inside: u64,
+    /// The events by their kind, and by the most cells that a box of their size has.
+    pub kinds: BTreeMap<u64, u64>,
+    pub cells: BTreeMap<u64, u64>,
     /// Runs of other budgets than 1, and the events in them.
     pub splits: u64,
     pub split_events: u64,
@@ -23,6 +26,11 @@ pub struct Figures {
 
 pub fn count(tally: &mut BTreeMap<u64, u64>, number: u64) {
     *tally.entry(number).or_default() += 1;
+}
+
+/// The class of a box with so many cells.
+pub fn class(cells: usize) -> u64 {
+    [9, 20, 64].into_iter().find(|&most| cells as u64 <= most).unwrap_or(256)
 }
 
 /// A tally as `number: how many, ..`.
@@ -44,6 +52,8 @@ impl Figures {
         println!("events compared, whole tables after each: {events}");
         println!("  inside the domain, with the published Rust: {inside}");
         println!("  outside it, with the model: {}", events - inside);
+        println!("  by kind (docs/TABLES.md): {}", listed(&self.kinds));
+        println!("  by cells of the box, up to 9, 20, 64 and 256: {}", listed(&self.cells));
         println!("runs of j+k, and of j and k: {splits}, over {split_events} events");
         println!("changes of the rate: {rates}");
         println!("runs that left the domain");

@@ -19,17 +19,26 @@ pub fn trial_start(r: &mut Random) -> Start {
     }
 }
 
+/// A rate, seldom one of the ends of its range: then nearly every event is a synchronisation, or none.
+pub fn trial_rate(r: &mut Random) -> f64 {
+    if r.once_in(6) {
+        random_rate(r)
+    } else {
+        r.between(0.5, 6.)
+    }
+}
+
 fn of_size(r: &mut Random, lengths: [f64; 2], room: u64, grains: u64) -> Start {
     let periodic = r.pick(&[[true, true], [true, false], [false, true], [false, false]]);
-    let rate = random_rate(r);
+    let rate = trial_rate(r);
     start_with(r, Start { lengths, periodic, rate, room, grains: Vec::new() }, grains)
 }
 
-/// 9 to 20 cells, room 16 to 32, up to a dozen grains.
+/// 9 to 20 cells, room 16 to 32, up to 22 grains.
 pub fn small_start(r: &mut Random) -> Start {
     let lengths = [short_length(r), short_length(r)];
     let room = one_of([16, 24, 32, 16 + r.below(17)], r);
-    let grains = r.below(1 + room / 2).min(1 + r.below(13));
+    let grains = r.below(2 + 2 * room / 3);
     of_size(r, lengths, room, grains)
 }
 

@@ -2,17 +2,16 @@
 // while it is inside the domain, beside the model always, whole tables compared after every event.
 use crate::calls::{run, start as begin, Counts, Report, SPENT};
 use crate::equal::{holds_same, holds_state, still_spoilt, Beyond, Difference};
-use crate::figures::{count, Figures};
+use crate::figures::{class, count, Figures};
 use crate::guarded::Side;
 use crate::lent::Lent;
-use crate::starts::{one_of, words};
+use crate::starts::{one_of, trial_rate, words};
 use oracle::domain::equal_times;
 use oracle::model::grid::cells_along;
 use oracle::model::run::{Started, Told};
 use oracle::model::state::State;
 use oracle::random::Random;
 use oracle::rust::{Published, WithRules};
-use oracle::starts::random_rate;
 use oracle::tables::needed;
 use oracle::text::Start;
 
@@ -57,10 +56,10 @@ pub fn follow(
     let mut random = Random(seed);
     figures.starts += 1;
     let Some(model) = started(start, &mut random, &mut ground.single, figures)? else { return Ok(()) };
-    let limit = random.pick(&[40, 200, 1000, 3000, 10_000]) * 20_000 / (20_000 + words(start));
+    let limit = 20 + random.pick(&[40, 200, 1000, 3000]) * 40_000 / (40_000 + words(start));
     let (rust, rate) = (Some(WithRules::start(start)), start.rate);
     let mut walk = Walk { ground, figures, meddle, random, model, rust, rate, events: 0 };
-    walk.compared(0)?;
+    walk.compared()?;
     walk.go(limit)
 }
 
@@ -134,7 +133,7 @@ impl Walk<'_> {
     fn go(&mut self, limit: u64) -> Result<(), Fault> {
         while self.events < limit {
             if self.random.once_in(40) {
-                self.rate = random_rate(&mut self.random);
+                self.rate = trial_rate(&mut self.random);
                 self.figures.rates += 1;
             }
             let number = if self.random.once_in(60) { self.split()? } else { self.event()? };
@@ -153,6 +152,7 @@ impl Walk<'_> {
         let told = run(&mut self.ground.single, self.rate, 1);
         self.events += 1;
         (self.meddle)(self.events, &mut self.ground.single);
+        let kind = self.model.queues[self.model.heap[0] as usize].places[0].kind;
         let done = self.model.step(self.rate);
         let number = match done {
             Ok(true) => 0,
@@ -165,7 +165,11 @@ impl Walk<'_> {
             if let Some(rust) = &mut self.rust {
                 rust.step(self.rate);
             }
-            self.compared(1)?;
+            let inside = self.compared()?;
+            self.figures.events += 1;
+            self.figures.inside += u64::from(inside);
+            count(&mut self.figures.kinds, kind);
+            count(&mut self.figures.cells, class(self.model.members.len()));
         } else {
             self.holds(&self.model)?;
         }
@@ -177,22 +181,17 @@ impl Walk<'_> {
         holds_state(&self.ground.single, s, Beyond::Junk).map_err(differs)
     }
 
-    /// Compares the tables with the Rust's state inside the domain, with the model's outside it; counts so
-    /// many events.
-    fn compared(&mut self, events: u64) -> Result<(), Fault> {
-        self.figures.events += events;
+    /// Compares the tables with the Rust's state inside the domain, with the model's outside it. Says which.
+    fn compared(&mut self) -> Result<bool, Fault> {
         let inside = self.rust.as_ref().map(|rust| State { room: self.model.room, ..rust.picture() });
         match inside {
-            Some(picture) if equal_times(&picture).is_none() => {
-                self.figures.inside += events;
-                self.holds(&picture)
-            }
+            Some(picture) if equal_times(&picture).is_none() => self.holds(&picture).map(|()| true),
             left => {
                 if left.is_some() {
                     self.figures.equal_times += 1;
                     self.rust = None;
                 }
-                self.holds(&self.model)
+                self.holds(&self.model).map(|()| false)
             }
         }
     }

@@ -14,7 +14,7 @@ pub struct Base {
 }
 
 impl Base {
-    /// Draws until a start is accepted. It may be halted, then or later.
+    /// Draws until a start is accepted. Few of those that halt, then or later, are kept.
     pub fn new(r: &mut Random) -> Base {
         loop {
             let start = if r.once_in(4) { trial_start(r) } else { small_start(r) };
@@ -22,6 +22,9 @@ impl Base {
             let mut state = *state;
             for _ in 0..r.below(12) {
                 state.run(random_rate(r), r.below(24) as u32);
+            }
+            if state.mark != 0 && !r.once_in(4) {
+                continue;
             }
             let tables = Tables::of(&state);
             return Base { start, state, tables };

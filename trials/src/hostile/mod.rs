@@ -4,7 +4,9 @@ mod base;
 mod others;
 mod places;
 mod runs;
+mod standing;
 mod starts;
+mod tables;
 mod values;
 
 use crate::figures::listed;
