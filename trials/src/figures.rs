@@ -17,9 +17,11 @@ pub struct Figures {
     pub splits: u64,
     pub split_events: u64,
     pub rates: u64,
-    /// How runs left the domain: equal times (compared further), a halt; and how many never did.
+    /// How runs left the domain: by equal times, which were compared further, or by a halt; halts after
+    /// equal times; and the runs that came to no halt.
     pub equal_times: u64,
     pub halted: BTreeMap<u64, u64>,
+    pub halted_later: BTreeMap<u64, u64>,
     pub ended: u64,
     pub mismatches: u64,
 }
@@ -56,9 +58,9 @@ impl Figures {
         println!("  by cells of the box, up to 9, 20, 64 and 256: {}", listed(&self.cells));
         println!("runs of j+k, and of j and k: {splits}, over {split_events} events");
         println!("changes of the rate: {rates}");
-        println!("runs that left the domain");
-        println!("  by equal times (compared further): {}", self.equal_times);
-        println!("  by a halt, by number: {}", listed(&self.halted));
+        println!("runs that left the domain by a halt, by number: {}", listed(&self.halted));
+        println!("runs that left it by equal times, and were compared further: {}", self.equal_times);
+        println!("  of them halted later, by number: {}", listed(&self.halted_later));
         println!("runs that came to their last event: {}", self.ended);
         println!("mismatches: {}", self.mismatches);
     }

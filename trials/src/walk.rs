@@ -138,7 +138,8 @@ impl Walk<'_> {
             }
             let number = if self.random.once_in(60) { self.split()? } else { self.event()? };
             if (5..=9).contains(&number) {
-                count(&mut self.figures.halted, number);
+                let Figures { halted, halted_later, .. } = &mut *self.figures;
+                count(if self.rust.is_some() { halted } else { halted_later }, number);
                 return still_halted(&mut self.ground.single, &self.model, &mut self.random)
                     .map_err(|what| self.fault(what));
             }

@@ -21,6 +21,9 @@ use std::time::{Duration, Instant};
 /// So many cases in a row begin from the same state.
 const BLOCK: u64 = 128;
 
+/// After so many faults there is no need for more.
+const ENOUGH: u64 = 10;
+
 /// Called after each call with the tables: a test meddles with them here.
 pub type Meddle<'a> = &'a mut dyn FnMut(&mut Lent);
 
@@ -97,7 +100,7 @@ pub fn hostile(seconds: u64, seed: u64) -> bool {
     let mut block = base(seed, 0);
     for number in 0.. {
         if number % BLOCK == 0 {
-            if Instant::now() >= end {
+            if Instant::now() >= end || wrong >= ENOUGH {
                 break;
             }
             block = base(seed, number);
