@@ -1,7 +1,7 @@
 // The differential runs: starts one after another until the time is over, and the smallest reproduction of
 // a mismatch.
 use crate::figures::Figures;
-use crate::starts::trial_start;
+use crate::starts::{extreme_starts, trial_start};
 use crate::walk::{follow, Fault, Ground};
 use oracle::crafted::known_starts;
 use oracle::random::Random;
@@ -12,7 +12,7 @@ use std::time::{Duration, Instant};
 pub fn differential(seconds: u64, seed: u64) -> bool {
     let (mut random, mut figures, mut ground) = (Random(seed), Figures::default(), Ground::default());
     let end = Instant::now() + Duration::from_secs(seconds);
-    for start in known_starts() {
+    for start in known_starts().into_iter().chain(extreme_starts(&mut random)) {
         tried(&start, random.bits(), &mut ground, &mut figures);
     }
     while Instant::now() < end && figures.mismatches == 0 {

@@ -75,7 +75,7 @@ impl Lent {
         self.order.copy_from_slice(&t.order);
     }
 
-    /// The tables of another, at the other end.
+    /// The tables of another.
     pub fn copy(&mut self, other: &Lent, side: Side) {
         self.place(other.lengths(), side);
         self.lists.copy_from_slice(&other.lists);

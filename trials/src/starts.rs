@@ -60,6 +60,19 @@ fn middling_start(r: &mut Random) -> Start {
     of_size(r, lengths, room, grains)
 }
 
+/// The largest box, count and room.
+pub fn largest_start(r: &mut Random) -> Start {
+    of_size(r, [48., 48.], 256, 256)
+}
+
+/// The least and the most of everything.
+pub fn extreme_starts(r: &mut Random) -> Vec<Start> {
+    let mut all =
+        vec![of_size(r, [9., 9.], 16, 0), of_size(r, [48., 48.], 16, 0), of_size(r, [9., 48.], 256, 1)];
+    all.extend((0..8).map(|_| largest_start(r)));
+    all
+}
+
 /// A start with one or two numbers out of range.
 fn refused_start(r: &mut Random) -> Start {
     let mut start = small_start(r);

@@ -1,5 +1,5 @@
 // The state that a block of cases begins from: a start and some runs, by the model.
-use crate::starts::{small_start, trial_start};
+use crate::starts::{largest_start, small_start, trial_start};
 use oracle::model::run::Started;
 use oracle::model::state::State;
 use oracle::random::Random;
@@ -17,7 +17,11 @@ impl Base {
     /// Draws until a start is accepted. Few of those that halt, then or later, are kept.
     pub fn new(r: &mut Random) -> Base {
         loop {
-            let start = if r.once_in(4) { trial_start(r) } else { small_start(r) };
+            let start = match r.below(1000) {
+                0 => largest_start(r),
+                1..250 => trial_start(r),
+                _ => small_start(r),
+            };
             let Started::Done(state) = start.model() else { continue };
             let mut state = *state;
             for _ in 0..r.below(12) {
