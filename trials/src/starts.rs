@@ -14,7 +14,8 @@ pub fn trial_start(r: &mut Random) -> Start {
     match r.below(64) {
         0 => random_start(r),
         1 => refused_start(r),
-        2..=5 => middling_start(r),
+        2 => wide_start(r),
+        3..=6 => middling_start(r),
         _ => small_start(r),
     }
 }
@@ -57,6 +58,14 @@ fn middling_start(r: &mut Random) -> Start {
     let lengths = [r.between(9., 24.), r.between(9., 24.)];
     let room = r.pick(&[32, 48, 64, 128]);
     let grains = r.below(61);
+    of_size(r, lengths, room, grains)
+}
+
+/// 64 to 256 cells, room 16 to 64, up to 256 grains.
+fn wide_start(r: &mut Random) -> Start {
+    let lengths = [r.between(24., 48.), r.between(24., 48.)];
+    let room = r.pick(&[16, 24, 32, 64]);
+    let grains = r.below(257);
     of_size(r, lengths, room, grains)
 }
 
