@@ -1,4 +1,5 @@
 // The oracle: the published Rust, a model written from document 01, and what compares them.
+pub mod account;
 pub mod compare;
 pub mod crafted;
 pub mod differ;
@@ -11,6 +12,7 @@ pub mod mutate;
 pub mod random;
 pub mod replay;
 pub mod rust;
+pub mod scenes;
 pub mod starts;
 pub mod tables;
 pub mod text;

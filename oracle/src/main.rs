@@ -1,5 +1,5 @@
 // The oracle's commands.
-use oracle::{compare, crafted, differ, dumps, lost, replay, vectors};
+use oracle::{account, compare, crafted, differ, dumps, lost, replay, vectors};
 
 const USAGE: &str = "usage:
   oracle dump published|rules|model [EVENTS..]   start text on stdin; dumps after so many events
@@ -8,7 +8,8 @@ const USAGE: &str = "usage:
   oracle differ                                  what docs/DIFFERENCES.md says, by running it
   oracle lost                                    the grain that the text as published loses
   oracle vectors FOLDER                          files for other programs to replay
-  oracle leaves                                  those of single schedulings and the like as words, on stdout";
+  oracle leaves                                  those of single schedulings and the like as words, on stdout
+  oracle replay FOLDER                           what the program replay reads, and what it must write";
 
 fn main() {
     let arguments: Vec<String> = std::env::args().skip(1).collect();
@@ -21,6 +22,7 @@ fn main() {
         ["vectors", folder] => vectors::vectors(folder),
         ["lost"] => passed(lost::lost()),
         ["leaves"] => replay::leaves(),
+        ["replay", folder] => account::replay(folder),
         _ => Err(USAGE.into()),
     };
     if let Err(message) = done {

@@ -51,11 +51,11 @@ impl Tables {
 
     /// Writes a state into tables that are long enough. What lies beyond is left as it is.
     pub fn write(&mut self, s: &State) {
-        over(&mut self.lists, lists(s));
-        over(&mut self.grains, grains(s));
-        over(&mut self.queue, queue(s));
-        over(&mut self.events, events(s));
-        over(&mut self.order, s.heap.iter().chain(&s.look).map(|&n| byte(n)).collect());
+        over(&mut self.lists, &lists(s));
+        over(&mut self.grains, &grains(s));
+        over(&mut self.queue, &queue(s));
+        over(&mut self.events, &events(s));
+        over(&mut self.order, &order(s));
     }
 
     /// The state that tables hold, with every number as it stands there; none exactly where a run is
@@ -93,29 +93,48 @@ impl Tables {
         })
     }
 
+    /// A copy of the first places of each table.
+    pub fn first(&self, [lists, grains, queue, events, order]: [usize; 5]) -> Tables {
+        Tables {
+            lists: self.lists[..lists].to_vec(),
+            grains: self.grains[..grains].to_vec(),
+            queue: self.queue[..queue].to_vec(),
+            events: self.events[..events].to_vec(),
+            order: self.order[..order].to_vec(),
+        }
+    }
+
+    /// Writes other tables over the first places of these.
+    pub fn put_first(&mut self, other: &Tables) {
+        over(&mut self.lists, &other.lists);
+        over(&mut self.grains, &other.grains);
+        over(&mut self.queue, &other.queue);
+        over(&mut self.events, &other.events);
+        over(&mut self.order, &other.order);
+    }
+
     pub fn lengths(&self) -> [usize; 5] {
         let Tables { lists, grains, queue, events, order } = self;
         [lists.len(), grains.len(), queue.len(), events.len(), order.len()]
     }
 
+    /// Every place as a word, in five parts.
+    pub fn parts(&self) -> [Vec<u64>; 5] {
+        let floats = |list: &[f64]| list.iter().map(|x| x.to_bits()).collect();
+        let order = self.order.iter().map(|&n| n.into()).collect();
+        [self.lists.clone(), floats(&self.grains), self.queue.clone(), floats(&self.events), order]
+    }
+
     /// Every place as a word, table after table: two are equal exactly if their bits are.
     pub fn words(&self) -> impl Iterator<Item = u64> + '_ {
-        let lists = self.lists.iter().copied();
-        let grains = self.grains.iter().map(|x| x.to_bits());
-        let queue = self.queue.iter().copied();
-        let events = self.events.iter().map(|x| x.to_bits());
-        lists.chain(grains).chain(queue).chain(events).chain(self.order.iter().map(|&n| n.into()))
+        self.parts().into_iter().flatten()
     }
 }
 
 // ---- what each table holds
 
-fn over<T: Copy>(table: &mut [T], items: Vec<T>) {
-    table[..items.len()].copy_from_slice(&items);
-}
-
-fn byte(n: u64) -> u8 {
-    u8::try_from(n).expect("a cell number or a heap index is below 256")
+fn over<T: Copy>(table: &mut [T], items: &[T]) {
+    table[..items.len()].copy_from_slice(items);
 }
 
 fn lists(s: &State) -> Vec<u64> {
@@ -152,6 +171,11 @@ fn events(s: &State) -> Vec<f64> {
         out.extend(e.floats());
     }
     out
+}
+
+fn order(s: &State) -> Vec<u8> {
+    let byte = |&n: &u64| u8::try_from(n).expect("a cell number or a heap index is below 256");
+    s.heap.iter().chain(&s.look).map(byte).collect()
 }
 
 // ---- and back
