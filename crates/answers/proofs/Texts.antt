@@ -27,7 +27,7 @@ flag-back true = refl
 flag-back false = refl
 
 -- the input that was read, but for grains past the 32nd
-again : Input → Input
+abbrev again : Input → Input
 again i = record { l0 = i .l0; l1 = i .l1; p0 = i .p0; p1 = i .p1; rate = i .rate; grains = grainsFrom (rowsOf 32 (i .grains)) 0 (length (i .grains)) }
 
 read-again : (i : Input) → inputOf (readOf i) ≡ again i
@@ -61,5 +61,5 @@ unfolding answered
 answer-malformed s none = by (fineOf (closedOf (feedAll startOf s))) refl
   where
     by : (x : Bool) → fineOf (closedOf (feedAll startOf s)) ≡ x → pick (fineOf (closedOf (feedAll startOf s))) (answerTo (inputOf (closedOf (feedAll startOf s)))) (answerOf Malformed) ≡ answerOf Malformed
-    by true e = let a = accepted-text s e in absurd (none (a .input) (a .words) (a .text))
+    by true e = let a = accepted-text s e in absurd (none (a .input) (a .input-words) (a .is-text))
     by false e = rw e

@@ -3,7 +3,7 @@ use mathlib.Core.Path.{refl}
 use Rattle.checks.proofs.Cut.{less-rows}
 use Rattle.answers.proofs.RowLaws.{show-none, show-more}
 use borrow.Author.Needs.{needs}
-use Prim.Native.Nat.{ℕ}
+use Prim.Native.Nat.{ℕ, _<_}
 use borrow.Fn.Kinds.{In}
 use borrow.Fn.PlainCycle.{Measures, is, falls, and}
 use Rattle.answers.proofs.rows.show_rows.Reads as show-rows
