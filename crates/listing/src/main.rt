@@ -58,14 +58,18 @@ fn read_all() -> Turn
     turn
 }
 
-fn main() {
-    let turn = read_all();
-    if turn.failed || turn.more {
-        return;
-    }
+// The text is over: its answer is written.
+fn write_answer(reader: Reader) {
     let mut out = io::buffer();
-    let n = answers::answer(turn.reader, &mut out);
+    let n = answers::answer(reader, &mut out);
     if !io::write_all(STDOUT_FILENO, &out[..n]) {
         os::fail(b"standard output");
+    }
+}
+
+fn main() {
+    let turn = read_all();
+    if !turn.failed && !turn.more {
+        write_answer(turn.reader);
     }
 }
