@@ -5,6 +5,7 @@ mod differ;
 mod domain;
 mod dumps;
 mod leaves;
+mod listings;
 mod lost;
 mod model;
 mod mutate;
@@ -26,7 +27,8 @@ const USAGE: &str = "usage:
   oracle differ                                  what docs/DIFFERENCES.md says, by running it
   oracle lost                                    the grain that the text as published loses
   oracle vectors FOLDER                          files for other programs to replay
-  oracle leaves                                  those of single schedulings and the like as words, on stdout";
+  oracle leaves                                  those of single schedulings and the like as words, on stdout
+  oracle listings FOLDER                         texts for the listing program, and their answers";
 
 fn main() {
     let arguments: Vec<String> = std::env::args().skip(1).collect();
@@ -39,6 +41,7 @@ fn main() {
         ["vectors", folder] => vectors::vectors(folder),
         ["lost"] => passed(lost::lost()),
         ["leaves"] => replay::leaves(),
+        ["listings", folder] => listings::listings(folder),
         _ => Err(USAGE.into()),
     };
     if let Err(message) = done {
