@@ -1,0 +1,5 @@
+pub mod NineCells
+pub mod RowLaws
+pub mod RunLaws
+pub mod Served
+pub mod Texts
