@@ -41,6 +41,7 @@ pub fn crafted() -> Vec<Crafted> {
     let least = f64::from_bits(1);
     let still = grain(4.5, 4.5, 0., 0.);
     let halted = |number, events| Answer::Halted { number, events };
+    let slow = grain(4.5, 4.5, 1., 0.5);
     let crowd = vec![still; 33];
     let mut visited = vec![still; 32];
     visited.push(grain(1., 4.5, 1., 0.));
@@ -74,6 +75,7 @@ pub fn crafted() -> Vec<Crafted> {
             halted(5, 2),
         ),
         with(case("6 at start", &[grain(1.5, 1.5, 1., 0.5); 4], Answer::HaltedAtStart(6)), |s| s.room = 16),
+        with(case("6 in a run", &[slow, slow, slow, grain(2., 4.5, 2., 0.5)], halted(6, 1)), |s| s.room = 16),
         case("7 at start, a 33rd grain", &crowd, Answer::HaltedAtStart(7)),
         case("7 in a run, a 33rd grain", &visited, halted(7, 2)),
         case("7 in a run, a 9th cell", &[grain(2.5, 2.5, -1., -0.875)], halted(7, 7)),
@@ -142,10 +144,14 @@ pub fn refusals() -> bool {
     wrong == 0
 }
 
-/// A sound state with two grains, after three events.
-fn sound() -> State {
-    let start = Start::small([true, false], 64, &[grain(1.25, 4.75, 0.5, 0.25), grain(6.1, 4.6, -0.75, 0.3)]);
-    match start.model() {
+/// A start with two grains, for `sound`.
+pub fn sound_start() -> Start {
+    Start::small([true, false], 64, &[grain(1.25, 4.75, 0.5, 0.25), grain(6.1, 4.6, -0.75, 0.3)])
+}
+
+/// The state that it leaves after three events.
+pub fn sound() -> State {
+    match sound_start().model() {
         Started::Done(mut s) => {
             s.run(1., 1);
             s.run(1., 2);
@@ -156,7 +162,7 @@ fn sound() -> State {
 }
 
 /// States that break one standing fact each, or several checks at once, with the run's answer.
-fn checks() -> Vec<(&'static str, State, f64, u64)> {
+pub fn checks() -> Vec<(&'static str, State, f64, u64)> {
     let changed = |change: fn(&mut State)| {
         let mut s = sound();
         change(&mut s);

@@ -1,4 +1,5 @@
 // The oracle: the published Rust, a model written from document 01, and what compares them.
+mod account;
 mod compare;
 mod crafted;
 mod differ;
@@ -11,7 +12,9 @@ mod mutate;
 mod random;
 mod replay;
 mod rust;
+mod scenes;
 mod starts;
+mod tables;
 mod text;
 mod vectors;
 mod walk;
@@ -26,7 +29,8 @@ const USAGE: &str = "usage:
   oracle differ                                  what docs/DIFFERENCES.md says, by running it
   oracle lost                                    the grain that the text as published loses
   oracle vectors FOLDER                          files for other programs to replay
-  oracle leaves                                  those of single schedulings and the like as words, on stdout";
+  oracle leaves                                  those of single schedulings and the like as words, on stdout
+  oracle replay FOLDER                           what the program replay reads, and what it must write";
 
 fn main() {
     let arguments: Vec<String> = std::env::args().skip(1).collect();
@@ -39,6 +43,7 @@ fn main() {
         ["vectors", folder] => vectors::vectors(folder),
         ["lost"] => passed(lost::lost()),
         ["leaves"] => replay::leaves(),
+        ["replay", folder] => account::replay(folder),
         _ => Err(USAGE.into()),
     };
     if let Err(message) = done {

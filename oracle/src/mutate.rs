@@ -59,7 +59,7 @@ fn number(r: &mut Random, near: u64) -> u64 {
     }
 }
 
-fn mutate(s: &mut State, r: &mut Random) {
+pub fn mutate(s: &mut State, r: &mut Random) {
     let cells = s.members.len();
     let cell = r.below(cells as u64) as usize;
     let grain = (!s.grains.is_empty()).then(|| r.below(s.grains.len() as u64) as usize);

@@ -158,3 +158,7 @@ lines-more time i n l h a b =
 
 pub listed-is : (time n : ℕ) (l : List ℕ) → n ≤ 32 → bytes "time,index,x,y,vx,vy,val\r\n" ++ listingLines time 0 (grainsFrom l 0 (n - 0)) ≡ listed time n l
 listed-is time n l h = let e : n - 0 ≡ n = omega arith in simp (le-ltb 32 n h) (ap (λ (k : ℕ). listingOf time (grainsFrom l 0 k)) e)
+
+-- ONLY ONE OUTCOME FITS what a writer promises: the list afterwards, and the place behind the text
+pub one-put : (at : ℕ) (t s u v : List ℕ) (j k : ℕ) → Put at t s u j → Put at t s v k → (u ≡ v) × (j ≡ k)
+one-put at t s u v j k p q = (p .written ∙ sym (q .written), p .place ∙ sym (q .place))

@@ -23,16 +23,16 @@ use Rattle.model.specs.Doing.{Whole}
 use Rattle.model.specs.Run.{How, synchronised, spent, refused}
 use Rattle.model.specs.Standing.{All, Rising, Once, EachCell, EachGrain, EachEvent, Standing}
 use Rattle.model.specs.Sound.{Named, Held, Stands}
-use Rattle.model.specs.Check.{runAll, followBy}
+use Rattle.model.specs.Check.{runAll}
 use Rattle.model.specs.Reached.{most, Reached, StepOf, steps}
 use Rattle.model.proofs.Lists.{clash}
 use Rattle.model.proofs.Queue.{all-to}
-use Rattle.model.proofs.Keeps.{root-first}
+use Rattle.model.proofs.Keeps.{head-is, root-first}
 use Rattle.model.proofs.Plans.{cells-some}
 use Rattle.model.proofs.Steps.{first-some, step-clock}
 use Rattle.model.proofs.Counts.{counts, stepAt}
 use Rattle.model.proofs.Stands.{sound-fitted, standing}
-use Rattle.model.proofs.Whole.{rated-later, runs, whole}
+use Rattle.model.proofs.Whole.{followBy, rated-later, runs, whole}
 use Rattle.model.proofs.Reached.{reached-well, counted-runs, steps-stand}
 
 -- ---- 1. "a run of j+k events at one accepted sync rate (the sum within the budget's range) answers and leaves the same, event counts added, as ..."
@@ -104,11 +104,7 @@ at-least t (x ∷ xs) r = (r .0, all-to (λ e. T (le (x .time) (e .time))) (λ e
 
 module _ (v : State) (st : Stands v) where
   head-first : (c : ℕ) → c < cells (v .box) → T (le ((head v) .time) (headTime (queue v c)))
-  head-first c C = subst (λ (t : Float). T (le t (headTime (queue v c)))) (is (queue v (first v)) (first-some v st)) (root-first v (st .sound) (cells-some (v .box)) c C)
-    where
-      is : (l : List Place) → 0 < length l → headTime l ≡ (headPlace l) .time
-      is [] h = absurd (omega arith)
-      is (x ∷ xs) h = refl
+  head-first c C = subst (λ (t : Float). T (le t (headTime (queue v c)))) (head-is (queue v (first v)) (first-some v st)) (root-first v (st .sound) (cells-some (v .box)) c C)
 
   rooted : EachEvent v (λ c e. T (le ((head v) .time) (e .time)))
   rooted c C = from (queue v c) (head-first c C) (st .sound .queues c C .rising)

@@ -16,7 +16,8 @@ use Rattle.order.proofs.Cut.{cut-mono}
 use Rattle.order.specs.Numbers.{one, half, two, fortyeight}
 use Rattle.model.specs.FromPToC.{width, firstCell, endCell}
 use Rattle.order.proofs.Mono.{plain, positive-plain, le→fr, div-is, add-mono, sub-mono, div-mono, num-pos}
-use Rattle.model.proofs.Quarters.{cnt, Facts, passed, tested, nth, positive-no-nan, quarter, half-plain}
+use Rattle.root.proofs.Cases.{no-nan}
+use Rattle.model.proofs.Quarters.{cnt, Facts, passed, tested, nth, quarter, half-plain}
 use Rattle.model.proofs.Kernels.{cut, half-self, two-positive, max-cut-ge, min-cut-le, cut-count, cnt-is, quotient-plain, one-plain, fortyeight-plain}
 
 -- ---- fractions: A/P ≤ (i+5)/4, i/4 ≤ a/p, a/p < (k+1) c/d, 2 ≤ c/d: then A/P ≤ (k + 15/8) c/d
@@ -170,7 +171,7 @@ module _ (x : Float) (px : T (plain x)) (hx : T (le half x)) (M : T (plain (add 
 
   next2 : (j : ℕ) (b : Bool) → le x (quarter (suc j)) ≡ b → T (row2 j) → T (le (quarter j) x) → (T (le (quarter (suc j)) x) → Near x) → Near x
   next2 j true h r a again = at2 j r a (subst T (sym h) tt)
-  next2 j false h r a again = again (elim (O.le-total x (quarter (suc j)) (O.le-left x (quarter 192) x48) (positive-no-nan (quarter (suc j)) (passed (ends2 (quarter j) (quarter (suc j)) j) r 1))) [ inl t ↦ absurd (subst T h t) | inr t ↦ t ])
+  next2 j false h r a again = again (elim (O.le-total x (quarter (suc j)) (O.le-left x (quarter 192) x48) (no-nan (quarter (suc j)) (passed (ends2 (quarter j) (quarter (suc j)) j) r 1))) [ inl t ↦ absurd (subst T h t) | inr t ↦ t ])
 
   walk2 : (c j : ℕ) → j + suc c ≡ 192 → T (rows2 (suc c) j) → T (le (quarter j) x) → Near x
   walk2 zero j e r a = at2 j (and-l (row2 j) true r) a (subst (λ (k : ℕ). T (le x (quarter k))) (sym e ∙ add-suc j 0 ∙ ap suc (add-zero j)) x48)

@@ -258,7 +258,7 @@ pub head-held : (t : Float) (n c : ℕ) (m : List ℕ) (l : List Place) → 0 < 
 head-held t n c m [] h r a = absurd (omega arith)
 head-held t n c m (x ∷ xs) h r a = (a .0, r .0)
 
-head-is : (l : List Place) → 0 < length l → headTime l ≡ (headPlace l) .time
+pub head-is : (l : List Place) → 0 < length l → headTime l ≡ (headPlace l) .time
 head-is [] h = absurd (omega arith)
 head-is (x ∷ xs) h = refl
 

@@ -18,6 +18,7 @@ use Rattle.order.specs.Numbers.{one, half, two, three, nine, fortyeight}
 use Rattle.model.specs.FromPToC.{width}
 use Rattle.model.specs.Grid.{cellsOf}
 use Rattle.order.proofs.Mono.{plain, positive-plain, add-mono, sub-mono, div-mono}
+use Rattle.root.proofs.Cases.{no-nan}
 
 abbrev pub four : Float
 four = ofBits binary64 0x4010_0000_0000_0000
@@ -122,13 +123,8 @@ three-positive : T (positive three)
 unfolding ofBits
 three-positive = tt
 
-pub positive-no-nan : (x : Float) → T (positive x) → T (not (isNan x))
-positive-no-nan nan p = absurd p
-positive-no-nan (inf s) p = absurd p
-positive-no-nan (fin s m e) p = unfold isNan in tt
-
 three-no-nan : T (le three three)
-three-no-nan = O.le-refl three (positive-no-nan three three-positive)
+three-no-nan = O.le-refl three (no-nan three three-positive)
 
 half-le : T (le half half)
 unfolding ofBits le
@@ -151,7 +147,7 @@ module _ (l : Float) (a b : Float) (E : T (tested (ends a b))) (ha : T (le a l))
   pl = between a l b (e 0) (e 1) ha hb
 
   nan-free : (x : Float) → T (positive x) → T (le x x)
-  nan-free x p = O.le-refl x (positive-no-nan x p)
+  nan-free x p = O.le-refl x (no-nan x p)
 
   with : (n : ℕ) → T (tested (tests a b n)) → Facts l n
   with n G =
@@ -207,7 +203,7 @@ nan-of x y h p q = elim (O.le-total x y p q) [ inl t ↦ absurd (subst T h t) | 
 
 step : (l : Float) (k : ℕ) (b : Bool) → le l (quarter (suc k)) ≡ b → T (not (isNan l)) → T (row k) → T (le (quarter k) l) → (T (le (quarter (suc k)) l) → Facts l (cellsOf l)) → Facts l (cellsOf l)
 step l k true h p r a next = at-row l (quarter k) (quarter (suc k)) r a (subst T (sym h) tt)
-step l k false h p r a next = next (nan-of l (quarter (suc k)) h p (positive-no-nan (quarter (suc k)) (passed (ends (quarter k) (quarter (suc k))) r 1)))
+step l k false h p r a next = next (nan-of l (quarter (suc k)) h p (no-nan (quarter (suc k)) (passed (ends (quarter k) (quarter (suc k))) r 1)))
 
 walk : (l : Float) → T (le l (quarter 192)) → (c k : ℕ) → k + suc c ≡ 192 → T (rows (suc c) k) → T (le (quarter k) l) → Facts l (cellsOf l)
 walk l top zero k e r a = at-row l (quarter k) (quarter (suc k)) (and-l (row k) true r) a (subst (λ (j : ℕ). T (le l (quarter j))) (sym e ∙ add-suc k 0 ∙ ap suc (add-zero k)) top)

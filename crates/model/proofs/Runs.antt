@@ -10,9 +10,21 @@ use Rattle.order.proofs.Order.{le-trans, le-refl}
 use Rattle.order.proofs.Clock.{finite-no-nan}
 use Rattle.model.specs.State.{State}
 use Rattle.model.specs.Doing.{Stepped, done, halted, step, Whole}
-use Rattle.model.specs.Run.{How, spent, Ran, onward, runFrom, plus, continue, refused}
+use Rattle.model.specs.Run.{How, spent, Ran, onward, runFrom, refused}
 use Rattle.model.specs.Sound.{Sound, Stands}
 use Rattle.model.proofs.Steps.{step-sound, step-clock, step-stands}
+
+-- ---- a run after a run: the steps add up
+abbrev pub plus : ℕ → Ran → Ran
+plus c r = record { how = r .how; clock = r .clock; count = c + r .count; state = r .state }
+
+abbrev pub goOn : How → Ran → (ℕ → State → Ran) → Ran
+goOn How.synchronised r k = r
+goOn spent r k = k (r .count) (r .state)
+goOn (refused n) r k = r
+
+abbrev pub continue : Ran → (ℕ → State → Ran) → Ran
+continue r k = goOn (r .how) r k
 
 -- ---- over the steps alone: j + k steps are j steps and then, if they were spent, k more
 onward-continue : (h : Stepped) (s : State) (d : ℕ) (f g k : ℕ → State → Ran) → ((e : ℕ) (u : State) → f e u ≡ continue (g e u) k) → onward h s d f ≡ continue (onward h s d g) k

@@ -12,16 +12,25 @@ use Rattle.order.specs.Numbers.{fzero}
 use Rattle.order.proofs.Order.{le-lt-trans}
 use Rattle.model.specs.Grid.{across, cells}
 use Rattle.model.specs.State.{State}
-use Rattle.model.specs.Run.{How, spent, Ran, runFrom, plus, goOn, refused}
+use Rattle.model.specs.Run.{How, spent, Ran, runFrom, refused}
 use Rattle.model.specs.Sound.{Sound, Stands}
-use Rattle.model.specs.Check.{standing, Fitted, sized, halt, runAll, followBy, followed}
+use Rattle.model.specs.Check.{standing, Fitted, sized, halt, runAll}
 use Rattle.model.specs.Sizes.{rated}
 use Rattle.model.proofs.Queue.{T-of, and-l}
 use Rattle.model.proofs.Plans.{across-min}
 use Rattle.model.proofs.Refusals.{run-goes, run-case}
 use Rattle.model.proofs.Reflect.{says-stands}
 use Rattle.model.proofs.Stands.{sound-fitted}
-use Rattle.model.proofs.Runs.{split, count, run-stands}
+use Rattle.model.proofs.Runs.{plus, goOn, split, count, run-stands}
+
+-- a run, and if it was spent another
+abbrev pub followBy : How → Ran → (State → Ran) → Ran
+followBy How.synchronised r k = r
+followBy spent r k = record { how = (k (r .state)) .how; clock = (k (r .state)) .clock; count = r .count + (k (r .state)) .count; state = (k (r .state)) .state }
+followBy (refused n) r k = r
+
+abbrev pub followed : Ran → (State → Ran) → Ran
+followed r k = followBy (r .how) r k
 
 -- what stands, passes each check
 nine-cells : (b : Domain) → 9 ≤ cells b

@@ -21,7 +21,7 @@ use Rattle.model.specs.Grid.{lengthOf, cells}
 use Rattle.model.specs.Events.{eventOf, finePlace}
 use Rattle.model.specs.State.{Row, none, State, grain, home, listed, queue, heads, has}
 use Rattle.model.specs.Acts.{fineGrain}
-use Rattle.model.specs.Run.{How, spent, refused, Ran, runFrom}
+use Rattle.model.specs.Run.{refused, Ran, runFrom}
 use Rattle.model.specs.Standing.{All, syncs}
 
 abbrev pub all : {A : Type 0} → (A → Bool) → List A → Bool
@@ -117,12 +117,3 @@ refusal r s = record { how = refused r; clock = fzero; count = 0; state = s }
 unfoldable pub runAll : Float → ℕ → State → Ran
 runAll rate b s =
     pick (sized s) (pick (halt (s .mark)) (refusal (s .mark) s) (pick (rated rate) (pick (standing s) (runFrom rate b 0 s) (refusal 10 s)) (refusal 3 s))) (refusal 2 s)
-
--- a run, and if it was spent another
-abbrev pub followBy : How → Ran → (State → Ran) → Ran
-followBy How.synchronised r k = r
-followBy spent r k = record { how = (k (r .state)) .how; clock = (k (r .state)) .clock; count = r .count + (k (r .state)) .count; state = (k (r .state)) .state }
-followBy (refused n) r k = r
-
-abbrev pub followed : Ran → (State → Ran) → Ran
-followed r k = followBy (r .how) r k

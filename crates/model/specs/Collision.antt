@@ -1,4 +1,4 @@
--- 01, "Collision": when two grains of a Centre cell touch, and what inter_particle_collision.rs then stores of them, operation by operation.
+-- 01, "Collision": when two grains of a cell touch, and what inter_particle_collision.rs then stores of them, operation by operation.
 -- Assumes nothing: these are definitions.
 use Prim.Native.Nat.{ℕ}
 use mathlib.Core.Bool.{Bool, true, false}

@@ -1,5 +1,5 @@
 -- 01, "Doing an event": "a run does events until one is a synchronisation or the budget is spent; budget 0 does none". Assumes nothing: these are definitions.
-use Prim.Native.Nat.{ℕ, zero, suc, _+_}
+use Prim.Native.Nat.{ℕ, zero, suc}
 use lib.Ieee.{Float}
 use Rattle.model.specs.State.{State}
 use Rattle.model.specs.Doing.{Stepped, done, halted, step}
@@ -27,15 +27,3 @@ onward (halted r) s d k = ends (refused r) d s
 unfoldable pub runFrom : Float → ℕ → ℕ → State → Ran
 runFrom rate zero d s = ends spent d s
 runFrom rate (suc b) d s = onward ((step rate s) .how) ((step rate s) .state) d (runFrom rate b)
-
--- ---- a run after a run: the steps add up
-abbrev pub plus : ℕ → Ran → Ran
-plus c r = record { how = r .how; clock = r .clock; count = c + r .count; state = r .state }
-
-abbrev pub goOn : How → Ran → (ℕ → State → Ran) → Ran
-goOn How.synchronised r k = r
-goOn spent r k = k (r .count) (r .state)
-goOn (refused n) r k = r
-
-abbrev pub continue : Ran → (ℕ → State → Ran) → Ran
-continue r k = goOn (r .how) r k

@@ -50,7 +50,7 @@ root-floor zero M h = record { low = omega arith; high = omega arith }
 root-floor (suc k) M h = grow-floor (root k (M / 4)) M (root-floor k (M / 4) (div-lt-iff-lt-mul (omega arith) .1 (subst (λ (x : ℕ). M < x) (pow-suc 4 k) h)))
 
 -- two squares in order have roots in order
-root-lt : (a b : ℕ) → a * a < b * b → a < b
+pub root-lt : (a b : ℕ) → a * a < b * b → a < b
 root-lt a b h = lt-of-not-le (λ (g : b ≤ a). not-le-of-lt h (mul-le-mul g g))
 
 le-of-lt-one : (p q : ℕ) → p < q + 1 → p ≤ q

@@ -3,7 +3,7 @@ use mathlib.Core.Path.{_≡_, refl, sym, ap, _∙_, subst}
 use mathlib.Core.Logic.{_⊎_, inl, inr}
 use Prim.Native.Nat.{ℕ, zero, suc, _+_, _-_, _*_, _/_, _%_, _^_, _≤_, _<_, zero-le}
 use native.Mathlib.Nat as N
-use native.Mathlib.Nat.{le-trans, le-of-eq, lt-of-lt-of-le, lt-of-le-of-lt, lt-of-not-le, not-le-of-lt, lt-irrefl, zero-lt-suc, mul-le-mul, mul-pos, mul-comm, mul-assoc, mul-left-comm, mul-right-comm, mul-one, one-mul, zero-mul, eq-of-mul-eq-mul-right, mod-eq-of-lt, pow-suc, pow-succ', eq-or-lt-of-le, mul-le-mul-right, mul-le-mul-left}
+use native.Mathlib.Nat.{le-trans, le-of-eq, lt-of-lt-of-le, lt-of-le-of-lt, lt-of-not-le, not-le-of-lt, lt-irrefl, zero-lt-suc, mul-pos, mul-comm, mul-assoc, mul-left-comm, mul-right-comm, mul-one, one-mul, zero-mul, eq-of-mul-eq-mul-right, mod-eq-of-lt, pow-suc, pow-succ', eq-or-lt-of-le, mul-le-mul-right, mul-le-mul-left}
 use native.Mathlib.Omega.{arith}
 use mathlib.Core.Bool.{Bool, true, false, not, cond}
 use lib.IntN.{ℤ, pos, negsuc}
@@ -21,7 +21,7 @@ use lib.Ieee.Positive.{positive}
 use Rattle.order.proofs.Value.{value-unique}
 use Rattle.root.specs.Isqrt.{near}
 use Rattle.root.specs.Rule.{Nearest, Rooted}
-use Rattle.root.proofs.Isqrt.{near-law, near-unique}
+use Rattle.root.proofs.Isqrt.{root-lt, near-law, near-unique}
 use Rattle.root.specs.Bits.{finish, significand, exponent, rootBits}
 use Rattle.root.specs.Root.{sqrtOf}
 
@@ -52,9 +52,6 @@ sized m b l u = elim (even-or-odd b) [
   | inl h ↦ subst (λ (j : ℕ). Sized (m * 2 ^ j * 4 ^ 26)) (sym h) (record { from = omega arith; to = omega arith })
   | inr h ↦ subst (λ (j : ℕ). Sized (m * 2 ^ j * 4 ^ 26)) (sym h) (record { from = omega arith; to = omega arith })
 ]
-
-root-lt : (a b : ℕ) → a * a < b * b → a < b
-root-lt a b h = lt-of-not-le (λ (g : b ≤ a). not-le-of-lt h (mul-le-mul g g))
 
 -- the nearest root has 53 digits
 pub near-digits : (M r : ℕ) → Sized M → Nearest M r → (2 ^ 52 ≤ r) × (r < 2 ^ 53)

@@ -2,6 +2,7 @@
 use mathlib.Core.Path.{_≡_, refl, sym, ap, _∙_}
 use Prim.Native.Nat.{ℕ, zero, suc}
 use native.Mathlib.Nat.{lt-irrefl, zero-lt-suc}
+use native.Mathlib.Omega.{arith}
 use mathlib.Core.Bool.{true, false}
 use lib.Dec.{T, ltb, ltb→lt, lt→ltb}
 use lib.Ieee.{Float, nan, inf, fin, binary64, fits}
@@ -9,7 +10,7 @@ use lib.Ieee.Positive.{positive}
 use Rattle.root.specs.declared.Root.{Root}
 use Rattle.root.specs.declared.Root.the-variants.{Value, Refused}
 use Rattle.root.specs.Root.{rootOf, sqrtOf}
-use Rattle.root.specs.Rule.{Rooted, RootRule}
+use Rattle.root.specs.Rule.{Rooted, RootRule, number}
 use Rattle.root.proofs.Law.{sqrt-lawful, sqrt-fits}
 use Rattle.root.proofs.Unique.{rooted-unique}
 use Rattle.root.proofs.Cases.{positive-is}
@@ -23,6 +24,11 @@ only x y F P G r = sym (positive-is x P) ∙ ap Value (rooted-unique x (sqrtOf x
 above-zero : (m : ℕ) → T (ltb 0 (suc m))
 above-zero m = lt→ltb 0 (suc m) (zero-lt-suc m)
 
+-- only a refusal is 5
+five : (r : Root) → number r ≡ 5 → r ≡ Refused
+five (Value y) h = absurd (omega (arith, h))
+five Refused h = refl
+
 -- `rootOf` has it, and only `rootOf`
 pub root-rule : (x : Float) → T (fits binary64 x) → RootRule x (rootOf x)
 unfolding RootRule rootOf
@@ -35,9 +41,9 @@ root-rule (fin false (suc m) e) F = rule (fin false (suc m) e) F (above-zero m)
 
 pub root-only : (x : Float) (r : Root) → T (fits binary64 x) → RootRule x r → r ≡ rootOf x
 unfolding RootRule rootOf
-root-only nan r F h = h
-root-only (inf true) r F h = h
+root-only nan r F h = five r h
+root-only (inf true) r F h = five r h
 root-only (inf false) r F h = h
 root-only (fin s zero e) r F h = h
-root-only (fin true (suc m) e) r F h = h
+root-only (fin true (suc m) e) r F h = five r h
 root-only (fin false (suc m) e) r F h = h .1 ∙ sym (only (fin false (suc m) e) (h .0) F (above-zero m) (h .2) (h .3))

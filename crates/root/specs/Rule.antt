@@ -25,11 +25,16 @@ pub record Rooted (d y : Float) : Type 0 where
   pub nearest : Nearest M r
   pub is : HasValue y false (r * up e) (down e)
 
--- +0, -0 and +infinity give themselves, other negatives and NaN are refused, a positive finite value has its root
+-- the number that an answer gives back: 5 where there is no root
+abbrev pub number : Root → ℕ
+number (Value y) = 0
+number Refused = 5
+
+-- +0, -0 and +infinity give themselves, other negatives and NaN are refused by 5, a positive finite value has its root
 unfoldable pub RootRule : Float → Root → Type 0
-RootRule nan r = r ≡ Refused
-RootRule (inf true) r = r ≡ Refused
+RootRule nan r = number r ≡ 5
+RootRule (inf true) r = number r ≡ 5
 RootRule (inf false) r = r ≡ Value (inf false)
 RootRule (fin s zero e) r = r ≡ Value (fin s zero e)
-RootRule (fin true (suc m) e) r = r ≡ Refused
+RootRule (fin true (suc m) e) r = number r ≡ 5
 RootRule (fin false (suc m) e) r = (y : Float) × (r ≡ Value y) × T (fits binary64 y) × Rooted (fin false (suc m) e) y

@@ -1,6 +1,6 @@
 -- What a start's answers say, over the definition that its contract cites. Assumes nothing.
-use Prim.Native.Nat.{ℕ, zero, suc}
-use mathlib.Core.Path.{_≡_, refl, _∙_}
+use Prim.Native.Nat.{ℕ, zero, suc, _*_, _≤_}
+use mathlib.Core.Path.{_≡_, refl, sym, ap, _∙_}
 use mathlib.Core.Bool.{Bool, true, false}
 use mathlib.Core.List.{List}
 use native.Mathlib.Omega.{arith}
@@ -15,7 +15,9 @@ use Rattle.model.specs.Sizes.{boxOk}
 use Rattle.model.specs.Check.{Fits}
 use Rattle.model.specs.Start.{Begun, refused, started, start}
 use Rattle.model.proofs.Never.{no-8-or-9-at-start}
+use Rattle.tables.specs.declared.Sizes.{Sizes}
 use Rattle.checks.specs.Decode.{Tables}
+use Rattle.checks.proofs.Needs.{allowed}
 use Rattle.simulator.specs.Inputs.{inputsOf}
 use Rattle.simulator.specs.Start.{sizesFor, fits, StartedWith, with, byMark, leaving, startAll}
 
@@ -69,3 +71,12 @@ halts-fairly b n room inputs t f r =
         let m = halted-mark (s .mark) r h in
         let never = no-8-or-9-at-start b room (inputsOf n inputs) s f e in
         (λ q. never .0 (m ∙ q), λ q. never .1 (m ∙ q))
+
+-- ONLY ONE OUTCOME FITS what a start promises: the answer, and every table afterwards
+pub one-start : (b : Domain) (n room : ℕ) (inputs : List Float) (t : Tables) (r q : Started) (a c : Tables) → with r a ≡ startAll b n room inputs t → with q c ≡ startAll b n room inputs t
+    → (r ≡ q) × (a ≡ c)
+one-start b n room inputs t r q a c e f = (ap (λ (w : StartedWith). w .answer) (e ∙ sym f), ap (λ (w : StartedWith). w .after) (e ∙ sym f))
+
+-- the table of start numbers is within 01's bound, as the five are (checks, Needs)
+pub inputs-most : (z : Sizes) → z .grains * 5 ≤ allowed z
+inputs-most z = omega arith

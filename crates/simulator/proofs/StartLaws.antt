@@ -12,7 +12,9 @@ use Rattle.model.specs.declared.Particle.{Particle}
 use Rattle.model.specs.declared.Started.the-variants as answer
 use Rattle.model.specs.Sizes.{boxOk, countsOk, firstBad}
 use Rattle.model.specs.Grid.{cells}
+use Rattle.model.specs.State.{marked}
 use Rattle.model.specs.Start.{Begun, refused, startedAt, start, begin}
+use Rattle.model.specs.Reports.{startNumber}
 use Rattle.model.proofs.Queue.{and-l, and-r}
 use Rattle.cell.specs.declared.Grid.{Grid}
 use Rattle.cell.specs.Cell.{gridOf}
@@ -21,7 +23,8 @@ use Rattle.checks.specs.Decode.{Tables}
 use Rattle.checks.specs.Check.{long, listsNeed, grainsNeed, queueNeed, eventsNeed}
 use Rattle.checks.proofs.Cut.{cut-long}
 use Rattle.simulator.specs.Inputs.{inputAt, inputsOf}
-use Rattle.simulator.specs.Start.{sizesFor, fits, with, byMark, leaving, startAll}
+use Rattle.simulator.specs.Encode.{encoded}
+use Rattle.simulator.specs.Start.{sizesFor, fits, cleared, with, byMark, leaving, startAll}
 use Rattle.simulator.specs.Begin.{Startable, Began}
 
 -- ---- what it is that checks 1 and 2 are passed
@@ -76,6 +79,11 @@ module _ (b : Domain) (room : ℕ) (gs : List Particle) (box : boxOk b ≡ true)
   unfolding start
   start-good u = rw (box, counts, eq-eqb (firstBad b gs) (length gs) u)
 
+-- ---- the number of a start that was not refused is its mark
+mark-number : (m : ℕ) → startNumber (byMark m) ≡ m
+mark-number zero = refl
+mark-number (suc m) = refl
+
 -- ---- refused by 1; by 2; by 4; accepted
 module _ (b : Domain) (n room : ℕ) (inputs : List Float) (t : Tables) where
   pub start-1 : boxOk b ≡ false → with (answer.Refused 1) t ≡ startAll b n room inputs t
@@ -108,6 +116,7 @@ module _ (b : Domain) (n room : ℕ) (inputs : List Float) (t : Tables) where
       start-begun : (r : ℕ) (u : Tables) → firstBad b (inputsOf n inputs) ≡ n → Began (begin b room (inputsOf n inputs)) r t u → with (byMark r) u ≡ startAll b n room inputs t
       start-begun r u f B =
           (λ i. with (byMark (B .number i)) (B .left i))
+          ∙ (let o = begin b room (inputsOf n inputs) in λ i. record { number = mark-number (o .num) i; answer = byMark (o .num); after = encoded (marked (o .num) (o .st)) (cleared t) })
           ∙ sym (start-is ∙ ap (λ (r : Begun). leaving r t) (start-good b room (inputsOf n inputs) box counts-ok (f ∙ sym (cut-long inputAt 5 n inputs))))
 
       pub start-accepted : (r : ℕ) (u : Tables) → firstBad b (inputsOf n inputs) ≡ n → Began (begin b room (inputsOf n inputs)) r t u → r ≡ 0 → with answer.Accepted u ≡ startAll b n room inputs t

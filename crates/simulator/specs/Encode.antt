@@ -1,17 +1,14 @@
 -- The five lent tables that hold a state: their headers, what the layout gives (tables, Layout), and beyond that what was there. Assumes nothing: these are definitions.
 use Prim.Native.Nat.{ℕ}
-use mathlib.Core.Path.{_≡_}
 use mathlib.Core.List.{List, [], _∷_, _++_}
 use mathlib.Core.Bool.{Bool, true, false}
 use lib.ListN.{length, drop}
 use lib.Ieee.{Float}
-use Rattle.chunks.specs.Flat.{flat, Every}
+use Rattle.chunks.specs.Flat.{flat}
 use Rattle.model.specs.declared.Domain.{Domain}
-use Rattle.model.specs.declared.Place.{Place}
-use Rattle.model.specs.Sizes.{memberRoom, homeRoom}
-use Rattle.model.specs.State.{Row, State}
+use Rattle.model.specs.State.{State}
 use Rattle.tables.specs.declared.Sizes.{Sizes}
-use Rattle.tables.specs.Layout.{places, grainReals, rowNums, queueNums, queueReals, orderBytes}
+use Rattle.tables.specs.Layout.{grainReals, rowNums, queueNums, queueReals, orderBytes}
 use Rattle.checks.specs.Decode.{Tables, tables}
 
 -- ---- headers
@@ -42,14 +39,3 @@ encoded s t =
     (over (flat queueNums (s .queues)) (t .queue))
     (over (flat queueReals (s .queues)) (t .events))
     (over (orderBytes (s .sched)) (t .order))
-
--- as many rows as there are grains and cells, each as wide as its room, and 256 places in the heap and in the lookups
-pub record Shaped (s : State) : Type 0 where
-  pub homes-many : length (s .homes) ≡ length (s .grains)
-  pub homes-wide : Every (λ (r : Row ℕ). length (places r) ≡ homeRoom) (s .homes)
-  pub members-many : length (s .members) ≡ s .sched .cells
-  pub members-wide : Every (λ (r : Row ℕ). length (places r) ≡ memberRoom) (s .members)
-  pub queues-many : length (s .queues) ≡ s .sched .cells
-  pub queues-wide : Every (λ (r : Row Place). length (places r) ≡ s .room) (s .queues)
-  pub heap-long : length (s .sched .heap) ≡ 256
-  pub lookups-long : length (s .sched .lookups) ≡ 256

@@ -14,6 +14,7 @@ use Rattle.model.specs.declared.Started.the-variants as answer
 use Rattle.model.specs.Sizes.{boxOk, countsOk}
 use Rattle.model.specs.Grid.{cells}
 use Rattle.model.specs.Start.{Begun, refused, started, start}
+use Rattle.model.specs.Reports.{startNumber}
 use Rattle.tables.specs.declared.Sizes.{Sizes}
 use Rattle.checks.specs.Decode.{Tables, tables}
 use Rattle.checks.specs.Check.{long}
@@ -32,13 +33,14 @@ abbrev pub cleared : Tables → Tables
 cleared t =
     tables (replicate (length (t .lists)) 0) (replicate (length (t .grains)) fzero) (replicate (length (t .queue)) 0) (replicate (length (t .events)) fzero) (replicate (length (t .order)) 0)
 
--- an answer, and the tables afterwards
+-- an answer, the number of 01 that it stands for (0: accepted, not halted), and the tables afterwards
 pub record StartedWith : Type 0 where
+  pub number : ℕ
   pub answer : Started
   pub after : Tables
 
 abbrev pub with : Started → Tables → StartedWith
-with a t = record { answer = a; after = t }
+with a t = record { number = startNumber a; answer = a; after = t }
 
 -- by the mark that the start left, 0 or a halt's number; by a refusal's number, and the grain that 4 names
 abbrev pub byMark : ℕ → Started
@@ -49,8 +51,8 @@ abbrev pub byNumber : ℕ → ℕ → Started
 byNumber r g = pick (eqb r 4) (answer.BadGrain g) (answer.Refused r)
 
 abbrev pub leaving : Begun → Tables → StartedWith
-leaving (refused r g) t = with (byNumber r g) t
-leaving (started s) t = with (byMark (s .mark)) (encoded s (cleared t))
+leaving (refused r g) t = record { number = r; answer = byNumber r g; after = t }
+leaving (started s) t = record { number = s .mark; answer = byMark (s .mark); after = encoded s (cleared t) }
 
 unfoldable pub startAll : Domain → ℕ → ℕ → List Float → Tables → StartedWith
 startAll b n room inputs t =

@@ -1,0 +1,90 @@
+//! What the checks of a run cost at the largest tables: the time of a run with budget 0.
+//!
+//!     cargo run --release --offline --example checks
+use fesolopi::{Domain, Ending, Grain, Simulation, Tables};
+use std::time::Instant;
+
+const GRAINS: usize = 256;
+const CELLS: usize = 256;
+const ROOM: usize = 256;
+
+/// The largest box, 16 by 16 grains that touch no other, spread over all cells.
+fn largest() -> Simulation {
+    let grain = |n: usize| {
+        let position = [1.3137 + 2.913 * (n % 16) as f64, 1.4171 + 2.917 * (n / 16) as f64];
+        let velocity = [0.37 - 0.011 * (n % 61) as f64, 0.29 - 0.013 * (n % 47) as f64];
+        Grain { position, velocity, value: 0.5 }
+    };
+    let grains: Vec<Grain> = (0..GRAINS).map(grain).collect();
+    let domain = Domain { lengths: [48., 48.], periodic: [true, true] };
+    Simulation::start(&domain, ROOM as u64, &grains).expect("an accepted start")
+}
+
+/// The same with every grain in eight cells, `wide` grains in each cell that lists any, and every event place
+/// of those cells in use: collisions of the two grains listed last, and one synchronisation in cell 0.
+fn full(wide: usize) -> Simulation {
+    let mut t: Tables = largest().into_tables();
+    let groups = GRAINS / wide;
+    t.lists[6..].fill(0);
+    t.queue.fill(0);
+    for grain in 0..GRAINS {
+        let cells = (0..8).map(|n| (grain / wide + groups * n) as u64);
+        fill(&mut t.lists, 6 + 9 * grain, cells);
+    }
+    for cell in 0..groups * 8 {
+        let first = cell % groups * wide;
+        let last = (first + wide - 1) as u64;
+        let grains = (first..first + wide).map(|n| n as u64);
+        fill(&mut t.lists, 6 + 9 * GRAINS + 33 * cell, grains);
+        t.queue[(1 + 4 * ROOM) * cell] = ROOM as u64;
+        for place in 0..ROOM {
+            let synchronisation = cell == 0 && place == 0;
+            let numbers = if synchronisation { [5, 0, 0, 0] } else { [1, last - 1, last, 0] };
+            let queue = (1 + 4 * ROOM) * cell + 1 + 4 * place;
+            t.queue[queue..queue + 4].copy_from_slice(&numbers);
+            let events = 10 * (ROOM * cell + place);
+            t.events[events..events + 10].fill(1.);
+        }
+    }
+    for n in 0..CELLS {
+        (t.order[n], t.order[256 + n]) = (n as u8, n as u8);
+    }
+    Simulation::from_tables(t)
+}
+
+/// A row of the lists: its count, then its items.
+fn fill(lists: &mut [u64], base: usize, items: impl ExactSizeIterator<Item = u64>) {
+    lists[base] = items.len() as u64;
+    for (place, item) in lists[base + 1..].iter_mut().zip(items) {
+        *place = item;
+    }
+}
+
+fn measure(name: &str, mut simulation: Simulation) {
+    let events: usize = (0..simulation.cells()).map(|c| simulation.pending(c).count()).sum();
+    let listed: usize = (0..simulation.count()).map(|g| simulation.cells_of(g).len()).sum();
+    let mut times: Vec<f64> = Vec::new();
+    for _ in 0..200 {
+        let begun = Instant::now();
+        let report = simulation.run(1., 0).expect("sound tables");
+        times.push(begun.elapsed().as_secs_f64() * 1e6);
+        assert_eq!((report.ending, report.events), (Ending::Spent, 0));
+    }
+    times.sort_by(f64::total_cmp);
+    println!(
+        "{name}: {listed} entries, {events} events; a run of budget 0: least {:.0}, median {:.0} microseconds",
+        times[0],
+        times[times.len() / 2]
+    );
+}
+
+fn main() {
+    measure("a start", largest());
+    let mut run = largest();
+    for _ in 0..20 {
+        run.run(1., 1_000_000).expect("a run that does not halt");
+    }
+    measure("after 20 synchronisations", run);
+    measure("every event place in use", full(8));
+    measure("64 cells with 32 grains each", full(32));
+}

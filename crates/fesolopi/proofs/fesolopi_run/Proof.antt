@@ -1,0 +1,50 @@
+-- `fesolopi_run`: what the run reports, as numbers. Assumes nothing.
+use Rattle.fesolopi.proofs.Told.{run-told}
+use borrow.Author.Needs.{needs}
+use Rattle.fesolopi.proofs.fesolopi_run.Statement.{statement}
+use Rattle.fesolopi.proofs.fesolopi_run.Tie as tie
+
+run-requires : tie.Need-run-requires
+run-requires c κs = search needs
+
+clock-told-requires : tie.Need-clock-told-requires
+clock-told-requires c κs = search needs
+
+events-told-requires : tie.Need-events-told-requires
+events-told-requires c κs = search needs
+
+run-number-requires : tie.Need-run-number-requires
+run-number-requires c κs = search needs
+
+same-length : tie.Need-same-length
+same-length c = search needs
+
+same-length-2 : tie.Need-same-length-2
+same-length-2 c = search needs
+
+same-length-3 : tie.Need-same-length-3
+same-length-3 c = search needs
+
+same-length-4 : tie.Need-same-length-4
+same-length-4 c = search needs
+
+same-length-5 : tie.Need-same-length-5
+same-length-5 c = search needs
+
+returns : tie.Need-returns
+returns c = run-told (c .before .before .before .before .before .before .before .before .before .before .before .before .before .run .result) _ _ _ _ _ (c .run-number .ensures) (c .before .before .clock-told .ensures) (c .before .events-told .ensures) (c .before .before .before .before .before .before .before .before .before .before .before .before .before .run .ensures)
+
+pub fesolopi-run-spec : {M : Type 1} → statement M
+fesolopi-run-spec =
+    tie.close
+    (tie.spec
+    run-requires
+    clock-told-requires
+    events-told-requires
+    run-number-requires
+    same-length
+    same-length-2
+    same-length-3
+    same-length-4
+    same-length-5
+    returns)

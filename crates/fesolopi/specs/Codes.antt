@@ -1,0 +1,86 @@
+-- Enums as numbers and values, for callers in other languages. Assumes nothing: these are definitions.
+use Prim.Native.Nat.{ℕ}
+use mathlib.Core.Bool.{Bool}
+use lib.Ieee.{Float}
+use Rattle.order.specs.Numbers.{fzero}
+use Rattle.myvec.specs.Vec.{vec}
+use Rattle.root.specs.declared.Root.{Root}
+use Rattle.root.specs.declared.Root.the-variants as root
+use Rattle.model.specs.declared.Domain.{Domain}
+use Rattle.model.specs.declared.Started.{Started}
+use Rattle.model.specs.declared.Started.the-variants as started
+use Rattle.model.specs.declared.Report.{Report}
+use Rattle.model.specs.declared.Report.the-variants as report
+use Rattle.model.specs.Reports.{startNumber}
+use Rattle.model.specs.Grid.{boxOf}
+use Rattle.model.specs.Run.{How, synchronised, spent, refused}
+use Rattle.checks.specs.Decode.{Tables}
+use Rattle.simulator.specs.Start.{StartedWith}
+use Rattle.simulator.specs.Run.{RanTables}
+
+-- the box of these lengths and flags
+abbrev pub boxed : Float → Float → Bool → Bool → Domain
+boxed l0 l1 p0 p1 = boxOf (vec l0 l1) p0 p1
+
+-- the grain that a start refused by 4 names; 0 beside every other answer
+abbrev pub grainNamed : Started → ℕ
+grainNamed started.Accepted = 0
+grainNamed (started.Halted r) = 0
+grainNamed (started.Refused r) = 0
+grainNamed (started.BadGrain g) = g
+
+-- a start's number, the grain beside it, and the tables afterwards
+pub record Begun : Type 0 where
+  pub number : ℕ
+  pub grain : ℕ
+  pub after : Tables
+
+abbrev pub begun : ℕ → ℕ → Tables → Begun
+begun r g a = record { number = r; grain = g; after = a }
+
+abbrev pub begunBy : StartedWith → Begun
+begunBy s = begun (startNumber (s .answer)) (grainNamed (s .answer)) (s .after)
+
+-- how a run ended: 0 synchronised, 11 spent, else the number of the refusal or the halt, which is never either
+abbrev pub runNumber : How → ℕ
+runNumber synchronised = 0
+runNumber spent = 11
+runNumber (refused r) = r
+
+-- a run's number, clock and events done, and the tables afterwards
+pub record Ended : Type 0 where
+  pub number : ℕ
+  pub clock : Float
+  pub count : ℕ
+  pub after : Tables
+
+abbrev pub ended : ℕ → Float → ℕ → Tables → Ended
+ended r t n a = record { number = r; clock = t; count = n; after = a }
+
+abbrev pub endedBy : RanTables → Ended
+endedBy r = ended (runNumber (r .how)) (r .clock) (r .count) (r .after)
+
+-- the same of a report
+abbrev pub reportNumber : Report → ℕ
+reportNumber (report.Synchronised t n) = 0
+reportNumber (report.Spent t n) = 11
+reportNumber (report.Refused r t n) = r
+
+abbrev pub clockTold : Report → Float
+clockTold (report.Synchronised t n) = t
+clockTold (report.Spent t n) = t
+clockTold (report.Refused r t n) = t
+
+abbrev pub eventsTold : Report → ℕ
+eventsTold (report.Synchronised t n) = n
+eventsTold (report.Spent t n) = n
+eventsTold (report.Refused r t n) = n
+
+-- a root, +0 beside a refusal; a refused root's number is 5
+abbrev pub rootNumber : Root → ℕ
+rootNumber (root.Value x) = 0
+rootNumber root.Refused = 5
+
+abbrev pub rootValue : Root → Float
+rootValue (root.Value x) = x
+rootValue root.Refused = fzero
