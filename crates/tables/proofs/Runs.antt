@@ -7,9 +7,9 @@ use mathlib.Core.List.{List, [], _∷_, _++_, append-assoc, append-nil}
 use lib.ListN.{length, replicate, getD, set, length-append}
 use lib.Ieee.{Float, le, lt}
 use lib.Ieee.Scale.{finite}
-use mathlib.Core.Bool.{Bool, true, false, _&&_, _||_}
-use lib.Dec.{eqb, lit<}
-use borrow.Author.Tests.{eq-eqb, ne-eqb}
+use mathlib.Core.Bool.{Bool, true, false, _&&_}
+use lib.Dec.{eqb, ltb, lit<}
+use borrow.Author.Tests.{eq-eqb, ne-eqb, le-ltb}
 use borrow.Rule.Slice.PartMut.{midOf, putMid}
 use Rattle.chunks.specs.Flat.{flat}
 use Rattle.chunks.proofs.Laws.{mid-tail, put-tail, row-long, row-get, row-put}
@@ -157,13 +157,31 @@ keep-in : (g : ℕ) (y : Place) (l : List Place) → names (eventOf (y .kind) y)
 unfolding keepBy goneBy
 keep-in g y l u = rw u (refl, refl)
 
--- ---- whether one of two numbers is g
+-- ---- whether an event names g, by the two numbers of its place and its kind
 
-pub or-yes : (a b g : ℕ) → a ≡ g → (eqb a g || eqb b g) ≡ true
-or-yes a b g h = ap (λ (t : Bool). t || eqb b g) (eq-eqb a g h)
+pub names-neither : (k : ℕ) (s : Place) (g : ℕ) → (s .p ≡ g → ⊥) → (s .q ≡ g → ⊥) → names (eventOf k s) g ≡ false
+names-neither zero s g a b = refl
+names-neither (suc zero) s g a b = rw (ne-eqb (s .p) g a) (ne-eqb (s .q) g b)
+names-neither (suc (suc zero)) s g a b = ne-eqb (s .p) g a
+names-neither (suc (suc (suc zero))) s g a b = ne-eqb (s .p) g a
+names-neither (suc (suc (suc (suc zero)))) s g a b = ne-eqb (s .p) g a
+names-neither (suc (suc (suc (suc (suc k))))) s g a b = refl
 
-pub or-no : (a b g : ℕ) → (a ≡ g → ⊥) → (eqb a g || eqb b g) ≡ eqb b g
-or-no a b g h = ap (λ (t : Bool). t || eqb b g) (ne-eqb a g h)
+pub names-second : (k : ℕ) (s : Place) (g : ℕ) → (s .p ≡ g → ⊥) → s .q ≡ g → names (eventOf k s) g ≡ eqb k 1
+names-second zero s g a b = refl
+names-second (suc zero) s g a b = rw (ne-eqb (s .p) g a) (eq-eqb (s .q) g b)
+names-second (suc (suc zero)) s g a b = ne-eqb (s .p) g a
+names-second (suc (suc (suc zero))) s g a b = ne-eqb (s .p) g a
+names-second (suc (suc (suc (suc zero)))) s g a b = ne-eqb (s .p) g a
+names-second (suc (suc (suc (suc (suc k))))) s g a b = sym (ne-eqb (suc (suc (suc (suc (suc k))))) 1 (λ e. omega (arith, e)))
+
+pub names-first : (k : ℕ) (s : Place) (g : ℕ) → s .p ≡ g → (k ≡ 0 → ⊥) → names (eventOf k s) g ≡ ltb k 5
+names-first zero s g a z = absurd (z refl)
+names-first (suc zero) s g a z = rw (eq-eqb (s .p) g a) refl
+names-first (suc (suc zero)) s g a z = eq-eqb (s .p) g a
+names-first (suc (suc (suc zero))) s g a z = eq-eqb (s .p) g a
+names-first (suc (suc (suc (suc zero)))) s g a z = eq-eqb (s .p) g a
+names-first (suc (suc (suc (suc (suc k))))) s g a z = sym (le-ltb (suc (suc (suc (suc (suc k))))) 5 (omega arith))
 
 -- ---- push and pull: a place that is free for the next to move over lies among those in use
 

@@ -122,24 +122,20 @@ pub fn place_of(e: Pending) -> Place
     }
 }
 
+// Whether a place's event names a grain. Most name others, and then their kind is not asked.
 pub fn names_grain(s: Place, g: u64) -> bool
     ensures { λ r. ⌜ r ≡ names (eventOf (s .kind) s) g ⌝ }
 {
-    let kind = s.kind;
-    let p = s.p;
-    let q = s.q;
-    match kind {
-        1 => {
-            if p == g {
-                return true;
-            }
-            q == g
+    if s.p != g {
+        if s.q != g {
+            return false;
         }
-        2 => p == g,
-        3 => p == g,
-        4 => p == g,
-        _ => false,
+        return s.kind == 1;
     }
+    if s.kind == 0 {
+        return false;
+    }
+    s.kind < 5
 }
 
 // The first of a run of places.
