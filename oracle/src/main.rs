@@ -1,26 +1,5 @@
-// The oracle: the published Rust, a model written from document 01, and what compares them.
-mod account;
-mod compare;
-mod crafted;
-mod differ;
-mod domain;
-mod dumps;
-mod leaves;
-mod lost;
-mod model;
-mod mutate;
-mod random;
-mod replay;
-mod rust;
-mod scenes;
-mod starts;
-mod tables;
-mod text;
-mod vectors;
-mod walk;
-mod words;
-
-include!(concat!(env!("OUT_DIR"), "/trees.rs"));
+// The oracle's commands.
+use oracle::{account, compare, crafted, differ, dumps, lost, replay, vectors};
 
 const USAGE: &str = "usage:
   oracle dump published|rules|model [EVENTS..]   start text on stdin; dumps after so many events

@@ -18,10 +18,15 @@ pub fn random_start(r: &mut Random) -> Start {
         6 => 16 + r.below(241),
         _ => 256,
     };
-    let mut start = Start { lengths, periodic, rate: random_rate(r), room, grains: Vec::new() };
-    let count = count(r, lengths);
+    let rate = random_rate(r);
+    let grains = count(r, lengths);
+    start_with(r, Start { lengths, periodic, rate, room, grains: Vec::new() }, grains)
+}
+
+/// So many grains, in an empty start whose box is in range.
+pub fn start_with(r: &mut Random, mut start: Start, grains: u64) -> Start {
     let styles = random_styles(r);
-    for n in 0..count {
+    for n in 0..grains {
         let other = random_styles(r);
         let styles = if r.once_in(10) { other } else { styles };
         let [x, y] = [0, 1].map(|dim| coordinate(r, &start, n, dim, styles[dim].0));

@@ -11,7 +11,6 @@ use Rattle.model.specs.declared.Started.{Started}
 use Rattle.model.specs.declared.Started.the-variants as started
 use Rattle.model.specs.declared.Report.{Report}
 use Rattle.model.specs.declared.Report.the-variants as report
-use Rattle.model.specs.Reports.{startNumber}
 use Rattle.model.specs.Grid.{boxOf}
 use Rattle.model.specs.Run.{How, synchronised, spent, refused}
 use Rattle.checks.specs.Decode.{Tables}
@@ -39,7 +38,7 @@ abbrev pub begun : ℕ → ℕ → Tables → Begun
 begun r g a = record { number = r; grain = g; after = a }
 
 abbrev pub begunBy : StartedWith → Begun
-begunBy s = begun (startNumber (s .answer)) (grainNamed (s .answer)) (s .after)
+begunBy s = begun (s .number) (grainNamed (s .answer)) (s .after)
 
 -- how a run ended: 0 synchronised, 11 spent, else the number of the refusal or the halt, which is never either
 abbrev pub runNumber : How → ℕ
@@ -76,11 +75,7 @@ eventsTold (report.Synchronised t n) = n
 eventsTold (report.Spent t n) = n
 eventsTold (report.Refused r t n) = n
 
--- a root, +0 beside a refusal; a refused root's number is 5
-abbrev pub rootNumber : Root → ℕ
-rootNumber (root.Value x) = 0
-rootNumber root.Refused = 5
-
+-- a root, +0 beside a refusal
 abbrev pub rootValue : Root → Float
 rootValue (root.Value x) = x
 rootValue root.Refused = fzero

@@ -2,6 +2,7 @@
 pub mod Cases
 pub mod Places
 pub mod Lists
+pub mod Exactly
 pub mod Inserts
 pub mod Queue
 pub mod Keeps

@@ -71,11 +71,11 @@ cells-counted b g c e f = f ∙ ap (λ (k : Grid). k .n0 * k .n1) e
 
 -- ---- the model's start, by its tests
 module _ (b : Domain) (room : ℕ) (gs : List Particle) (box : boxOk b ≡ true) (counts : countsOk room (length gs) ≡ true) where
-  start-bad : (firstBad b gs ≡ length gs → ⊥) → start b room gs ≡ refused 4 (firstBad b gs)
+  pub start-bad : (firstBad b gs ≡ length gs → ⊥) → start b room gs ≡ refused 4 (firstBad b gs)
   unfolding start
   start-bad u = rw (box, counts, ne-eqb (firstBad b gs) (length gs) u)
 
-  start-good : firstBad b gs ≡ length gs → start b room gs ≡ startedAt (begin b room gs)
+  pub start-good : firstBad b gs ≡ length gs → start b room gs ≡ startedAt (begin b room gs)
   unfolding start
   start-good u = rw (box, counts, eq-eqb (firstBad b gs) (length gs) u)
 
@@ -99,11 +99,11 @@ module _ (b : Domain) (n room : ℕ) (inputs : List Float) (t : Tables) where
     start-2 e = rw (box, e)
 
     module _ (e : passed ≡ true) where
-      start-is : startAll b n room inputs t ≡ leaving (start b room (inputsOf n inputs)) t
+      pub start-is : startAll b n room inputs t ≡ leaving (start b room (inputsOf n inputs)) t
       unfolding startAll
       start-is = rw (box, e)
 
-      counts-ok : countsOk room (length (inputsOf n inputs)) ≡ true
+      pub counts-ok : countsOk room (length (inputsOf n inputs)) ≡ true
       counts-ok =
           ap (countsOk room) (cut-long inputAt 5 n inputs)
           ∙ counts-pass (sizesFor b n room) (length inputs) (length (t .lists)) (length (t .grains)) (length (t .queue)) (length (t .events)) (length (t .order)) e

@@ -1,0 +1,23 @@
+// The oracle: the published Rust, a model written from document 01, and what compares them.
+pub mod account;
+pub mod compare;
+pub mod crafted;
+pub mod differ;
+pub mod domain;
+pub mod dumps;
+pub mod leaves;
+pub mod lost;
+pub mod model;
+pub mod mutate;
+pub mod random;
+pub mod replay;
+pub mod rust;
+pub mod scenes;
+pub mod starts;
+pub mod tables;
+pub mod text;
+pub mod vectors;
+pub mod walk;
+pub mod words;
+
+include!(concat!(env!("OUT_DIR"), "/trees.rs"));
