@@ -47,17 +47,20 @@ pub fn step_others(
     ensures { λ r. ⌜ ((s : State) → InGrains z (now (grains .entry)) s → At domain clock s
         → GrainsTold z (now (grains .exit)) r (eachOf stepGrain (others p (now (list .entry))) s)) ⌝ }
 {
-    if list.len() == 0 {
-        return 0;
+    let mut rest = list;
+    while 0 < rest.len() {
+        let g = rest[0];
+        if g == p {
+            rest = &rest[1..];
+            continue;
+        }
+        let one = step_grain(grains, z, domain, clock, g as usize);
+        if one != 0 {
+            return one;
+        }
+        rest = &rest[1..];
     }
-    if list[0] == p {
-        return step_others(grains, z, domain, clock, &list[1..], p);
-    }
-    let one = step_grain(grains, z, domain, clock, list[0] as usize);
-    if one != 0 {
-        return one;
-    }
-    step_others(grains, z, domain, clock, &list[1..], p)
+    0
 }
 
 // The grains from g on step to the clock.

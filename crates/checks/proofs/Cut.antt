@@ -22,6 +22,10 @@ tail-is w l = take-all (length l - w) (drop w l) (let e = length-drop w l in ome
 pub tail-long : {B : Type 0} (w : ℕ) (l : List B) → length (midOf w (length l - w) l) ≡ length l - w
 tail-long w l = ap length (tail-is w l) ∙ length-drop w l
 
+-- a number above zero is not zero, as a loop's test says it and as the laws ask it
+pub some : {n : ℕ} → 0 < n → n ≡ 0 → ⊥
+some h e = let k = h in not-suc-le-zero (subst (λ (m : ℕ). 0 < m) e k)
+
 -- of n records the first, and the others
 pub less-rows : (n w L : ℕ) → (n ≡ 0 → ⊥) → n * w ≤ L → (w ≤ L) × ((n - 1) * w ≤ L - w)
 less-rows zero w L z h = absurd (z refl)

@@ -18,14 +18,20 @@ fn rising(reals: &[f64], k: usize, t: f64) -> bool
     requires { ⌜ k * 10 ≤ length (now reals) ⌝ }
     ensures { λ r. ⌜ ((q : List ℕ) → r ≡ rising t (placesOf k q (now (reals .entry)))) ⌝ }
 {
-    if k == 0 {
-        return true;
+    let mut rest = reals;
+    let mut left = k;
+    let mut from = t;
+    while 0 < left {
+        let u = rest[0];
+        if from <= u {
+            rest = &rest[10..];
+            left -= 1;
+            from = u;
+        } else {
+            return false;
+        }
     }
-    let u = reals[0];
-    if t <= u {
-        return rising(&reals[10..], k - 1, u);
-    }
-    false
+    true
 }
 
 // The first place: are its floats finite, and its time below f64::MAX?
@@ -102,13 +108,18 @@ fn all_held(
     requires { ⌜ (j * 4 ≤ length (now nums)) × (j * 10 ≤ length (now reals)) × (k ≤ length (now members)) ⌝ }
     ensures { λ r. ⌜ r ≡ all (held n c (take k (now (members .entry)))) (placesOf j (now (nums .entry)) (now (reals .entry))) ⌝ }
 {
-    if j == 0 {
-        return true;
+    let mut places = nums;
+    let mut floats = reals;
+    let mut left = j;
+    while 0 < left {
+        if !held(places, floats, members, k, n, c) {
+            return false;
+        }
+        places = &places[4..];
+        floats = &floats[10..];
+        left -= 1;
     }
-    if !held(nums, reals, members, k, n, c) {
-        return false;
-    }
-    all_held(&nums[4..], &reals[10..], j - 1, members, k, n, c)
+    true
 }
 
 // The first row, of cell c of n, whose grains are the first row of `members`: in time order from t on, and each event held.
@@ -146,16 +157,23 @@ pub fn queues_ok(
     requires { ⌜ Rowed room (room * 4 + 1) m (now queue) × (m * (room * 10) ≤ length (now events)) × (room ≤ 256) × Rowed 32 33 n (now members) × (n ≤ 256) × (c + m ≡ n) ⌝ }
     ensures { λ r. ⌜ r ≡ walk (λ i q. queueOk t room n i (liveAt (rowsOf 32 n (now (members .entry))) i) q) c (queuesOf room m (now (queue .entry)) (now (events .entry))) ⌝ }
 {
-    if m == 0 {
-        return true;
-    }
-    let a = c * 33;
-    if !queue_ok(queue, events, room, &members[a..], n as u64, c as u64, t) {
-        return false;
-    }
     let w = room * 4 + 1;
     let v = room * 10;
-    queues_ok(&queue[w..], &events[v..], room, m - 1, members, n, c + 1, t)
+    let mut rows = queue;
+    let mut floats = events;
+    let mut left = m;
+    let mut at = c;
+    while 0 < left {
+        let a = at * 33;
+        if !queue_ok(rows, floats, room, &members[a..], n as u64, at as u64, t) {
+            return false;
+        }
+        rows = &rows[w..];
+        floats = &floats[v..];
+        left -= 1;
+        at += 1;
+    }
+    true
 }
 
 // Synchronisations among the first k places.

@@ -14,13 +14,16 @@ pub fn has(nums: &[u64], k: usize, x: u64) -> bool
     requires { ⌜ k ≤ length (now nums) ⌝ }
     ensures { λ r. ⌜ r ≡ has x (take k (now (nums .entry))) ⌝ }
 {
-    if k == 0 {
-        return false;
+    let mut rest = nums;
+    let mut left = k;
+    while 0 < left {
+        if x == rest[0] {
+            return true;
+        }
+        rest = &rest[1..];
+        left -= 1;
     }
-    if x == nums[0] {
-        return true;
-    }
-    has(&nums[1..], k - 1, x)
+    false
 }
 
 // Is each of them below n?
@@ -28,13 +31,16 @@ fn below(nums: &[u64], k: usize, n: u64) -> bool
     requires { ⌜ k ≤ length (now nums) ⌝ }
     ensures { λ r. ⌜ r ≡ all (λ x. ltb x n) (take k (now (nums .entry))) ⌝ }
 {
-    if k == 0 {
-        return true;
+    let mut rest = nums;
+    let mut left = k;
+    while 0 < left {
+        if n <= rest[0] {
+            return false;
+        }
+        rest = &rest[1..];
+        left -= 1;
     }
-    if n <= nums[0] {
-        return false;
-    }
-    below(&nums[1..], k - 1, n)
+    true
 }
 
 // Does none of them come twice?
@@ -56,13 +62,16 @@ pub fn counted(rows: &[u64], v: usize, w: usize, n: usize) -> bool
     requires { ⌜ (1 ≤ w) × (n * w ≤ length (now rows)) ⌝ }
     ensures { λ r. ⌜ r ≡ counted v w n (now (rows .entry)) ⌝ }
 {
-    if n == 0 {
-        return true;
+    let mut rest = rows;
+    let mut left = n;
+    while 0 < left {
+        if (v as u64) < rest[0] {
+            return false;
+        }
+        rest = &rest[w..];
+        left -= 1;
     }
-    if (v as u64) < rows[0] {
-        return false;
-    }
-    counted(&rows[w..], v, w, n - 1)
+    true
 }
 
 // The first row: are its numbers below n, and once each?
@@ -82,14 +91,17 @@ fn side(rows: &[u64], v: usize, m: usize, n: u64) -> bool
     requires { ⌜ Rowed v (v + 1) m (now rows) × (v ≤ 256) ⌝ }
     ensures { λ r. ⌜ r ≡ all (numbers n v) (rowsOf v m (now (rows .entry))) ⌝ }
 {
-    if m == 0 {
-        return true;
-    }
-    if !numbers(rows, v, n) {
-        return false;
-    }
     let w = v + 1;
-    side(&rows[w..], v, m - 1, n)
+    let mut rest = rows;
+    let mut left = m;
+    while 0 < left {
+        if !numbers(rest, v, n) {
+            return false;
+        }
+        rest = &rest[w..];
+        left -= 1;
+    }
+    true
 }
 
 // Does each of m rows list some?
@@ -97,14 +109,17 @@ fn housed(rows: &[u64], v: usize, m: usize) -> bool
     requires { ⌜ Rowed v (v + 1) m (now rows) × (v ≤ 256) ⌝ }
     ensures { λ r. ⌜ r ≡ all housed (rowsOf v m (now (rows .entry))) ⌝ }
 {
-    if m == 0 {
-        return true;
-    }
-    if rows[0] < 1 {
-        return false;
-    }
     let w = v + 1;
-    housed(&rows[w..], v, m - 1)
+    let mut rest = rows;
+    let mut left = m;
+    while 0 < left {
+        if rest[0] < 1 {
+            return false;
+        }
+        rest = &rest[w..];
+        left -= 1;
+    }
+    true
 }
 
 // Does the first row list x?
@@ -133,13 +148,16 @@ fn listed_by(nums: &[u64], k: usize, others: &[u64], v: usize, n: usize, x: u64)
     requires { ⌜ (k ≤ length (now nums)) × Rowed v (v + 1) n (now others) × (v ≤ 256) × (n ≤ 256) ⌝ }
     ensures { λ r. ⌜ r ≡ all (λ c. has x (liveAt (rowsOf v n (now (others .entry))) c)) (take k (now (nums .entry))) ⌝ }
 {
-    if k == 0 {
-        return true;
+    let mut rest = nums;
+    let mut left = k;
+    while 0 < left {
+        if !lists(others, v, n, rest[0], x) {
+            return false;
+        }
+        rest = &rest[1..];
+        left -= 1;
     }
-    if !lists(others, v, n, nums[0], x) {
-        return false;
-    }
-    listed_by(&nums[1..], k - 1, others, v, n, x)
+    true
 }
 
 // Of m rows, the first of which is row x: does each that a row lists, list that row?
@@ -147,15 +165,20 @@ fn back(rows: &[u64], u: usize, m: usize, others: &[u64], v: usize, n: usize, x:
     requires { ⌜ Rowed u (u + 1) m (now rows) × (u ≤ 256) × Rowed v (v + 1) n (now others) × (v ≤ 256) × (n ≤ 256) × (x + m ≤ 256) ⌝ }
     ensures { λ r. ⌜ r ≡ walk (backRow (rowsOf v n (now (others .entry)))) x (rowsOf u m (now (rows .entry))) ⌝ }
 {
-    if m == 0 {
-        return true;
-    }
-    let k = rows[0] as usize;
-    if !listed_by(&rows[1..], k, others, v, n, x) {
-        return false;
-    }
     let w = u + 1;
-    back(&rows[w..], u, m - 1, others, v, n, x + 1)
+    let mut rest = rows;
+    let mut left = m;
+    let mut at = x;
+    while 0 < left {
+        let k = rest[0] as usize;
+        if !listed_by(&rest[1..], k, others, v, n, at) {
+            return false;
+        }
+        rest = &rest[w..];
+        left -= 1;
+        at += 1;
+    }
+    true
 }
 
 // Do g grains and n cells list each other, once each, and is each grain in some cell?

@@ -80,6 +80,10 @@ numbered (suc i) l = set (numbered i l) i i
 unfoldable pub start : ℕ → Scheduler
 start n = record { heap = numbered n (replicate 256 0); lookups = numbered n (replicate 256 0); cells = n }
 
+-- the scheduler with this heap, these lookups and so many cells
+abbrev pub made : List ℕ → List ℕ → ℕ → Scheduler
+made heap lookups n = record { heap = heap; lookups = lookups; cells = n }
+
 -- what a shift asks: the heap's room holds the cells, and no head time is above `last`
 pub record Fit (h : ℕ → Float) (s : Scheduler) : Type 0 where
   pub room : s .cells ≤ 256

@@ -1,8 +1,8 @@
 // The scheduler: a minimum heap of cell numbers by head time, with its inverse.
 ghost use mathlib.Core.Path.{_≡_};
-ghost use Prim.Native.Nat.{_≤_, _<_};
+ghost use Prim.Native.Nat.{ℕ, _≤_, _<_};
 ghost use lib.ListN.{length};
-ghost use Rattle.scheduler.specs.Heap.{headIn, timeIn, swapAt, pick, childIn, downshifted, parentIn, upshifted, updated, start, Fit};
+ghost use Rattle.scheduler.specs.Heap.{headIn, timeIn, swapAt, pick, childIn, downshifted, parentIn, upshifted, updated, start, made, Fit};
 
 const LAST: f64 = 1.7976931348623157e308;
 
@@ -120,56 +120,9 @@ impl Scheduler {
         }
     }
 
-    // The cells at two heap indices change places, in the heap and in the lookups.
-    fn swapped(mut self, a: usize, b: usize) -> Scheduler
-        requires { ⌜ (a < 256) × (b < 256) ⌝ }
-        ensures { λ r. ⌜ r ≡ swapAt self a b ⌝ }
-    {
-        let x = self.heap[a];
-        let y = self.heap[b];
-        self.heap[a] = y;
-        self.heap[b] = x;
-        let i = x as usize;
-        let j = y as usize;
-        let p = self.lookups[i];
-        let q = self.lookups[j];
-        self.lookups[i] = q;
-        self.lookups[j] = p;
-        self
-    }
-
-    // The cell at p goes down while a child's head is earlier.
-    fn downshift(self, times: &[f64], held: &[u64], room: usize, p: usize) -> Scheduler
-        requires { ⌜ Fit (headIn (now times) (now held) room) self × (room ≤ 256) ⌝ }
-        ensures { λ r. ⌜ r ≡ downshifted (headIn (now (times .entry)) (now (held .entry)) room) self p ⌝ }
-    {
-        let n = self.cells;
-        if n <= p {
-            return self;
-        }
-        let q = child(&self.heap, n, times, held, room, p);
-        if q == p {
-            return self;
-        }
-        self.swapped(p, q).downshift(times, held, room, q)
-    }
-
-    // The cell at c goes up while its head is earlier than its parent's.
-    fn upshift(self, times: &[f64], held: &[u64], room: usize, c: usize) -> Scheduler
-        requires { ⌜ (self .cells ≤ 256) × (room ≤ 256) ⌝ }
-        ensures { λ r. ⌜ r ≡ upshifted (headIn (now (times .entry)) (now (held .entry)) room) self c ⌝ }
-    {
-        let n = self.cells;
-        let p = parent(&self.heap, n, times, held, room, c);
-        if p == c {
-            return self;
-        }
-        self.swapped(c, p).upshift(times, held, room, p)
-    }
-
     // The cell's head went from before to after: it finds its place again.
     pub fn update(
-        self,
+        mut self,
         times: &[f64],
         held: &[u64],
         room: usize,
@@ -180,11 +133,86 @@ impl Scheduler {
         requires { ⌜ Fit (headIn (now times) (now held) room) self × (cell < 256) × (room ≤ 256) ⌝ }
         ensures { λ r. ⌜ r ≡ updated (headIn (now (times .entry)) (now (held .entry)) room) self cell before after ⌝ }
     {
-        let at = self.lookups[cell];
+        let n = self.cells;
+        let mut heap = self.heap;
+        let mut lookups = self.lookups;
+        let at = lookups[cell] as usize;
         if before < after {
-            self.downshift(times, held, room, at as usize)
+            downshift(&mut heap, &mut lookups, n, times, held, room, at);
         } else {
-            self.upshift(times, held, room, at as usize)
+            upshift(&mut heap, &mut lookups, n, times, held, room, at);
         }
+        self.heap = heap;
+        self.lookups = lookups;
+        self
     }
+}
+
+// A cell's number, or a heap index, to read a table at.
+fn index(number: u8) -> usize
+    ensures { λ r. ⌜ (r ≡ number) × (r < 256) ⌝ }
+{
+    number as usize
+}
+
+// The cells at two heap indices change places, in the heap and in the lookups. Both are lent, so that a shift copies neither.
+fn swap(heap: &mut [u8; 256], lookups: &mut [u8; 256], a: usize, b: usize)
+    requires { ⌜ (a < 256) × (b < 256) ⌝ }
+    ensures { λ _. ⌜ ((n : ℕ) → made (now (heap .exit)) (now (lookups .exit)) n ≡ swapAt (made (now (heap .entry)) (now (lookups .entry)) n) a b) ⌝ }
+{
+    let x = heap[a];
+    let y = heap[b];
+    heap[a] = y;
+    heap[b] = x;
+    let i = index(x);
+    let j = index(y);
+    let p = lookups[i];
+    let q = lookups[j];
+    lookups[i] = q;
+    lookups[j] = p;
+}
+
+// The cell at p goes down while a child's head is earlier.
+fn downshift(
+    heap: &mut [u8; 256],
+    lookups: &mut [u8; 256],
+    n: usize,
+    times: &[f64],
+    held: &[u64],
+    room: usize,
+    p: usize,
+)
+    requires { ⌜ Fit (headIn (now times) (now held) room) (made (now heap) (now lookups) n) × (room ≤ 256) ⌝ }
+    ensures { λ _. ⌜ made (now (heap .exit)) (now (lookups .exit)) n ≡ downshifted (headIn (now (times .entry)) (now (held .entry)) room) (made (now (heap .entry)) (now (lookups .entry)) n) p ⌝ }
+{
+    if n <= p {
+        return;
+    }
+    let q = child(&heap[..], n, times, held, room, p);
+    if q == p {
+        return;
+    }
+    swap(heap, lookups, p, q);
+    downshift(heap, lookups, n, times, held, room, q);
+}
+
+// The cell at c goes up while its head is earlier than its parent's.
+fn upshift(
+    heap: &mut [u8; 256],
+    lookups: &mut [u8; 256],
+    n: usize,
+    times: &[f64],
+    held: &[u64],
+    room: usize,
+    c: usize,
+)
+    requires { ⌜ (n ≤ 256) × (room ≤ 256) ⌝ }
+    ensures { λ _. ⌜ made (now (heap .exit)) (now (lookups .exit)) n ≡ upshifted (headIn (now (times .entry)) (now (held .entry)) room) (made (now (heap .entry)) (now (lookups .entry)) n) c ⌝ }
+{
+    let p = parent(&heap[..], n, times, held, room, c);
+    if p == c {
+        return;
+    }
+    swap(heap, lookups, c, p);
+    upshift(heap, lookups, n, times, held, room, p);
 }

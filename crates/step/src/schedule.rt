@@ -64,25 +64,16 @@ pub fn schedule_collisions(
     ensures { λ r. ⌜ Does (Seen z w (now (grains .entry)) (now (queue .entry)) (now (events .entry)) (now (order .entry)))
         (Seen z w (now (grains .entry)) (now (queue .exit)) (now (events .exit)) (now (order .exit))) r (eachOf (scheduleCollision (cell .index) p) (others but (now (list .entry)))) ⌝ }
 {
-    if list.len() == 0 {
-        return 0;
+    let mut rest = list;
+    while 0 < rest.len() {
+        let q = rest[0] as usize;
+        let r = schedule_collision(grains, queue, events, order, z, w, cell, p, but, q);
+        if r != 0 {
+            return r;
+        }
+        rest = &rest[1..];
     }
-    let r = schedule_collision(
-        grains,
-        queue,
-        events,
-        order,
-        z,
-        w,
-        cell,
-        p,
-        but,
-        list[0] as usize,
-    );
-    if r != 0 {
-        return r;
-    }
-    schedule_collisions(&list[1..], grains, queue, events, order, z, w, cell, p, but)
+    0
 }
 
 // What a grain does at one of a cell's bounds in a direction.

@@ -1,25 +1,25 @@
--- What one step of each recursion over a run of places shows, said of the tables' lists alone. Assumes nothing.
+-- Runs of places: one place read and written, and what each step of a loop over them keeps, said of lists of places. Assumes nothing.
 use mathlib.Core.Path.{_≡_, refl, sym, ap, _∙_, subst}
 use Prim.Native.Nat.{ℕ, zero, suc, _+_, _-_, _*_, _≤_, _<_}
 use native.Mathlib.Nat.{suc-ne-zero}
 use native.Mathlib.Omega.{arith}
-use mathlib.Core.List.{List, [], _∷_, _++_, append-assoc}
-use lib.ListN.{length, replicate, length-append}
+use mathlib.Core.List.{List, [], _∷_, _++_, append-assoc, append-nil}
+use lib.ListN.{length, replicate, getD, set, length-append}
 use lib.Ieee.{Float, le, lt}
 use lib.Ieee.Scale.{finite}
-use mathlib.Core.Bool.{Bool, true, false, _&&_, _||_}
-use lib.Dec.{eqb}
-use borrow.Author.Tests.{eq-eqb, ne-eqb}
+use mathlib.Core.Bool.{Bool, true, false, _&&_}
+use lib.Dec.{eqb, ltb, lit<}
+use borrow.Author.Tests.{eq-eqb, ne-eqb, le-ltb}
 use borrow.Rule.Slice.PartMut.{midOf, putMid}
 use Rattle.chunks.specs.Flat.{flat}
-use Rattle.chunks.proofs.Laws.{mid-tail, put-tail, row-long}
+use Rattle.chunks.proofs.Laws.{mid-tail, put-tail, row-long, row-get, row-put}
 use Rattle.order.specs.Numbers.{last}
 use Rattle.model.specs.declared.Place.{Place}
-use Rattle.model.specs.declared.Event.{Event}
-use Rattle.model.specs.declared.Event.the-variants.{Synchronisation}
+use Rattle.halting.specs.Out.{pick}
 use Rattle.model.specs.Events.{insertBy, zeroP, keepBy, goneBy, names, eventOf, fineV, finePlace}
 use Rattle.tables.specs.Layout.{placeNums, placeReals}
 use Rattle.tables.specs.Holds.{Run}
+use Rattle.tables.specs.Places.{Passed, Keeping}
 
 -- ---- rule 5 of a place, in the order in which it is tested
 
@@ -34,20 +34,103 @@ fine-is s = and-assoc (finite (s .time)) (lt (s .time) last) (fineV (s .a) && (f
 
 -- ---- one place of a run
 
--- the tables after the first place, and with what stands there put back
-pub tail-of : {ns : List ℕ} {rs : List Float} {s : Place} {ps : List Place} → Run ns rs (s ∷ ps)
-    → Run (midOf 4 (length ns - 4) ns) (midOf 10 (length rs - 10) rs) ps
-tail-of {s = s} {ps = ps} h = record {
-  nums-is = mid-tail (placeNums s) (flat placeNums ps) 4 (h .nums-is) refl;
-  reals-is = mid-tail (placeReals s) (flat placeReals ps) 10 (h .reals-is) refl;
-}
+module _ {ns : List ℕ} {rs : List Float} {ps : List Place} (h : Run ns rs ps) (i : ℕ) (m : i * 4 + 4 ≤ length ns) (n : i * 10 + 10 ≤ length rs) where
+  pub place-read : Run (midOf (i * 4) (i * 4 + 4 - i * 4) ns) (midOf (i * 10) (i * 10 + 10 - i * 10) rs) (getD ps i zeroP ∷ [])
+  place-read = record {
+    nums-is = row-get placeNums 4 (λ p. refl) (lit< tt) ps i zeroP (h .nums-is) m;
+    reals-is = row-get placeReals 10 (λ p. refl) (lit< tt) ps i zeroP (h .reals-is) n;
+  }
 
-pub tail-back : {ns ns′ : List ℕ} {rs rs′ : List Float} {s : Place} {ps qs : List Place} → Run ns rs (s ∷ ps) → Run ns′ rs′ qs
-    → Run (putMid 4 (length ns - 4) ns ns′) (putMid 10 (length rs - 10) rs rs′) (s ∷ qs)
-tail-back {ns′ = ns′} {rs′ = rs′} {s = s} {ps = ps} h k = record {
-  nums-is = put-tail (placeNums s) (flat placeNums ps) 4 ns′ (h .nums-is) refl ∙ ap (λ (l : List ℕ). placeNums s ++ l) (k .nums-is);
-  reals-is = put-tail (placeReals s) (flat placeReals ps) 10 rs′ (h .reals-is) refl ∙ ap (λ (l : List Float). placeReals s ++ l) (k .reals-is);
-}
+  pub place-written : {s : Place} {ns′ : List ℕ} {rs′ : List Float} → Run ns′ rs′ (s ∷ [])
+      → Run (putMid (i * 4) (i * 4 + 4 - i * 4) ns ns′) (putMid (i * 10) (i * 10 + 10 - i * 10) rs rs′) (set ps i s)
+  place-written {s} k = record {
+    nums-is = row-put placeNums 4 (λ p. refl) (lit< tt) ps i zeroP s (h .nums-is) m (k .nums-is);
+    reals-is = row-put placeReals 10 (λ p. refl) (lit< tt) ps i zeroP s (h .reals-is) n (k .reals-is);
+  }
+
+-- ---- the tables behind some places
+
+flat-append : {A B : Type 0} (enc : A → List B) (xs ys : List A) → flat enc (xs ++ ys) ≡ flat enc xs ++ flat enc ys
+flat-append enc [] ys = refl
+flat-append {B = B} enc (x ∷ xs) ys = ap (λ (l : List B). enc x ++ l) (flat-append enc xs ys) ∙ sym (append-assoc (enc x) (flat enc xs) (flat enc ys))
+
+pub nums-long : (ps : List Place) → length (flat placeNums ps) ≡ length ps * 4
+nums-long ps = row-long placeNums 4 (λ x. refl) (omega arith) ps refl
+
+pub reals-long : (ps : List Place) → length (flat placeReals ps) ≡ length ps * 10
+reals-long ps = row-long placeReals 10 (λ x. refl) (omega arith) ps refl
+
+module _ (k : ℕ) (front ps : List Place) {ns : List ℕ} {rs : List Float} (e : length front ≡ k) (h : Run ns rs (front ++ ps)) where
+  nums-front : length (flat placeNums front) ≡ k * 4
+  nums-front = nums-long front ∙ ap (λ (n : ℕ). n * 4) e
+
+  reals-front : length (flat placeReals front) ≡ k * 10
+  reals-front = reals-long front ∙ ap (λ (n : ℕ). n * 10) e
+
+  pub behind : Run (midOf (k * 4) (length ns - k * 4) ns) (midOf (k * 10) (length rs - k * 10) rs) ps
+  behind = record {
+    nums-is = mid-tail (flat placeNums front) (flat placeNums ps) (k * 4) (h .nums-is ∙ flat-append placeNums front ps) nums-front;
+    reals-is = mid-tail (flat placeReals front) (flat placeReals ps) (k * 10) (h .reals-is ∙ flat-append placeReals front ps) reals-front;
+  }
+
+  pub put-behind : {ns′ : List ℕ} {rs′ : List Float} {qs : List Place} → Run ns′ rs′ qs
+      → Run (putMid (k * 4) (length ns - k * 4) ns ns′) (putMid (k * 10) (length rs - k * 10) rs rs′) (front ++ qs)
+  put-behind {ns′} {rs′} {qs} r = record {
+    nums-is = put-tail (flat placeNums front) (flat placeNums ps) (k * 4) ns′ (h .nums-is ∙ flat-append placeNums front ps) nums-front
+        ∙ ap (λ (l : List ℕ). flat placeNums front ++ l) (r .nums-is) ∙ sym (flat-append placeNums front qs);
+    reals-is = put-tail (flat placeReals front) (flat placeReals ps) (k * 10) rs′ (h .reals-is ∙ flat-append placeReals front ps) reals-front
+        ∙ ap (λ (l : List Float). flat placeReals front ++ l) (r .reals-is) ∙ sym (flat-append placeReals front qs);
+  }
+
+-- ---- lists cut at a place
+
+get-mid : (front : List Place) (y : Place) (back : List Place) {i : ℕ} → length front ≡ i → getD (front ++ y ∷ back) i zeroP ≡ y
+get-mid front y back e = subst (λ (k : ℕ). getD (front ++ y ∷ back) k zeroP ≡ y) e (go front)
+  where
+    go : (l : List Place) → getD (l ++ y ∷ back) (length l) zeroP ≡ y
+    go [] = refl
+    go (x ∷ l) = go l
+
+set-mid : (front : List Place) (w y : Place) (back : List Place) {i : ℕ} → length front ≡ i → set (front ++ w ∷ back) i y ≡ front ++ y ∷ back
+set-mid front w y back e = subst (λ (k : ℕ). set (front ++ w ∷ back) k y ≡ front ++ y ∷ back) e (go front)
+  where
+    go : (l : List Place) → set (l ++ w ∷ back) (length l) y ≡ l ++ y ∷ back
+    go [] = refl
+    go (x ∷ l) = ap (λ (t : List Place). x ∷ t) (go l)
+
+-- an element goes from behind to the front
+over-to : (front : List Place) (y : Place) (back : List Place) → front ++ y ∷ back ≡ (front ++ y ∷ []) ++ back
+over-to front y back = sym (append-assoc front (y ∷ []) back)
+
+one-more : (front : List Place) (y : Place) → length (front ++ y ∷ []) ≡ length front + 1
+one-more front y = length-append front (y ∷ [])
+
+-- a list that is not empty ends in an element
+record Ended (l : List Place) : Type 0 where
+  front : List Place
+  end : Place
+  is : l ≡ front ++ end ∷ []
+
+ended : (l : List Place) → 0 < length l → Ended l
+ended [] p = absurd (omega arith)
+ended (x ∷ []) p = record { front = []; end = x; is = refl }
+ended (x ∷ y ∷ l) p =
+    let r = ended (y ∷ l) (omega arith) in
+    record { front = x ∷ r .front; end = r .end; is = ap (λ (t : List Place). x ∷ t) (r .is) }
+
+-- a list that is not empty starts with one
+record Started (l : List Place) : Type 0 where
+  head : Place
+  back : List Place
+  is : l ≡ head ∷ back
+
+started : (l : List Place) → 0 < length l → Started l
+started [] p = absurd (omega arith)
+started (x ∷ l) p = record { head = x; back = l; is = refl }
+
+empty : (l : List Place) → length l ≡ 0 → l ≡ []
+empty [] e = refl
+empty (x ∷ l) e = absurd (suc-ne-zero (length l) e)
 
 -- ---- one step of the rules on lists
 insert-only : (s : Place) → insertBy s [] ≡ s ∷ []
@@ -74,199 +157,394 @@ keep-in : (g : ℕ) (y : Place) (l : List Place) → names (eventOf (y .kind) y)
 unfolding keepBy goneBy
 keep-in g y l u = rw u (refl, refl)
 
--- ---- push
+-- ---- whether an event names g, by the two numbers of its place and its kind
 
-pub push-none : (live rest : List Place) (x : Place) {n : ℕ} {ns ns′ : List ℕ} {rs rs′ : List Float} {s : Place} → n ≡ 0
-    → ((y : Place) (ps : List Place) → Run ns rs (y ∷ ps) → Run ns′ rs′ (s ∷ ps))
-    → n ≡ length live → Run ns rs (live ++ x ∷ rest) → Run ns′ rs′ (s ∷ live ++ rest)
-push-none [] rest x z put e h = put x rest h
-push-none (y ∷ live) rest x z put e h = absurd (suc-ne-zero (length live) (sym e ∙ z))
+pub names-neither : (k : ℕ) (s : Place) (g : ℕ) → (s .p ≡ g → ⊥) → (s .q ≡ g → ⊥) → names (eventOf k s) g ≡ false
+names-neither zero s g a b = refl
+names-neither (suc zero) s g a b = rw (ne-eqb (s .p) g a) (ne-eqb (s .q) g b)
+names-neither (suc (suc zero)) s g a b = ne-eqb (s .p) g a
+names-neither (suc (suc (suc zero))) s g a b = ne-eqb (s .p) g a
+names-neither (suc (suc (suc (suc zero)))) s g a b = ne-eqb (s .p) g a
+names-neither (suc (suc (suc (suc (suc k))))) s g a b = refl
 
-pub push-more : (live rest : List Place) (x : Place) {n : ℕ} {ns ns₁ ns₂ : List ℕ} {rs rs₁ rs₂ : List Float} {s old : Place} → (n ≡ 0 → ⊥)
-    → ((y : Place) (ps : List Place) → Run ns rs (y ∷ ps) → old ≡ y)
-    → ((y : Place) (ps : List Place) → Run ns rs (y ∷ ps) → Run ns₁ rs₁ (s ∷ ps))
-    → ((live rest : List Place) (x : Place) → n - 1 ≡ length live → Run (midOf 4 (length ns₁ - 4) ns₁) (midOf 10 (length rs₁ - 10) rs₁) (live ++ x ∷ rest) → Run ns₂ rs₂ (old ∷ live ++ rest))
-    → n ≡ length live → Run ns rs (live ++ x ∷ rest)
-    → Run (putMid 4 (length ns₁ - 4) ns₁ ns₂) (putMid 10 (length rs₁ - 10) rs₁ rs₂) (s ∷ live ++ rest)
-push-more [] rest x z got put again e h = absurd (z e)
-push-more (y ∷ live) rest x {ns₂ = ns₂} {rs₂ = rs₂} z got put again e h =
-    let h₁ = put y (live ++ x ∷ rest) h in
-    tail-back h₁ (subst (λ (o : Place). Run ns₂ rs₂ (o ∷ live ++ rest)) (got y (live ++ x ∷ rest) h) (again live rest x (omega arith) (tail-of h₁)))
+pub names-second : (k : ℕ) (s : Place) (g : ℕ) → (s .p ≡ g → ⊥) → s .q ≡ g → names (eventOf k s) g ≡ eqb k 1
+names-second zero s g a b = refl
+names-second (suc zero) s g a b = rw (ne-eqb (s .p) g a) (eq-eqb (s .q) g b)
+names-second (suc (suc zero)) s g a b = ne-eqb (s .p) g a
+names-second (suc (suc (suc zero))) s g a b = ne-eqb (s .p) g a
+names-second (suc (suc (suc (suc zero)))) s g a b = ne-eqb (s .p) g a
+names-second (suc (suc (suc (suc (suc k))))) s g a b = sym (ne-eqb (suc (suc (suc (suc (suc k))))) 1 (λ e. omega (arith, e)))
+
+pub names-first : (k : ℕ) (s : Place) (g : ℕ) → s .p ≡ g → (k ≡ 0 → ⊥) → names (eventOf k s) g ≡ ltb k 5
+names-first zero s g a z = absurd (z refl)
+names-first (suc zero) s g a z = rw (eq-eqb (s .p) g a) refl
+names-first (suc (suc zero)) s g a z = eq-eqb (s .p) g a
+names-first (suc (suc (suc zero))) s g a z = eq-eqb (s .p) g a
+names-first (suc (suc (suc (suc zero)))) s g a z = eq-eqb (s .p) g a
+names-first (suc (suc (suc (suc (suc k))))) s g a z = sym (le-ltb (suc (suc (suc (suc (suc k))))) 5 (omega arith))
+
+-- ---- push and pull: a place that is free for the next to move over lies among those in use
+
+pub record Moved (live rest : List Place) (i : ℕ) (ns : List ℕ) (rs : List Float) : Type 0 where
+  pub front : List Place
+  pub back : List Place
+  pub over : Place
+  pub is : live ≡ front ++ back
+  pub many : length front ≡ i
+  pub holds : Run ns rs (front ++ over ∷ (back ++ rest))
+
+-- it starts behind them, or before them
+pub free-last : (live rest : List Place) (x : Place) {n : ℕ} {ns : List ℕ} {rs : List Float} → n ≡ length live → Run ns rs (live ++ x ∷ rest) → Moved live rest n ns rs
+free-last live rest x e h = record { front = live; back = []; over = x; is = sym (append-nil live); many = sym e; holds = h }
+
+pub free-first : (live rest : List Place) (x : Place) {ns : List ℕ} {rs : List Float} → Run ns rs (x ∷ live ++ rest) → Moved live rest 0 ns rs
+free-first live rest x h = record { front = []; back = live; over = x; is = refl; many = refl; holds = h }
+
+-- the one before it moves up
+pub moved-up : {live rest : List Place} {i : ℕ} {ns ns′ : List ℕ} {rs rs′ : List Float} {last : Place} → Moved live rest i ns rs → 0 < i
+    → ((ps : List Place) → Run ns rs ps → last ≡ getD ps (i - 1) zeroP)
+    → ((ps : List Place) → Run ns rs ps → Run ns′ rs′ (set ps i last))
+    → Moved live rest (i - 1) ns′ rs′
+moved-up {live} {rest} {i} {ns} {ns′} {rs} {rs′} {last} m p got put =
+    let e = ended (m .front) (let k = m .many in omega arith) in
+    let t = m .back ++ rest in
+    let k = ap length (e .is) in
+    let l = one-more (e .front) (e .end) in
+    let q = m .many in
+    let short : length (e .front) ≡ i - 1 = omega arith in
+    let h : Run ns rs ((e .front ++ e .end ∷ []) ++ m .over ∷ t) = subst (λ (f : List Place). Run ns rs (f ++ m .over ∷ t)) (e .is) (m .holds) in
+    let h₁ : Run ns rs (e .front ++ e .end ∷ m .over ∷ t) = subst (Run ns rs) (append-assoc (e .front) (e .end ∷ []) (m .over ∷ t)) h in
+    let same : last ≡ e .end = got (e .front ++ e .end ∷ m .over ∷ t) h₁ ∙ get-mid (e .front) (e .end) (m .over ∷ t) short in
+    let long : length (e .front ++ e .end ∷ []) ≡ i = omega arith in
+    record {
+      front = e .front;
+      back = e .end ∷ m .back;
+      over = e .end;
+      is = m .is ∙ ap (λ (f : List Place). f ++ m .back) (e .is) ∙ append-assoc (e .front) (e .end ∷ []) (m .back);
+      many = short;
+      holds =
+          subst (Run ns′ rs′)
+          (set-mid (e .front ++ e .end ∷ []) (m .over) last t long ∙ ap (λ (y : Place). (e .front ++ e .end ∷ []) ++ y ∷ t) same
+          ∙ append-assoc (e .front) (e .end ∷ []) (e .end ∷ t))
+          (put ((e .front ++ e .end ∷ []) ++ m .over ∷ t) h);
+    }
+
+-- the one behind it moves down
+pub moved-down : {live rest : List Place} {i : ℕ} {ns ns′ : List ℕ} {rs rs′ : List Float} {next : Place} → Moved live rest i ns rs → i < length live
+    → ((ps : List Place) → Run ns rs ps → next ≡ getD ps (i + 1) zeroP)
+    → ((ps : List Place) → Run ns rs ps → Run ns′ rs′ (set ps i next))
+    → Moved live rest (i + 1) ns′ rs′
+moved-down {live} {rest} {i} {ns} {ns′} {rs} {rs′} {next} m p got put =
+    let k = ap length (m .is) in
+    let l = length-append (m .front) (m .back) in
+    let q = m .many in
+    let b = started (m .back) (omega arith) in
+    let t = b .back ++ rest in
+    let h : Run ns rs (m .front ++ m .over ∷ (b .head ∷ t)) = subst (λ (f : List Place). Run ns rs (m .front ++ m .over ∷ (f ++ rest))) (b .is) (m .holds) in
+    let h₁ : Run ns rs ((m .front ++ m .over ∷ []) ++ b .head ∷ t) = subst (Run ns rs) (over-to (m .front) (m .over) (b .head ∷ t)) h in
+    let o = one-more (m .front) (m .over) in
+    let long : length (m .front ++ m .over ∷ []) ≡ i + 1 = omega arith in
+    let same : next ≡ b .head = got ((m .front ++ m .over ∷ []) ++ b .head ∷ t) h₁ ∙ get-mid (m .front ++ m .over ∷ []) (b .head) t long in
+    let o′ = one-more (m .front) (b .head) in
+    record {
+      front = m .front ++ b .head ∷ [];
+      back = b .back;
+      over = b .head;
+      is = m .is ∙ ap (λ (f : List Place). m .front ++ f) (b .is) ∙ over-to (m .front) (b .head) (b .back);
+      many = omega arith;
+      holds =
+          subst (Run ns′ rs′)
+          (set-mid (m .front) (m .over) next (b .head ∷ t) (m .many) ∙ ap (λ (y : Place). m .front ++ y ∷ b .head ∷ t) same
+          ∙ over-to (m .front) (b .head) (b .head ∷ t))
+          (put (m .front ++ m .over ∷ (b .head ∷ t)) h);
+    }
+
+-- it ends before them, and takes s
+pub push-ends : {live rest : List Place} {i : ℕ} {ns ns′ : List ℕ} {rs rs′ : List Float} {s : Place} → Moved live rest i ns rs → i ≡ 0
+    → ((x : Place) (ps : List Place) → Run ns rs (x ∷ ps) → Run ns′ rs′ (s ∷ ps))
+    → Run ns′ rs′ (s ∷ live ++ rest)
+push-ends {live} {rest} {ns = ns} {ns′} {rs} {rs′} {s} m z put =
+    let e = empty (m .front) (m .many ∙ z) in
+    let same : live ≡ m .back = m .is ∙ ap (λ (f : List Place). f ++ m .back) e in
+    subst (λ (l : List Place). Run ns′ rs′ (s ∷ l ++ rest)) (sym same)
+    (put (m .over) (m .back ++ rest) (subst (λ (f : List Place). Run ns rs (f ++ m .over ∷ (m .back ++ rest))) e (m .holds)))
+
+-- it ends behind them, and is cleared
+pub pull-ends : {live rest : List Place} {n : ℕ} {ns ns′ : List ℕ} {rs rs′ : List Float} {z : Place} → Moved live rest n ns rs → n ≡ length live → z ≡ zeroP
+    → ((ps : List Place) → Run ns rs ps → Run ns′ rs′ (set ps n z))
+    → Run ns′ rs′ (live ++ zeroP ∷ rest)
+pull-ends {live} {rest} {n} {ns} {ns′} {rs} {rs′} {z} m e o put =
+    let k = ap length (m .is) in
+    let l = length-append (m .front) (m .back) in
+    let q = m .many in
+    let b = empty (m .back) (omega arith) in
+    let same : live ≡ m .front = m .is ∙ ap (λ (f : List Place). m .front ++ f) b ∙ append-nil (m .front) in
+    subst (Run ns′ rs′)
+    (set-mid (m .front) (m .over) z (m .back ++ rest) (m .many) ∙ ap (λ (y : Place). m .front ++ y ∷ (m .back ++ rest)) o
+    ∙ ap (λ (f : List Place). m .front ++ zeroP ∷ (f ++ rest)) b ∙ ap (λ (f : List Place). f ++ zeroP ∷ rest) (sym same))
+    (put (m .front ++ m .over ∷ (m .back ++ rest)) (m .holds))
 
 -- ---- insert
 
-pub insert-none : (live rest : List Place) (x : Place) {n : ℕ} {ns ns′ : List ℕ} {rs rs′ : List Float} {s : Place} → n ≡ 0
-    → ((y : Place) (ps : List Place) → Run ns rs (y ∷ ps) → Run ns′ rs′ (s ∷ ps))
-    → n ≡ length live → Run ns rs (live ++ x ∷ rest) → Run ns′ rs′ (insertBy s live ++ rest)
-insert-none [] rest x {s = s} z put e h = rw (insert-only s) (put x rest h)
-insert-none (y ∷ live) rest x z put e h = absurd (suc-ne-zero (length live) (sym e ∙ z))
+-- the first i places are not later than s
+pub record Passing (s : Place) (live : List Place) (i : ℕ) : Type 0 where
+  pub front : List Place
+  pub back : List Place
+  pub is : live ≡ front ++ back
+  pub many : length front ≡ i
+  pub goes : insertBy s live ≡ front ++ insertBy s back
 
-pub insert-on : (live rest : List Place) (x s : Place) {n : ℕ} {ns ns₂ : List ℕ} {rs rs₂ : List Float} {first : Place} → (n ≡ 0 → ⊥)
-    → ((y : Place) (ps : List Place) → Run ns rs (y ∷ ps) → first ≡ y)
-    → le (first .time) (s .time) ≡ true
-    → ((live rest : List Place) (x : Place) → n - 1 ≡ length live → Run (midOf 4 (length ns - 4) ns) (midOf 10 (length rs - 10) rs) (live ++ x ∷ rest) → Run ns₂ rs₂ (insertBy s live ++ rest))
-    → n ≡ length live → Run ns rs (live ++ x ∷ rest)
-    → Run (putMid 4 (length ns - 4) ns ns₂) (putMid 10 (length rs - 10) rs rs₂) (insertBy s live ++ rest)
-insert-on [] rest x s z got t again e h = absurd (z e)
-insert-on (y ∷ live) rest x s z got t again e h =
-    let u : le (y .time) (s .time) ≡ true = subst (λ (o : Place). le (o .time) (s .time) ≡ true) (got y (live ++ x ∷ rest) h) t in
-    rw (insert-later s y live u) (tail-back h (again live rest x (omega arith) (tail-of h)))
+pub passing-none : (s : Place) (live : List Place) → Passing s live 0
+passing-none s live = record { front = []; back = live; is = refl; many = refl; goes = refl }
 
-pub insert-here : (live rest : List Place) (x : Place) {n : ℕ} {ns ns₁ : List ℕ} {rs rs₁ : List Float} {s first : Place} → (n ≡ 0 → ⊥)
-    → ((y : Place) (ps : List Place) → Run ns rs (y ∷ ps) → first ≡ y)
-    → le (first .time) (s .time) ≡ false
-    → ((live rest : List Place) (x : Place) → n ≡ length live → Run ns rs (live ++ x ∷ rest) → Run ns₁ rs₁ (s ∷ live ++ rest))
-    → n ≡ length live → Run ns rs (live ++ x ∷ rest) → Run ns₁ rs₁ (insertBy s live ++ rest)
-insert-here [] rest x z got t pushed e h = absurd (z e)
-insert-here (y ∷ live) rest x {s = s} z got t pushed e h =
-    let u : le (y .time) (s .time) ≡ false = subst (λ (o : Place). le (o .time) (s .time) ≡ false) (got y (live ++ x ∷ rest) h) t in
-    rw (insert-first s y live u) (pushed (y ∷ live) rest x e h)
+module _ {s : Place} {live : List Place} {i n : ℕ} {ns : List ℕ} {rs : List Float} {first : Place} (rest : List Place) (m : Passing s live i) (e : n ≡ length live) (p : i < n) (h : Run ns rs (live ++ rest))
+    (got : (ps : List Place) → Run ns rs ps → first ≡ getD ps i zeroP) where
+  later : Started (m .back)
+  later = let k = ap length (m .is) in let l = length-append (m .front) (m .back) in let q = m .many in started (m .back) (omega arith)
 
--- ---- pull
+  first-is : first ≡ later .head
+  first-is =
+      let cut : live ++ rest ≡ m .front ++ later .head ∷ (later .back ++ rest) =
+      ap (λ (f : List Place). f ++ rest) (m .is ∙ ap (λ (f : List Place). m .front ++ f) (later .is)) ∙ append-assoc (m .front) (later .head ∷ later .back) rest
+      in
+      got (live ++ rest) h ∙ ap (λ (l : List Place). getD l i zeroP) cut ∙ get-mid (m .front) (later .head) (later .back ++ rest) (m .many)
 
-pub pull-none : (live rest : List Place) (x : Place) {n : ℕ} {ns ns′ : List ℕ} {rs rs′ : List Float} {z : Place} → n ≡ 0 → z ≡ zeroP
-    → ((y : Place) (ps : List Place) → Run ns rs (y ∷ ps) → Run ns′ rs′ (z ∷ ps))
-    → n ≡ length live → Run ns rs (x ∷ live ++ rest) → Run ns′ rs′ (live ++ zeroP ∷ rest)
-pull-none [] rest x {ns′ = ns′} {rs′ = rs′} m o put e h = subst (λ (s : Place). Run ns′ rs′ (s ∷ rest)) o (put x rest h)
-pull-none (y ∷ live) rest x m o put e h = absurd (suc-ne-zero (length live) (sym e ∙ m))
+  pub passing-more : le (first .time) (s .time) ≡ true → Passing s live (i + 1)
+  passing-more t =
+      let o = one-more (m .front) (later .head) in
+      let q = m .many in
+      record {
+        front = m .front ++ later .head ∷ [];
+        back = later .back;
+        is = m .is ∙ ap (λ (f : List Place). m .front ++ f) (later .is) ∙ over-to (m .front) (later .head) (later .back);
+        many = omega arith;
+        goes =
+            m .goes ∙ ap (λ (f : List Place). m .front ++ insertBy s f) (later .is)
+            ∙ ap (λ (f : List Place). m .front ++ f) (insert-later s (later .head) (later .back) (subst (λ (o : Place). le (o .time) (s .time) ≡ true) first-is t))
+            ∙ over-to (m .front) (later .head) (insertBy s (later .back));
+      }
 
-pub pull-more : (live rest : List Place) (x : Place) {n : ℕ} {ns ns₁ ns₂ : List ℕ} {rs rs₁ rs₂ : List Float} {next : Place} → (n ≡ 0 → ⊥)
-    → ((y : Place) (ps : List Place) → Run (midOf 4 (length ns - 4) ns) (midOf 10 (length rs - 10) rs) (y ∷ ps) → next ≡ y)
-    → ((y : Place) (ps : List Place) → Run ns rs (y ∷ ps) → Run ns₁ rs₁ (next ∷ ps))
-    → ((live rest : List Place) (x : Place) → n - 1 ≡ length live → Run (midOf 4 (length ns₁ - 4) ns₁) (midOf 10 (length rs₁ - 10) rs₁) (x ∷ live ++ rest) → Run ns₂ rs₂ (live ++ zeroP ∷ rest))
-    → n ≡ length live → Run ns rs (x ∷ live ++ rest)
-    → Run (putMid 4 (length ns₁ - 4) ns₁ ns₂) (putMid 10 (length rs₁ - 10) rs₁ rs₂) (live ++ zeroP ∷ rest)
-pull-more [] rest x z got put again e h = absurd (z e)
-pull-more (y ∷ live) rest x {ns₁ = ns₁} {ns₂ = ns₂} {rs₁ = rs₁} {rs₂ = rs₂} z got put again e h =
-    let h₁ = put x (y ∷ live ++ rest) h in
-    subst (λ (o : Place). Run (putMid 4 (length ns₁ - 4) ns₁ ns₂) (putMid 10 (length rs₁ - 10) rs₁ rs₂) (o ∷ live ++ zeroP ∷ rest))
-    (got y (live ++ rest) (tail-of h))
-    (tail-back h₁ (again live rest y (omega arith) (tail-of h₁)))
+  pub passed-here : le (first .time) (s .time) ≡ false → Passed s live i
+  passed-here t = record {
+    front = m .front;
+    back = m .back;
+    is = m .is;
+    many = m .many;
+    goes =
+        m .goes ∙ ap (λ (f : List Place). m .front ++ insertBy s f) (later .is)
+        ∙ ap (λ (f : List Place). m .front ++ f) (insert-first s (later .head) (later .back) (subst (λ (o : Place). le (o .time) (s .time) ≡ false) first-is t))
+        ∙ ap (λ (f : List Place). m .front ++ s ∷ f) (sym (later .is));
+  }
 
--- ---- whether one of two numbers is g
+pub passed-all : {s : Place} {live : List Place} {i n : ℕ} → Passing s live i → n ≡ length live → i ≡ n → Passed s live n
+passed-all {s} m e p =
+    let k = ap length (m .is) in
+    let l = length-append (m .front) (m .back) in
+    let q = m .many in
+    let b = empty (m .back) (omega arith) in
+    record {
+      front = m .front;
+      back = m .back;
+      is = m .is;
+      many = m .many ∙ p;
+      goes = m .goes ∙ ap (λ (f : List Place). m .front ++ insertBy s f) b ∙ ap (λ (f : List Place). m .front ++ f) (insert-only s) ∙ ap (λ (f : List Place). m .front ++ s ∷ f) (sym b);
+    }
 
-pub or-yes : (a b g : ℕ) → a ≡ g → (eqb a g || eqb b g) ≡ true
-or-yes a b g h = ap (λ (t : Bool). t || eqb b g) (eq-eqb a g h)
-
-pub or-no : (a b g : ℕ) → (a ≡ g → ⊥) → (eqb a g || eqb b g) ≡ eqb b g
-or-no a b g h = ap (λ (t : Bool). t || eqb b g) (ne-eqb a g h)
+pub insert-ends : {s : Place} {live : List Place} {i n : ℕ} {ns ns′ : List ℕ} {rs rs′ : List Float} (rest : List Place) (x : Place) → Passed s live i → n ≡ length live
+    → ((live rest : List Place) (x : Place) → n - i ≡ length live → Run (midOf (i * 4) (length ns - i * 4) ns) (midOf (i * 10) (length rs - i * 10) rs) (live ++ x ∷ rest) → Run ns′ rs′ (s ∷ live ++ rest))
+    → Run ns rs (live ++ x ∷ rest)
+    → Run (putMid (i * 4) (length ns - i * 4) ns ns′) (putMid (i * 10) (length rs - i * 10) rs rs′) (insertBy s live ++ rest)
+insert-ends {s} {live} {i} {n} {ns} {ns′} {rs} {rs′} rest x m e push h =
+    let k = ap length (m .is) in
+    let l = length-append (m .front) (m .back) in
+    let q = m .many in
+    let cut : live ++ x ∷ rest ≡ m .front ++ (m .back ++ x ∷ rest) = ap (λ (f : List Place). f ++ x ∷ rest) (m .is) ∙ append-assoc (m .front) (m .back) (x ∷ rest) in
+    let h₁ : Run ns rs (m .front ++ (m .back ++ x ∷ rest)) = subst (Run ns rs) cut h in
+    subst (Run (putMid (i * 4) (length ns - i * 4) ns ns′) (putMid (i * 10) (length rs - i * 10) rs rs′))
+    (sym (append-assoc (m .front) (s ∷ m .back) rest) ∙ ap (λ (f : List Place). f ++ rest) (sym (m .goes)))
+    (put-behind i (m .front) (m .back ++ x ∷ rest) (m .many) h₁ (push (m .back) rest x (omega arith) (behind i (m .front) (m .back ++ x ∷ rest) (m .many) h₁)))
 
 -- ---- clear
 
--- what `clear` says of the tables
-abbrev pub Cleared : (n : ℕ) (ns ns′ : List ℕ) (rs rs′ : List Float) → Type 0
-Cleared n ns ns′ rs rs′ = (given rest : List Place) → n ≡ length given → Run ns rs (given ++ rest) → Run ns′ rs′ (replicate n zeroP ++ rest)
+-- the places from `from` to before i are cleared
+pub record Clearing (kept given rest : List Place) (from i : ℕ) (ns : List ℕ) (rs : List Float) : Type 0 where
+  pub back : List Place
+  pub many : i + length back ≡ length kept + length given
+  pub holds : Run ns rs ((kept ++ replicate (i - from) zeroP) ++ (back ++ rest))
 
-pub clear-none : {n : ℕ} {ns : List ℕ} {rs : List Float} → n ≡ 0 → Cleared n ns ns rs rs
-clear-none {ns = ns} {rs = rs} z [] rest e h = subst (λ (k : ℕ). Run ns rs (replicate k zeroP ++ rest)) (sym z) h
-clear-none z (y ∷ given) rest e h = absurd (suc-ne-zero (length given) (sym e ∙ z))
-
-pub clear-more : {n : ℕ} {ns ns₁ ns₂ : List ℕ} {rs rs₁ rs₂ : List Float} {z : Place} → (n ≡ 0 → ⊥) → z ≡ zeroP
-    → ((y : Place) (ps : List Place) → Run ns rs (y ∷ ps) → Run ns₁ rs₁ (z ∷ ps))
-    → Cleared (n - 1) (midOf 4 (length ns₁ - 4) ns₁) ns₂ (midOf 10 (length rs₁ - 10) rs₁) rs₂
-    → Cleared n ns (putMid 4 (length ns₁ - 4) ns₁ ns₂) rs (putMid 10 (length rs₁ - 10) rs₁ rs₂)
-clear-more m o put again [] rest e h = absurd (m e)
-clear-more {n} {ns₁ = ns₁} {ns₂ = ns₂} {rs₁ = rs₁} {rs₂ = rs₂} m o put again (y ∷ given) rest e h =
-    let ns₃ : List ℕ = putMid 4 (length ns₁ - 4) ns₁ ns₂ in
-    let rs₃ : List Float = putMid 10 (length rs₁ - 10) rs₁ rs₂ in
-    let k : suc (n - 1) ≡ n = omega arith in
-    let h₁ = put y (given ++ rest) h in
-    subst (λ (j : ℕ). Run ns₃ rs₃ (replicate j zeroP ++ rest)) k
-    (subst (λ (x : Place). Run ns₃ rs₃ (x ∷ replicate (n - 1) zeroP ++ rest)) o (tail-back h₁ (again given rest (omega arith) (tail-of h₁))))
-
--- ---- close_up
-
-flat-append : {A B : Type 0} (enc : A → List B) (xs ys : List A) → flat enc (xs ++ ys) ≡ flat enc xs ++ flat enc ys
-flat-append enc [] ys = refl
-flat-append {B = B} enc (x ∷ xs) ys = ap (λ (l : List B). enc x ++ l) (flat-append enc xs ys) ∙ sym (append-assoc (enc x) (flat enc xs) (flat enc ys))
-
-pub nums-long : (ps : List Place) → length (flat placeNums ps) ≡ length ps * 4
-nums-long ps = row-long placeNums 4 (λ x. refl) (omega arith) ps refl
-
-pub reals-long : (ps : List Place) → length (flat placeReals ps) ≡ length ps * 10
-reals-long ps = row-long placeReals 10 (λ x. refl) (omega arith) ps refl
-
--- the tables after some places
-beyond : (k : ℕ) (given ps : List Place) {ns : List ℕ} {rs : List Float} → k ≡ length given → Run ns rs (given ++ ps)
-    → Run (midOf (k * 4) (length ns - k * 4) ns) (midOf (k * 10) (length rs - k * 10) rs) ps
-beyond k given ps e h = record {
-  nums-is = mid-tail (flat placeNums given) (flat placeNums ps) (k * 4) (h .nums-is ∙ flat-append placeNums given ps) (nums-long given ∙ ap (λ (n : ℕ). n * 4) (sym e));
-  reals-is = mid-tail (flat placeReals given) (flat placeReals ps) (k * 10) (h .reals-is ∙ flat-append placeReals given ps) (reals-long given ∙ ap (λ (n : ℕ). n * 10) (sym e));
+pub clearing-none : (kept given rest : List Place) {from : ℕ} {ns : List ℕ} {rs : List Float} → from ≡ length kept → Run ns rs (kept ++ (given ++ rest)) → Clearing kept given rest from from ns rs
+clearing-none kept given rest {from} {ns} {rs} e h = record {
+  back = given;
+  many = ap (λ (k : ℕ). k + length given) e;
+  holds =
+      let z : from - from ≡ 0 = omega arith in
+      subst (λ (k : ℕ). Run ns rs ((kept ++ replicate k zeroP) ++ (given ++ rest))) (sym z) (subst (λ (l : List Place). Run ns rs (l ++ (given ++ rest))) (sym (append-nil kept)) h);
 }
 
--- one place more is given up
-more-given : {ns : List ℕ} {rs : List Float} (given : List Place) (y : Place) (ps : List Place) → Run ns rs (given ++ y ∷ ps) → Run ns rs ((given ++ y ∷ []) ++ ps)
-more-given {ns} {rs} given y ps h = subst (Run ns rs) (sym (append-assoc given (y ∷ []) ps)) h
+zeros-more : (k : ℕ) → replicate k zeroP ++ zeroP ∷ [] ≡ replicate (suc k) zeroP
+zeros-more zero = refl
+zeros-more (suc k) = ap (λ (l : List Place). zeroP ∷ l) (zeros-more k)
 
--- what `close_up` says of its count r and of the tables
-abbrev pub Closed : (gone n g r : ℕ) (ns ns′ : List ℕ) (rs rs′ : List Float) → Type 0
-Closed gone n g r ns ns′ rs rs′ = (given live rest : List Place) → gone ≡ length given → n ≡ length live → Run ns rs (given ++ (live ++ rest))
-    → (r ≡ length (keepBy g live)) × Run ns′ rs′ (keepBy g live ++ (replicate (gone + goneBy g live) zeroP ++ rest))
+zeros-long : (k : ℕ) → length (replicate k zeroP) ≡ k
+zeros-long zero = refl
+zeros-long (suc k) = ap suc (zeros-long k)
 
-pub close-none : (g : ℕ) {gone n : ℕ} {ns ns₁ : List ℕ} {rs rs₁ : List Float} → n ≡ 0 → Cleared gone ns ns₁ rs rs₁ → Closed gone n g 0 ns ns₁ rs rs₁
-close-none g {gone} {ns₁ = ns₁} {rs₁ = rs₁} z done given [] rest d e h =
-    let k : gone ≡ gone + 0 = omega arith in
-    rw (keep-none g .0, keep-none g .1) (refl, subst (λ (j : ℕ). Run ns₁ rs₁ (replicate j zeroP ++ rest)) k (done given rest d h))
-close-none g z done given (y ∷ live) rest d e h = absurd (suc-ne-zero (length live) (sym e ∙ z))
+pub clearing-more : {kept given rest : List Place} {from i n : ℕ} {ns ns′ : List ℕ} {rs rs′ : List Float} {z : Place} → Clearing kept given rest from i ns rs
+    → from ≡ length kept → n ≡ length kept + length given → from ≤ i → i < n → z ≡ zeroP
+    → ((ps : List Place) → Run ns rs ps → Run ns′ rs′ (set ps i z))
+    → Clearing kept given rest from (i + 1) ns′ rs′
+clearing-more {kept} {given} {rest} {from} {i} {n} {ns} {ns′} {rs} {rs′} {z} m e d p q o put =
+    let k = m .many in
+    let b = started (m .back) (omega arith) in
+    let zs = replicate (i - from) zeroP in
+    let t = b .back ++ rest in
+    let bk = ap length (b .is) in
+    let fl = length-append kept zs in
+    let zl = zeros-long (i - from) in
+    let front : length (kept ++ zs) ≡ i = omega arith in
+    let more : suc (i - from) ≡ i + 1 - from = omega arith in
+    record {
+      back = b .back;
+      many = omega arith;
+      holds =
+          subst (Run ns′ rs′)
+          (set-mid (kept ++ zs) (b .head) z t front ∙ ap (λ (y : Place). (kept ++ zs) ++ y ∷ t) o ∙ over-to (kept ++ zs) zeroP t
+          ∙ ap (λ (l : List Place). l ++ t) (append-assoc kept zs (zeroP ∷ []) ∙ ap (λ (l : List Place). kept ++ l) (zeros-more (i - from) ∙ ap (λ (j : ℕ). replicate j zeroP) more)))
+          (put ((kept ++ zs) ++ b .head ∷ t) (subst (λ (l : List Place). Run ns rs ((kept ++ zs) ++ (l ++ rest))) (b .is) (m .holds)));
+    }
 
-pub close-gone : (g : ℕ) {gone n r : ℕ} {ns ns₂ : List ℕ} {rs rs₂ : List Float} {next : Place} {b : Bool} → (n ≡ 0 → ⊥)
-    → ((y : Place) (ps : List Place) → Run (midOf (gone * 4) (length ns - gone * 4) ns) (midOf (gone * 10) (length rs - gone * 10) rs) (y ∷ ps) → next ≡ y)
-    → b ≡ names (eventOf (next .kind) next) g → b ≡ true
-    → Closed (gone + 1) (n - 1) g r ns ns₂ rs rs₂ → Closed gone n g r ns ns₂ rs rs₂
-close-gone g z got w t again given [] rest d e h = absurd (z e)
-close-gone g {gone} {ns₂ = ns₂} {rs₂ = rs₂} z got w t again given (y ∷ live) rest d e h =
-    let u : names (eventOf (y .kind) y) g ≡ true = subst (λ (o : Place). names (eventOf (o .kind) o) g ≡ true) (got y (live ++ rest) (beyond gone given (y ∷ live ++ rest) d h)) (sym w ∙ t) in
-    let l = length-append given (y ∷ []) in
-    let a = again (given ++ y ∷ []) live rest (omega arith) (omega arith) (more-given given y (live ++ rest) h) in
-    let k : gone + 1 + goneBy g live ≡ gone + suc (goneBy g live) = omega arith in
-    rw (keep-out g y live u .0, keep-out g y live u .1) (a .0, subst (λ (j : ℕ). Run ns₂ rs₂ (keepBy g live ++ (replicate j zeroP ++ rest))) k (a .1))
+pub clear-ends : {kept given rest : List Place} {from i n : ℕ} {ns : List ℕ} {rs : List Float} → Clearing kept given rest from i ns rs → n ≡ length kept + length given → i ≡ n
+    → Run ns rs (kept ++ (replicate (n - from) zeroP ++ rest))
+clear-ends {kept} {given} {rest} {from} {i} {n} {ns} {rs} m d p =
+    let k = m .many in
+    let b = empty (m .back) (omega arith) in
+    subst (λ (j : ℕ). Run ns rs (kept ++ (replicate (j - from) zeroP ++ rest))) p
+    (subst (Run ns rs) (append-assoc kept (replicate (i - from) zeroP) rest) (subst (λ (l : List Place). Run ns rs ((kept ++ replicate (i - from) zeroP) ++ (l ++ rest))) b (m .holds)))
 
-pub close-kept : (g : ℕ) {gone n r : ℕ} {ns ns₁ ns₂ : List ℕ} {rs rs₁ rs₂ : List Float} {next : Place} {b : Bool} → (n ≡ 0 → ⊥) → 0 < gone
-    → ((y : Place) (ps : List Place) → Run (midOf (gone * 4) (length ns - gone * 4) ns) (midOf (gone * 10) (length rs - gone * 10) rs) (y ∷ ps) → next ≡ y)
-    → b ≡ names (eventOf (next .kind) next) g → b ≡ false
-    → ((y : Place) (ps : List Place) → Run ns rs (y ∷ ps) → Run ns₁ rs₁ (next ∷ ps))
-    → Closed gone (n - 1) g r (midOf 4 (length ns₁ - 4) ns₁) ns₂ (midOf 10 (length rs₁ - 10) rs₁) rs₂
-    → Closed gone n g (r + 1) ns (putMid 4 (length ns₁ - 4) ns₁ ns₂) rs (putMid 10 (length rs₁ - 10) rs₁ rs₂)
-close-kept g z p got w t put again given [] rest d e h = absurd (z e)
-close-kept g z p got w t put again [] (y ∷ live) rest d e h = absurd (omega arith)
-close-kept g {gone} {ns₁ = ns₁} {ns₂ = ns₂} {rs₁ = rs₁} {rs₂ = rs₂} z p got w t put again (x ∷ given) (y ∷ live) rest d e h =
-    let same = got y (live ++ rest) (beyond gone (x ∷ given) (y ∷ live ++ rest) d h) in
-    let u : names (eventOf (y .kind) y) g ≡ false = subst (λ (o : Place). names (eventOf (o .kind) o) g ≡ false) same (sym w ∙ t) in
-    let h₁ = put x (given ++ (y ∷ live ++ rest)) h in
-    let l = length-append given (y ∷ []) in
-    let a = again (given ++ y ∷ []) live rest (omega arith) (omega arith) (more-given given y (live ++ rest) (tail-of h₁)) in
-    rw (keep-in g y live u .0, keep-in g y live u .1)
-    (omega (arith, a .0), subst (λ (o : Place). Run (putMid 4 (length ns₁ - 4) ns₁ ns₂) (putMid 10 (length rs₁ - 10) rs₁ rs₂) (o ∷ keepBy g live ++ (replicate (gone + goneBy g live) zeroP ++ rest))) same (tail-back h₁ (a .1)))
+-- ---- keep
+
+keep-append : (g : ℕ) (a b : List Place) → keepBy g (a ++ b) ≡ keepBy g a ++ keepBy g b
+unfolding keepBy
+keep-append g [] b = refl
+keep-append g (x ∷ a) b = go (names (eventOf (x .kind) x) g) (keep-append g a b)
+  where
+    go : (t : Bool) → keepBy g (a ++ b) ≡ keepBy g a ++ keepBy g b → pick t (keepBy g (a ++ b)) (x ∷ keepBy g (a ++ b)) ≡ pick t (keepBy g a) (x ∷ keepBy g a) ++ keepBy g b
+    go true e = e
+    go false e = ap (λ (l : List Place). x ∷ l) e
+
+keep-gone-long : (g : ℕ) (l : List Place) → length (keepBy g l) + goneBy g l ≡ length l
+unfolding keepBy goneBy
+keep-gone-long g [] = refl
+keep-gone-long g (x ∷ l) = go (names (eventOf (x .kind) x) g) (keep-gone-long g l)
+  where
+    go : (t : Bool) → length (keepBy g l) + goneBy g l ≡ length l → length (pick t (keepBy g l) (x ∷ keepBy g l)) + pick t (suc (goneBy g l)) (goneBy g l) ≡ suc (length l)
+    go true e = omega arith
+    go false e = omega arith
+
+pub keeping-none : (g : ℕ) (live rest : List Place) {ns : List ℕ} {rs : List Float} → Run ns rs (live ++ rest) → Keeping g live rest 0 0 ns rs
+unfolding keepBy
+keeping-none g live rest h = record { front = []; back = live; given = []; is = refl; many = refl; kept-is = refl; given-many = refl; holds = h }
+
+module _ {g : ℕ} {live rest : List Place} {i kept : ℕ} {ns : List ℕ} {rs : List Float} {next : Place} (m : Keeping g live rest i kept ns rs) (p : i < length live)
+    (got : (ps : List Place) → Run ns rs ps → next ≡ getD ps i zeroP) where
+  ahead : Started (m .back)
+  ahead = let k = ap length (m .is) in let l = length-append (m .front) (m .back) in let q = m .many in started (m .back) (omega arith)
+
+  abbrev tail : List Place
+  tail = ahead .back ++ rest
+
+  holding : Run ns rs (keepBy g (m .front) ++ (m .given ++ ahead .head ∷ tail))
+  holding = subst (λ (l : List Place). Run ns rs (keepBy g (m .front) ++ (m .given ++ (l ++ rest)))) (ahead .is) (m .holds)
+
+  next-is : next ≡ ahead .head
+  next-is =
+      let l = length-append (keepBy g (m .front)) (m .given) in
+      let k = m .kept-is in
+      let d = m .given-many in
+      let at : length (keepBy g (m .front) ++ m .given) ≡ i = omega arith in
+      got (keepBy g (m .front) ++ (m .given ++ ahead .head ∷ tail)) holding
+      ∙ ap (λ (l : List Place). getD l i zeroP) (sym (append-assoc (keepBy g (m .front)) (m .given) (ahead .head ∷ tail)))
+      ∙ get-mid (keepBy g (m .front) ++ m .given) (ahead .head) tail at
+
+  abbrev front′ : List Place
+  front′ = m .front ++ ahead .head ∷ []
+
+  is′ : live ≡ front′ ++ ahead .back
+  is′ = m .is ∙ ap (λ (f : List Place). m .front ++ f) (ahead .is) ∙ over-to (m .front) (ahead .head) (ahead .back)
+
+  many′ : length front′ ≡ i + 1
+  many′ = let o = one-more (m .front) (ahead .head) in let q = m .many in omega arith
+
+  pub keeping-gone : {t : Bool} → t ≡ names (eventOf (next .kind) next) g → t ≡ true → Keeping g live rest (i + 1) kept ns rs
+  keeping-gone u v =
+      let named : names (eventOf (ahead .head .kind) (ahead .head)) g ≡ true = subst (λ (o : Place). names (eventOf (o .kind) o) g ≡ true) next-is (sym u ∙ v) in
+      let same : keepBy g front′ ≡ keepBy g (m .front) =
+      keep-append g (m .front) (ahead .head ∷ []) ∙ ap (λ (l : List Place). keepBy g (m .front) ++ l) (keep-out g (ahead .head) [] named .0 ∙ keep-none g .0) ∙ append-nil (keepBy g (m .front))
+      in
+      let o = one-more (m .given) (ahead .head) in
+      let d = m .given-many in
+      record {
+        front = front′;
+        back = ahead .back;
+        given = m .given ++ ahead .head ∷ [];
+        is = is′;
+        many = many′;
+        kept-is = m .kept-is ∙ ap length (sym same);
+        given-many = omega arith;
+        holds =
+            subst (λ (l : List Place). Run ns rs (l ++ ((m .given ++ ahead .head ∷ []) ++ tail))) (sym same)
+            (subst (λ (l : List Place). Run ns rs (keepBy g (m .front) ++ l)) (over-to (m .given) (ahead .head) tail) holding);
+      }
+
+  pub keeping-kept : {t : Bool} {ns′ : List ℕ} {rs′ : List Float} → t ≡ names (eventOf (next .kind) next) g → t ≡ false
+      → ((ps : List Place) → Run ns rs ps → Run ns′ rs′ (set ps kept next)) → Keeping g live rest (i + 1) (kept + 1) ns′ rs′
+  keeping-kept {ns′ = ns′} {rs′} u v put =
+      let named : names (eventOf (ahead .head .kind) (ahead .head)) g ≡ false = subst (λ (o : Place). names (eventOf (o .kind) o) g ≡ false) next-is (sym u ∙ v) in
+      let same : keepBy g front′ ≡ keepBy g (m .front) ++ ahead .head ∷ [] =
+      keep-append g (m .front) (ahead .head ∷ []) ∙ ap (λ (l : List Place). keepBy g (m .front) ++ l) (keep-in g (ahead .head) [] named .0 ∙ ap (λ (l : List Place). ahead .head ∷ l) (keep-none g .0))
+      in
+      let o = one-more (m .given) (ahead .head) in
+      let d = m .given-many in
+      let f = started (m .given ++ ahead .head ∷ []) (omega arith) in
+      let k = ap length (f .is) in
+      let c = one-more (keepBy g (m .front)) (ahead .head) in
+      let cs = ap length same in
+      let ki = m .kept-is in
+      let h : Run ns rs (keepBy g (m .front) ++ f .head ∷ (f .back ++ tail)) =
+      subst (λ (l : List Place). Run ns rs (keepBy g (m .front) ++ l)) (over-to (m .given) (ahead .head) tail ∙ ap (λ (l : List Place). l ++ tail) (f .is)) holding
+      in
+      record {
+        front = front′;
+        back = ahead .back;
+        given = f .back;
+        is = is′;
+        many = many′;
+        kept-is = omega arith;
+        given-many = omega arith;
+        holds =
+            subst (Run ns′ rs′)
+            (set-mid (keepBy g (m .front)) (f .head) next (f .back ++ tail) (sym (m .kept-is)) ∙ ap (λ (y : Place). keepBy g (m .front) ++ y ∷ (f .back ++ tail)) next-is
+            ∙ over-to (keepBy g (m .front)) (ahead .head) (f .back ++ tail) ∙ ap (λ (l : List Place). l ++ (f .back ++ tail)) (sym same))
+            (put (keepBy g (m .front) ++ f .head ∷ (f .back ++ tail)) h);
+      }
 
 -- ---- cancel
 
--- what `cancel` says of its count r and of the tables
-abbrev pub Cancelled : (n g r : ℕ) (ns ns′ : List ℕ) (rs rs′ : List Float) → Type 0
-Cancelled n g r ns ns′ rs rs′ = (live rest : List Place) → n ≡ length live → Run ns rs (live ++ rest)
-    → (r ≡ length (keepBy g live)) × Run ns′ rs′ (keepBy g live ++ (replicate (goneBy g live) zeroP ++ rest))
-
-pub cancel-none : (g : ℕ) {n : ℕ} {ns : List ℕ} {rs : List Float} → n ≡ 0 → Cancelled n g 0 ns ns rs rs
-cancel-none g z [] rest e h = rw (keep-none g .0, keep-none g .1) (refl, h)
-cancel-none g z (y ∷ live) rest e h = absurd (suc-ne-zero (length live) (sym e ∙ z))
-
-pub cancel-gone : (g : ℕ) {n r : ℕ} {ns ns₂ : List ℕ} {rs rs₂ : List Float} {first : Place} {b : Bool} → (n ≡ 0 → ⊥)
-    → ((y : Place) (ps : List Place) → Run ns rs (y ∷ ps) → first ≡ y)
-    → b ≡ names (eventOf (first .kind) first) g → b ≡ true
-    → Closed 1 (n - 1) g r ns ns₂ rs rs₂ → Cancelled n g r ns ns₂ rs rs₂
-cancel-gone g z got w t again [] rest e h = absurd (z e)
-cancel-gone g {ns₂ = ns₂} {rs₂ = rs₂} z got w t again (y ∷ live) rest e h =
-    let u : names (eventOf (y .kind) y) g ≡ true = subst (λ (o : Place). names (eventOf (o .kind) o) g ≡ true) (got y (live ++ rest) h) (sym w ∙ t) in
-    let a = again (y ∷ []) live rest refl (omega arith) h in
-    let k : 1 + goneBy g live ≡ suc (goneBy g live) = omega arith in
-    rw (keep-out g y live u .0, keep-out g y live u .1) (a .0, subst (λ (j : ℕ). Run ns₂ rs₂ (keepBy g live ++ (replicate j zeroP ++ rest))) k (a .1))
-
-pub cancel-kept : (g : ℕ) {n r : ℕ} {ns ns₂ : List ℕ} {rs rs₂ : List Float} {first : Place} {b : Bool} → (n ≡ 0 → ⊥)
-    → ((y : Place) (ps : List Place) → Run ns rs (y ∷ ps) → first ≡ y)
-    → b ≡ names (eventOf (first .kind) first) g → b ≡ false
-    → Cancelled (n - 1) g r (midOf 4 (length ns - 4) ns) ns₂ (midOf 10 (length rs - 10) rs) rs₂
-    → Cancelled n g (r + 1) ns (putMid 4 (length ns - 4) ns ns₂) rs (putMid 10 (length rs - 10) rs rs₂)
-cancel-kept g z got w t again [] rest e h = absurd (z e)
-cancel-kept g z got w t again (y ∷ live) rest e h =
-    let u : names (eventOf (y .kind) y) g ≡ false = subst (λ (o : Place). names (eventOf (o .kind) o) g ≡ false) (got y (live ++ rest) h) (sym w ∙ t) in
-    let d = again live rest (omega arith) (tail-of h) in
-    rw (keep-in g y live u .0, keep-in g y live u .1) (omega (arith, d .0), tail-back h (d .1))
+pub cancel-ends : {g : ℕ} {live rest : List Place} {kept n : ℕ} {ns ns′ : List ℕ} {rs rs′ : List Float} → Keeping g live rest n kept ns rs → n ≡ length live
+    → ((done given rest : List Place) → kept ≡ length done → n ≡ length done + length given → Run ns rs (done ++ (given ++ rest)) → Run ns′ rs′ (done ++ (replicate (n - kept) zeroP ++ rest)))
+    → (kept ≡ length (keepBy g live)) × Run ns′ rs′ (keepBy g live ++ (replicate (goneBy g live) zeroP ++ rest))
+cancel-ends {g} {live} {rest} {kept} {n} {ns} {ns′} {rs} {rs′} m e clear =
+    let k = ap length (m .is) in
+    let l = length-append (m .front) (m .back) in
+    let q = m .many in
+    let b = empty (m .back) (omega arith) in
+    let same : live ≡ m .front = m .is ∙ ap (λ (f : List Place). m .front ++ f) b ∙ append-nil (m .front) in
+    let kept-is : kept ≡ length (keepBy g live) = m .kept-is ∙ ap (λ (f : List Place). length (keepBy g f)) (sym same) in
+    let holds : Run ns rs (keepBy g live ++ (m .given ++ rest)) =
+    subst (λ (f : List Place). Run ns rs (keepBy g f ++ (m .given ++ rest))) (sym same)
+    (subst (λ (f : List Place). Run ns rs (keepBy g (m .front) ++ (m .given ++ (f ++ rest)))) b (m .holds))
+    in
+    let d = m .given-many in
+    let t = keep-gone-long g live in
+    let gone : n - kept ≡ goneBy g live = omega arith in
+    (kept-is, subst (λ (j : ℕ). Run ns′ rs′ (keepBy g live ++ (replicate j zeroP ++ rest))) gone (clear (keepBy g live) (m .given) rest kept-is (omega arith) holds))

@@ -1,11 +1,12 @@
 // Events, and the places that hold them: a run of places is a part of each of two lent tables.
 ghost use mathlib.Core.Path.{_≡_};
-ghost use Prim.Native.Nat.{ℕ, _+_, _*_, _<_, _≤_};
+ghost use Prim.Native.Nat.{ℕ, _+_, _-_, _*_, _<_, _≤_};
 ghost use mathlib.Core.List.{List, _∷_, _++_};
-ghost use lib.ListN.{length, replicate};
+ghost use lib.ListN.{length, replicate, getD, set};
 ghost use Rattle.model.specs.Events.{placeOf, eventOf, names, insertBy, keepBy, goneBy, zeroP, finePlace};
 ghost use Rattle.model.specs.declared.Place.{Place as PlaceV};
 ghost use Rattle.tables.specs.Holds.{Run};
+ghost use Rattle.tables.specs.Places.{Passed, Keeping};
 use model::Event;
 use model::Pending;
 use model::Place;
@@ -121,24 +122,20 @@ pub fn place_of(e: Pending) -> Place
     }
 }
 
+// Whether a place's event names a grain. Most name others, and then their kind is not asked.
 pub fn names_grain(s: Place, g: u64) -> bool
     ensures { λ r. ⌜ r ≡ names (eventOf (s .kind) s) g ⌝ }
 {
-    let kind = s.kind;
-    let p = s.p;
-    let q = s.q;
-    match kind {
-        1 => {
-            if p == g {
-                return true;
-            }
-            q == g
+    if s.p != g {
+        if s.q != g {
+            return false;
         }
-        2 => p == g,
-        3 => p == g,
-        4 => p == g,
-        _ => false,
+        return s.kind == 1;
     }
+    if s.kind == 0 {
+        return false;
+    }
+    s.kind < 5
 }
 
 // The first of a run of places.
@@ -193,20 +190,60 @@ pub fn put_head(nums: &mut [u64], reals: &mut [f64], s: Place)
     reals[9] = s.val;
 }
 
-// In front of n places, one more: each moves up by one, over the first place beyond them.
-pub fn push(nums: &mut [u64], reals: &mut [f64], n: usize, s: Place)
+// Place i of a run.
+fn get_place(nums: &[u64], reals: &[f64], i: usize) -> Place
+    requires { ⌜ (i < 256) × (i * 4 + 4 ≤ length (now nums)) × (i * 10 + 10 ≤ length (now reals)) ⌝ }
+    ensures { λ r. ⌜ ((ps : List PlaceV) → Run (now (nums .entry)) (now (reals .entry)) ps → r ≡ getD ps i zeroP) ⌝ }
+{
+    let a = i * 4;
+    let b = a + 4;
+    let c = i * 10;
+    let d = c + 10;
+    get_head(&nums[a..b], &reals[c..d])
+}
+
+fn put_place(nums: &mut [u64], reals: &mut [f64], i: usize, s: Place)
+    requires { ⌜ (i < 256) × (i * 4 + 4 ≤ length (now nums)) × (i * 10 + 10 ≤ length (now reals)) ⌝ }
+    ensures { λ _. ⌜ ((ps : List PlaceV) → Run (now (nums .entry)) (now (reals .entry)) ps → Run (now (nums .exit)) (now (reals .exit)) (set ps i s)) ⌝ }
+{
+    let a = i * 4;
+    let b = a + 4;
+    let c = i * 10;
+    let d = c + 10;
+    put_head(&mut nums[a..b], &mut reals[c..d], s);
+}
+
+// In front of n places, one more: each moves up by one, the last first, over the first place beyond them.
+fn push(nums: &mut [u64], reals: &mut [f64], n: usize, s: Place)
     requires { ⌜ (n < 256) × (4 * (n + 1) ≤ length (now nums)) × (10 * (n + 1) ≤ length (now reals)) ⌝ }
     ensures { λ _. ⌜ ((live rest : List PlaceV) (x : PlaceV) → n ≡ length live
         → Run (now (nums .entry)) (now (reals .entry)) (live ++ x ∷ rest)
         → Run (now (nums .exit)) (now (reals .exit)) (s ∷ live ++ rest)) ⌝ }
 {
-    if n == 0 {
-        put_head(nums, reals, s);
-        return;
+    let mut i = n;
+    while 0 < i {
+        let last = get_place(nums, reals, i - 1);
+        put_place(nums, reals, i, last);
+        i -= 1;
     }
-    let old = get_head(nums, reals);
     put_head(nums, reals, s);
-    push(&mut nums[4..], &mut reals[10..], n - 1, old);
+}
+
+// How many of n places, from the first on, are not later than s.
+fn passed(nums: &[u64], reals: &[f64], n: usize, s: Place) -> usize
+    requires { ⌜ (n < 256) × (4 * n ≤ length (now nums)) × (10 * n ≤ length (now reals)) ⌝ }
+    ensures { λ r. ⌜ (r ≤ n) × ((live rest : List PlaceV) → n ≡ length live → Run (now (nums .entry)) (now (reals .entry)) (live ++ rest) → Passed s live r) ⌝ }
+{
+    let mut i = 0usize;
+    while i < n {
+        let first = get_place(nums, reals, i);
+        if first.time <= s.time {
+            i += 1;
+        } else {
+            return i;
+        }
+    }
+    n
 }
 
 // Among n places in time order, one more: after every one that is not later.
@@ -216,16 +253,10 @@ pub fn insert(nums: &mut [u64], reals: &mut [f64], n: usize, s: Place)
         → Run (now (nums .entry)) (now (reals .entry)) (live ++ x ∷ rest)
         → Run (now (nums .exit)) (now (reals .exit)) (insertBy s live ++ rest)) ⌝ }
 {
-    if n == 0 {
-        put_head(nums, reals, s);
-        return;
-    }
-    let first = get_head(nums, reals);
-    if first.time <= s.time {
-        insert(&mut nums[4..], &mut reals[10..], n - 1, s);
-        return;
-    }
-    push(nums, reals, n, s);
+    let i = passed(nums, reals, n, s);
+    let a = i * 4;
+    let b = i * 10;
+    push(&mut nums[a..], &mut reals[b..], n - i, s);
 }
 
 // The first place goes: n more move down by one, and the place given up is cleared.
@@ -235,65 +266,66 @@ pub fn pull(nums: &mut [u64], reals: &mut [f64], n: usize)
         → Run (now (nums .entry)) (now (reals .entry)) (x ∷ live ++ rest)
         → Run (now (nums .exit)) (now (reals .exit)) (live ++ zeroP ∷ rest)) ⌝ }
 {
-    if n == 0 {
-        put_head(nums, reals, zero_place());
-        return;
+    let mut i = 0usize;
+    while i < n {
+        let next = get_place(nums, reals, i + 1);
+        put_place(nums, reals, i, next);
+        i += 1;
     }
-    let next = get_head(&nums[4..], &reals[10..]);
-    put_head(nums, reals, next);
-    pull(&mut nums[4..], &mut reals[10..], n - 1);
+    put_place(nums, reals, n, zero_place());
 }
 
-// The first n places are cleared.
-pub fn clear(nums: &mut [u64], reals: &mut [f64], n: usize)
-    requires { ⌜ (n ≤ 256) × (4 * n ≤ length (now nums)) × (10 * n ≤ length (now reals)) ⌝ }
-    ensures { λ _. ⌜ ((given rest : List PlaceV) → n ≡ length given
-        → Run (now (nums .entry)) (now (reals .entry)) (given ++ rest)
-        → Run (now (nums .exit)) (now (reals .exit)) (replicate n zeroP ++ rest)) ⌝ }
+// Of i places `kept` are kept already: the next one moves down behind them, unless it names g. How many are kept then.
+fn keep_one(nums: &mut [u64], reals: &mut [f64], i: usize, kept: usize, g: u64) -> usize
+    requires { ⌜ (kept ≤ i) × (i < 256) × (i * 4 + 4 ≤ length (now nums)) × (i * 10 + 10 ≤ length (now reals)) ⌝ }
+    ensures { λ r. ⌜ (r ≤ kept + 1) × ((live rest : List PlaceV) → i < length live
+        → Keeping g live rest i kept (now (nums .entry)) (now (reals .entry)) → Keeping g live rest (i + 1) r (now (nums .exit)) (now (reals .exit))) ⌝ }
 {
-    if n == 0 {
-        return;
-    }
-    put_head(nums, reals, zero_place());
-    clear(&mut nums[4..], &mut reals[10..], n - 1);
-}
-
-// Behind `gone` places that are given up stand n more: those that do not name g move down over them, in order, and the places left over are cleared.
-pub fn close_up(nums: &mut [u64], reals: &mut [f64], gone: usize, n: usize, g: u64) -> usize
-    requires { ⌜ (0 < gone) × (gone + n ≤ 256) × (4 * (gone + n) ≤ length (now nums)) × (10 * (gone + n) ≤ length (now reals)) ⌝ }
-    ensures { λ r. ⌜ (r ≤ n) × ((given live rest : List PlaceV) → gone ≡ length given → n ≡ length live
-        → Run (now (nums .entry)) (now (reals .entry)) (given ++ (live ++ rest))
-        → (r ≡ length (keepBy g live)) × Run (now (nums .exit)) (now (reals .exit)) (keepBy g live ++ (replicate (gone + goneBy g live) zeroP ++ rest))) ⌝ }
-{
-    if n == 0 {
-        clear(nums, reals, gone);
-        return 0;
-    }
-    let a = gone * 4;
-    let b = gone * 10;
-    let next = get_head(&nums[a..], &reals[b..]);
+    let next = get_place(nums, reals, i);
     if names_grain(next, g) {
-        return close_up(nums, reals, gone + 1, n - 1, g);
+        return kept;
     }
-    put_head(nums, reals, next);
-    let kept = close_up(&mut nums[4..], &mut reals[10..], gone, n - 1, g);
+    put_place(nums, reals, kept, next);
     kept + 1
 }
 
-// Of n places those that do not name g, in order, in one pass; the places given up are cleared. How many are left.
+// Of n places those that do not name g move down, in order, over those that do: how many they are.
+fn keep(nums: &mut [u64], reals: &mut [f64], n: usize, g: u64) -> usize
+    requires { ⌜ (n ≤ 256) × (4 * n ≤ length (now nums)) × (10 * n ≤ length (now reals)) ⌝ }
+    ensures { λ r. ⌜ (r ≤ n) × ((live rest : List PlaceV) → n ≡ length live
+        → Run (now (nums .entry)) (now (reals .entry)) (live ++ rest) → Keeping g live rest n r (now (nums .exit)) (now (reals .exit))) ⌝ }
+{
+    let mut kept = 0usize;
+    let mut i = 0usize;
+    while i < n {
+        kept = keep_one(nums, reals, i, kept, g);
+        i += 1;
+    }
+    kept
+}
+
+// The places from one on to before n are cleared.
+fn clear(nums: &mut [u64], reals: &mut [f64], from: usize, n: usize)
+    requires { ⌜ (from ≤ n) × (n ≤ 256) × (4 * n ≤ length (now nums)) × (10 * n ≤ length (now reals)) ⌝ }
+    ensures { λ _. ⌜ ((kept given rest : List PlaceV) → from ≡ length kept → n ≡ length kept + length given
+        → Run (now (nums .entry)) (now (reals .entry)) (kept ++ (given ++ rest))
+        → Run (now (nums .exit)) (now (reals .exit)) (kept ++ (replicate (n - from) zeroP ++ rest))) ⌝ }
+{
+    let mut i = from;
+    while i < n {
+        put_place(nums, reals, i, zero_place());
+        i += 1;
+    }
+}
+
+// Of n places those that do not name g, in order; the places given up are cleared. How many are left.
 pub fn cancel(nums: &mut [u64], reals: &mut [f64], n: usize, g: u64) -> usize
     requires { ⌜ (n ≤ 256) × (4 * n ≤ length (now nums)) × (10 * n ≤ length (now reals)) ⌝ }
     ensures { λ r. ⌜ (r ≤ n) × ((live rest : List PlaceV) → n ≡ length live
         → Run (now (nums .entry)) (now (reals .entry)) (live ++ rest)
         → (r ≡ length (keepBy g live)) × Run (now (nums .exit)) (now (reals .exit)) (keepBy g live ++ (replicate (goneBy g live) zeroP ++ rest))) ⌝ }
 {
-    if n == 0 {
-        return 0;
-    }
-    let first = get_head(nums, reals);
-    if names_grain(first, g) {
-        return close_up(nums, reals, 1, n - 1, g);
-    }
-    let kept = cancel(&mut nums[4..], &mut reals[10..], n - 1, g);
-    kept + 1
+    let kept = keep(nums, reals, n, g);
+    clear(nums, reals, kept, n);
+    kept
 }

@@ -1,0 +1,127 @@
+use mathlib.Core.Path.{_≡_, refl, _∙_}
+use Prim.Native.Nat.{ℕ, _<_}
+use mathlib.Core.List.{List}
+use lib.ListN.{length, getD}
+use lib.Ieee.{Float}
+use Rattle.halting.specs.Out.{eachOf}
+use Rattle.chunks.specs.Flat.{Every}
+use Rattle.model.specs.State.{State}
+use Rattle.model.specs.Doing.{stepGrain, others}
+use Rattle.acts.specs.Tell.{At, InGrains, Grains, GrainsTold}
+use Rattle.acts.proofs.StoreLaws.{timed}
+use Rattle.acts.proofs.Touch.{step-only, at-on}
+use Rattle.acts.proofs.InTurn.{others-none, others-skip, others-stop, others-on, every-tail, tail-less}
+use native.Mathlib.Omega.{arith}
+use borrow.Author.Needs.{needs}
+use Rattle.acts.proofs.store.step_others.Statement.{statement}
+use Rattle.acts.proofs.store.step_others.Tie as tie
+
+abbrev Inv-loop : tie.InvT-loop
+Inv-loop grains₀ z domain clock list p rest₀ grains rest = Grains z grains × Every (λ (g : ℕ). g < z .grains) rest × (length grains ≡ length grains₀)
+    × ((t : List Float) (r : ℕ) → ((s : State) → InGrains z grains s → At domain clock s → GrainsTold z t r (eachOf stepGrain (others p rest) s))
+    → (s : State) → InGrains z grains₀ s → At domain clock s → GrainsTold z t r (eachOf stepGrain (others p list) s))
+
+abbrev μ-loop : tie.MeasureT-loop
+μ-loop grains₀ z domain clock list p rest₀ grains rest = length rest
+
+loop-holds : tie.Need-loop-holds Inv-loop μ-loop
+loop-holds c = let p = c .before .before .pre in (p .0, p .2, refl, λ t r k. k)
+
+shared-slice-read-g : tie.Need-shared-slice-read-g Inv-loop μ-loop
+shared-slice-read-g c = search needs
+
+sub-rest : tie.Need-sub-rest Inv-loop μ-loop
+sub-rest c = search needs
+
+part-rest-start : tie.Need-part-rest-start Inv-loop μ-loop
+part-rest-start c = search needs
+
+part-rest-end : tie.Need-part-rest-end Inv-loop μ-loop
+part-rest-end c = search needs
+
+loop-less : tie.Need-loop-less Inv-loop μ-loop
+loop-less c = omega (arith, tail-less (c .before .before .before .before .loop .rest .now) (let h = c .before .before .before .loop-test .taken in λ (e : length (c .before .before .before .before .loop .rest .now) ≡ 0). absurd (omega (arith, e, h))))
+
+loop-again : tie.Need-loop-again Inv-loop μ-loop
+loop-again c =
+    let l = c .before .before .before .before .loop in
+    let a = c .before .before .before .before .before .before .before .args in
+    let z : length (l .rest .now) ≡ 0 → ⊥ = (let h = c .before .before .before .loop-test .taken in λ (e : length (c .before .before .before .before .loop .rest .now) ≡ 0). absurd (omega (arith, e, h))) in (
+      l .inv .0,
+      every-tail (λ g. g < a .z .grains) (l .rest .now) (l .inv .1) z .1,
+      l .inv .2,
+      λ t r k. l .inv .3 t r (λ s S u. others-skip stepGrain s (InGrains (a .z) t) (a .p) (l .rest .now) z (c .before .if1 .taken) (k s S u)),
+    )
+
+step-grain-requires : tie.Need-step-grain-requires Inv-loop μ-loop
+step-grain-requires c κs = let l = c .before .before .before .before .loop in let a = c .before .before .before .before .before .before .before in (l .inv .0, a .pre .1, every-tail (λ g. g < a .args .z .grains) (l .rest .now) (l .inv .1) (let h = c .before .before .before .loop-test .taken in λ (e : length (c .before .before .before .before .loop .rest .now) ≡ 0). absurd (omega (arith, e, h))) .0)
+
+same-length : tie.Need-same-length Inv-loop μ-loop
+same-length c = c .before .before .before .step-grain .kept .0 ∙ c .before .before .before .before .before .before .before .before .loop .inv .2
+
+returns : tie.Need-returns Inv-loop μ-loop
+returns c =
+    let l = c .before .before .before .before .before .before .before .before .loop in
+    let a = c .before .before .before .before .before .before .before .before .before .before .before .args in
+    let d = c .before .before .before .step-grain in
+    l .inv .3 (d .last .0) (d .result) (λ s S u. others-stop stepGrain s (InGrains (a .z) (d .last .0)) (a .p) (l .rest .now) (let h = c .before .before .before .before .before .before .before .loop-test .taken in λ (e : length (c .before .before .before .before .before .before .before .before .loop .rest .now) ≡ 0). absurd (omega (arith, e, h))) (c .before .before .before .before .before .if1 .left) (d .ensures s S u) (c .if2 .taken))
+
+sub-rest-2 : tie.Need-sub-rest-2 Inv-loop μ-loop
+sub-rest-2 c = search needs
+
+part-rest-start-2 : tie.Need-part-rest-start-2 Inv-loop μ-loop
+part-rest-start-2 c = search needs
+
+part-rest-end-2 : tie.Need-part-rest-end-2 Inv-loop μ-loop
+part-rest-end-2 c = search needs
+
+loop-less-2 : tie.Need-loop-less-2 Inv-loop μ-loop
+loop-less-2 c = omega (arith, tail-less (c .before .before .before .before .before .before .before .before .before .loop .rest .now) (let h = c .before .before .before .before .before .before .before .before .loop-test .taken in λ (e : length (c .before .before .before .before .before .before .before .before .before .loop .rest .now) ≡ 0). absurd (omega (arith, e, h))))
+
+loop-again-2 : tie.Need-loop-again-2 Inv-loop μ-loop
+loop-again-2 c =
+    let l = c .before .before .before .before .before .before .before .before .before .loop in
+    let a = c .before .before .before .before .before .before .before .before .before .before .before .before .args in
+    let d = c .before .before .before .before .step-grain in
+    let z : length (l .rest .now) ≡ 0 → ⊥ = (let h = c .before .before .before .before .before .before .before .before .loop-test .taken in λ (e : length (c .before .before .before .before .before .before .before .before .before .loop .rest .now) ≡ 0). absurd (omega (arith, e, h))) in
+    let g = getD (l .rest .now) 0 0 in
+    let v = timed (a .domain) (a .clock) (l .inv .0 .0) in (
+      ((stepGrain g v) .st, d .ensures v (l .inv .0 .1) (refl, refl) .1),
+      every-tail (λ g. g < a .z .grains) (l .rest .now) (l .inv .1) z .1,
+      d .kept .0 ∙ l .inv .2,
+      λ t r k. l .inv .3 t r (λ s S u. others-on stepGrain s (InGrains (a .z) (d .last .0)) (InGrains (a .z) t) (a .p) (l .rest .now) z (c .before .before .before .before .before .before .if1 .left) (d .ensures s S u) (c .before .if2 .left)
+          (k ((stepGrain g s) .st) (d .ensures s S u .1) (at-on (a .domain) (a .clock) s ((stepGrain g s) .st) (step-only g s) u))),
+    )
+
+same-length-2 : tie.Need-same-length-2 Inv-loop μ-loop
+same-length-2 c = c .before .loop .inv .2
+
+returns-2 : tie.Need-returns-2 Inv-loop μ-loop
+returns-2 c =
+    let l = c .before .loop in
+    let a = c .before .before .before .before .args in
+    l .inv .3 (l .grains) 0 (λ s S u. others-none stepGrain s (InGrains (a .z) (l .grains)) (a .p) (l .rest .now) (omega arith) S)
+
+pub step-others-spec : {M : Type 1} → statement M
+step-others-spec =
+    tie.close
+    (tie.spec
+    Inv-loop
+    μ-loop
+    loop-holds
+    shared-slice-read-g
+    sub-rest
+    part-rest-start
+    part-rest-end
+    loop-less
+    loop-again
+    step-grain-requires
+    same-length
+    returns
+    sub-rest-2
+    part-rest-start-2
+    part-rest-end-2
+    loop-less-2
+    loop-again-2
+    same-length-2
+    returns-2)

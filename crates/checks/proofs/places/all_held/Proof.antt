@@ -1,0 +1,79 @@
+use mathlib.Core.Path.{_≡_, sym, _∙_}
+use mathlib.Core.Bool.{Bool, true, false}
+use borrow.Author.Tests.{not-true, not-false}
+use Prim.Native.Nat.{_*_, _≤_, _-_}
+use lib.ListN.{length, take}
+use Rattle.model.specs.Check.{all, held}
+use Rattle.checks.specs.Decode.{placeAt, placesOf}
+use Rattle.checks.proofs.Cut.{some, less-rows, rest-long, both-none, both-step}
+use Rattle.checks.proofs.Lists.{all-none, all-no, all-more}
+use native.Mathlib.Omega.{arith}
+use borrow.Author.Needs.{needs}
+use Rattle.checks.proofs.places.all_held.Statement.{statement}
+use Rattle.checks.proofs.places.all_held.Tie as tie
+
+abbrev Inv-loop : tie.InvT-loop
+Inv-loop nums reals j members k n c places₀ floats₀ left₀ places floats left = (left * 4 ≤ length places) × (left * 10 ≤ length floats)
+    × ((r : Bool) → r ≡ all (held n c (take k members)) (placesOf left places floats) → r ≡ all (held n c (take k members)) (placesOf j nums reals))
+
+abbrev μ-loop : tie.MeasureT-loop
+μ-loop nums reals j members k n c places₀ floats₀ left₀ places floats left = left
+
+loop-holds : tie.Need-loop-holds Inv-loop μ-loop
+loop-holds c = (search needs, search needs, λ r e. e)
+
+held-requires : tie.Need-held-requires Inv-loop μ-loop
+held-requires c κs = let l = c .before .loop in let d = less-rows (l .left) 4 (length (l .places .now)) (some (c .loop-test .taken)) (l .inv .0) in let d′ = less-rows (l .left) 10 (length (l .floats .now)) (some (c .loop-test .taken)) (l .inv .1) in (d .0, d′ .0, c .before .before .before .before .before .pre .2)
+
+returns : tie.Need-returns Inv-loop μ-loop
+returns c = let l = c .before .before .before .loop in let a = c .before .before .before .before .before .before .before in l .inv .2 false (all-no (held (a .args .n) (a .args .c) (take (a .args .k) (a .args .members .now))) _ _ (both-step placeAt 4 10 (l .left) (l .places .now) (l .floats .now) (some (c .before .before .loop-test .taken))) (sym (c .before .held .ensures) ∙ not-true _ (c .if1 .taken)))
+
+sub-places : tie.Need-sub-places Inv-loop μ-loop
+sub-places c = let l = c .before .before .before .loop in let d = less-rows (l .left) 4 (length (l .places .now)) (some (c .before .before .loop-test .taken)) (l .inv .0) in let d′ = less-rows (l .left) 10 (length (l .floats .now)) (some (c .before .before .loop-test .taken)) (l .inv .1) in omega arith
+
+part-places-start : tie.Need-part-places-start Inv-loop μ-loop
+part-places-start c = let l = c .before .before .before .loop in let d = less-rows (l .left) 4 (length (l .places .now)) (some (c .before .before .loop-test .taken)) (l .inv .0) in let d′ = less-rows (l .left) 10 (length (l .floats .now)) (some (c .before .before .loop-test .taken)) (l .inv .1) in omega arith
+
+part-places-end : tie.Need-part-places-end Inv-loop μ-loop
+part-places-end c = search needs
+
+sub-floats : tie.Need-sub-floats Inv-loop μ-loop
+sub-floats c = let l = c .before .before .before .before .loop in let d = less-rows (l .left) 4 (length (l .places .now)) (some (c .before .before .before .loop-test .taken)) (l .inv .0) in let d′ = less-rows (l .left) 10 (length (l .floats .now)) (some (c .before .before .before .loop-test .taken)) (l .inv .1) in omega arith
+
+part-floats-start : tie.Need-part-floats-start Inv-loop μ-loop
+part-floats-start c = let l = c .before .before .before .before .loop in let d = less-rows (l .left) 4 (length (l .places .now)) (some (c .before .before .before .loop-test .taken)) (l .inv .0) in let d′ = less-rows (l .left) 10 (length (l .floats .now)) (some (c .before .before .before .loop-test .taken)) (l .inv .1) in omega arith
+
+part-floats-end : tie.Need-part-floats-end Inv-loop μ-loop
+part-floats-end c = search needs
+
+sub-left : tie.Need-sub-left Inv-loop μ-loop
+sub-left c = search needs
+
+loop-less : tie.Need-loop-less Inv-loop μ-loop
+loop-less c = search needs
+
+loop-again : tie.Need-loop-again Inv-loop μ-loop
+loop-again c = let l = c .before .before .before .before .before .loop in let a = c .before .before .before .before .before .before .before .before .before in let z = some (c .before .before .before .before .loop-test .taken) in (rest-long (l .left) 4 (l .places .now) z (l .inv .0), rest-long (l .left) 10 (l .floats .now) z (l .inv .1), λ r e. l .inv .2 r (all-more (held (a .args .n) (a .args .c) (take (a .args .k) (a .args .members .now))) _ _ (both-step placeAt 4 10 (l .left) (l .places .now) (l .floats .now) z) (sym (c .before .before .before .held .ensures) ∙ not-false _ (c .before .before .if1 .left)) e))
+
+returns-2 : tie.Need-returns-2 Inv-loop μ-loop
+returns-2 c = let l = c .before .loop in let a = c .before .before .before .before .before in l .inv .2 true (all-none (held (a .args .n) (a .args .c) (take (a .args .k) (a .args .members .now))) (both-none placeAt 4 10 (l .left) (l .places .now) (l .floats .now) (omega arith)))
+
+pub all-held-spec : {M : Type 1} → statement M
+all-held-spec =
+    tie.close
+    (tie.spec
+    Inv-loop
+    μ-loop
+    loop-holds
+    held-requires
+    returns
+    sub-places
+    part-places-start
+    part-places-end
+    sub-floats
+    part-floats-start
+    part-floats-end
+    sub-left
+    loop-less
+    loop-again
+    returns-2)

@@ -1,0 +1,97 @@
+use mathlib.Core.Path.{_≡_, sym, ap, _∙_}
+use mathlib.Core.Bool.{Bool, true, false}
+use borrow.Author.Tests.{not-true, not-false}
+use Prim.Native.Nat.{_+_, _≤_, _-_}
+use Rattle.model.specs.State.{has, liveAt}
+use Rattle.model.specs.Check.{all}
+use Rattle.checks.specs.Decode.{rowAt, rowsOf}
+use Rattle.checks.specs.Walk.{Rowed, walk, backRow}
+use Rattle.checks.proofs.Cut.{some, tail-long, cut-none, cut-step, rowed-first, rowed-rest}
+use Rattle.checks.proofs.Lists.{walk-none, walk-no, walk-more}
+use Rattle.checks.proofs.OneRow.{live-is}
+use native.Mathlib.Omega.{arith}
+use borrow.Author.Needs.{needs}
+use Rattle.checks.proofs.rows.back.Statement.{statement}
+use Rattle.checks.proofs.rows.back.Tie as tie
+
+abbrev Inv-loop : tie.InvT-loop
+Inv-loop rows u m others v n x w rest₀ left₀ at₀ rest left at = Rowed u (u + 1) left rest × (at + left ≤ 256)
+    × ((r : Bool) → r ≡ walk (backRow (rowsOf v n others)) at (rowsOf u left rest) → r ≡ walk (backRow (rowsOf v n others)) x (rowsOf u m rows))
+
+abbrev μ-loop : tie.MeasureT-loop
+μ-loop rows u m others v n x w rest₀ left₀ at₀ rest left at = left
+
+add-w : tie.Need-add-w Inv-loop μ-loop
+add-w c = search needs
+
+loop-holds : tie.Need-loop-holds Inv-loop μ-loop
+loop-holds c = (search needs, search needs, λ r e. e)
+
+shared-slice-read-k : tie.Need-shared-slice-read-k Inv-loop μ-loop
+shared-slice-read-k c = let l = c .before .before .loop in let a = c .before .before .before .before .before in let f = rowed-first (l .inv .0) (some (c .before .loop-test .taken)) in omega (arith, a .pre .1)
+
+sub-listed-by : tie.Need-sub-listed-by Inv-loop μ-loop
+sub-listed-by c = let l = c .before .before .loop in let a = c .before .before .before .before .before in let f = rowed-first (l .inv .0) (some (c .before .loop-test .taken)) in omega (arith, a .pre .1)
+
+part-listed-by-start : tie.Need-part-listed-by-start Inv-loop μ-loop
+part-listed-by-start c = let l = c .before .before .loop in let a = c .before .before .before .before .before in let f = rowed-first (l .inv .0) (some (c .before .loop-test .taken)) in omega (arith, a .pre .1)
+
+part-listed-by-end : tie.Need-part-listed-by-end Inv-loop μ-loop
+part-listed-by-end c = search needs
+
+listed-by-requires : tie.Need-listed-by-requires Inv-loop μ-loop
+listed-by-requires c κs = let l = c .before .before .before .loop in let a = c .before .before .before .before .before .before in let f = rowed-first (l .inv .0) (some (c .before .before .loop-test .taken)) in ((let e = tail-long 1 (l .rest .now) in omega (arith, a .pre .1)), a .pre .2, a .pre .3, a .pre .4)
+
+returns : tie.Need-returns Inv-loop μ-loop
+returns c = let l = c .before .before .before .before .before .loop in let a = c .before .before .before .before .before .before .before .before in let f = rowed-first (l .inv .0) (some (c .before .before .before .before .loop-test .taken)) in let os = rowsOf (a .args .v) (a .args .n) (a .args .others .now) in let u = a .args .u in l .inv .2 false (walk-no (backRow os) (l .at) _ _ (cut-step (rowAt u) (u + 1) (l .left) (l .rest .now) (some (c .before .before .before .before .loop-test .taken))) (ap (all (λ c. has (l .at) (liveAt os c))) (live-is u (l .rest .now) (f .0)) ∙ sym (c .before .listed-by .ensures) ∙ not-true _ (c .if1 .taken)))
+
+mul-rest : tie.Need-mul-rest Inv-loop μ-loop
+mul-rest c = let l = c .before .before .before .before .before .loop in let a = c .before .before .before .before .before .before .before .before in let f = rowed-first (l .inv .0) (some (c .before .before .before .before .loop-test .taken)) in omega (arith, a .pre .1)
+
+sub-rest : tie.Need-sub-rest Inv-loop μ-loop
+sub-rest c = let l = c .before .before .before .before .before .loop in let a = c .before .before .before .before .before .before .before .before in let f = rowed-first (l .inv .0) (some (c .before .before .before .before .loop-test .taken)) in omega (arith, a .pre .1)
+
+part-rest-start : tie.Need-part-rest-start Inv-loop μ-loop
+part-rest-start c = let l = c .before .before .before .before .before .loop in let a = c .before .before .before .before .before .before .before .before in let f = rowed-first (l .inv .0) (some (c .before .before .before .before .loop-test .taken)) in omega (arith, a .pre .1)
+
+part-rest-end : tie.Need-part-rest-end Inv-loop μ-loop
+part-rest-end c = search needs
+
+sub-left : tie.Need-sub-left Inv-loop μ-loop
+sub-left c = search needs
+
+add-at : tie.Need-add-at Inv-loop μ-loop
+add-at c = search needs
+
+loop-less : tie.Need-loop-less Inv-loop μ-loop
+loop-less c = search needs
+
+loop-again : tie.Need-loop-again Inv-loop μ-loop
+loop-again c = let l = c .before .before .before .before .before .before .loop in let a = c .before .before .before .before .before .before .before .before .before in let f = rowed-first (l .inv .0) (some (c .before .before .before .before .before .loop-test .taken)) in let os = rowsOf (a .args .v) (a .args .n) (a .args .others .now) in let u = a .args .u in (rowed-rest (l .inv .0) (some (c .before .before .before .before .before .loop-test .taken)), omega arith, λ r e. l .inv .2 r (walk-more (backRow os) (l .at) _ _ (cut-step (rowAt u) (u + 1) (l .left) (l .rest .now) (some (c .before .before .before .before .before .loop-test .taken))) (ap (all (λ c. has (l .at) (liveAt os c))) (live-is u (l .rest .now) (f .0)) ∙ sym (c .before .before .listed-by .ensures) ∙ not-false _ (c .before .if1 .left)) e))
+
+returns-2 : tie.Need-returns-2 Inv-loop μ-loop
+returns-2 c = let l = c .before .loop in let a = c .before .before .before .before in let u = a .args .u in let os = rowsOf (a .args .v) (a .args .n) (a .args .others .now) in l .inv .2 true (walk-none (backRow os) (l .at) (cut-none (rowAt u) (u + 1) (l .left) (l .rest .now) (omega arith)))
+
+pub back-spec : {M : Type 1} → statement M
+back-spec =
+    tie.close
+    (tie.spec
+    Inv-loop
+    μ-loop
+    add-w
+    loop-holds
+    shared-slice-read-k
+    sub-listed-by
+    part-listed-by-start
+    part-listed-by-end
+    listed-by-requires
+    returns
+    mul-rest
+    sub-rest
+    part-rest-start
+    part-rest-end
+    sub-left
+    add-at
+    loop-less
+    loop-again
+    returns-2)

@@ -1,0 +1,58 @@
+use Rattle.scheduler.proofs.Laws.{child-in, child-after, downshifted-out, downshifted-stays, downshifted-goes}
+use Rattle.scheduler.specs.Heap.{headIn, childOf, swapAt, downshifted, made}
+use Rattle.scheduler.specs.declared.Scheduler.{Scheduler}
+use mathlib.Core.Path.{_≡_, sym, ap, _∙_}
+use native.Mathlib.Omega.{arith}
+use borrow.Author.Needs.{needs}
+use Prim.Native.Nat.{ℕ, _<_, _-_}
+use borrow.Fn.Kinds.{In}
+use borrow.Fn.PlainCycle.{Measures, is, falls, and}
+use Rattle.scheduler.proofs.downshift.Reads as downshift
+use Rattle.scheduler.proofs.downshift.Kinds as downshift-kinds
+use Rattle.scheduler.proofs.+downshift.Lts-downshift as downshift-lts
+use Rattle.scheduler.proofs.child.Reads as child-reads
+use Rattle.scheduler.proofs.swap.Reads as swap-reads
+use Rattle.scheduler.proofs.+downshift.{statement}
+use Rattle.scheduler.proofs.+downshift.Tie.{close}
+
+abbrev μ-downshift : Measures 4 downshift-kinds.ps ℕ
+μ-downshift κs a = a .1 .1 .0 - a .1 .1 .1 .1 .1 .1 .0
+
+abbrev downshift-at : ℕ → In 4 downshift-kinds.ps
+downshift-at t = and 4 downshift-kinds.ps (is 4 downshift-kinds.ps μ-downshift t) downshift.Pre
+
+abbrev downshift-below : ℕ → In 4 downshift-kinds.ps
+downshift-below t =
+    and 4 downshift-kinds.ps (falls 4 downshift-kinds.ps _<_ μ-downshift t) downshift.Pre
+
+abbrev Rd : ℕ → downshift-lts.Claims
+Rd t = (child-reads.Asked, child-reads.Learnt, swap-reads.Asked, swap-reads.Learnt, downshift-below t, downshift.Post)
+
+downshift-returns : (t : ℕ) → downshift-lts.Need-returns (Rd t) (downshift-at t) downshift.Post
+downshift-returns t c = sym (downshifted-out _ _ _ (c .if1 .taken))
+
+downshift-child-requires : (t : ℕ) → downshift-lts.Need-child-requires (Rd t) (downshift-at t) downshift.Post
+downshift-child-requires t c κs = search needs
+
+downshift-returns-2 : (t : ℕ) → downshift-lts.Need-returns-2 (Rd t) (downshift-at t) downshift.Post
+downshift-returns-2 t c = let b = c .before .before .before .before .before .before .before in let a = b .args in let h = headIn (a .times .now) (a .held .now) (a .room) in let s = made (a .heap .now) (a .lookups .now) (a .n) in let e : c .before .child .result ≡ childOf h s (a .p) = c .before .child .ensures in sym (downshifted-stays h s (a .p) (sym e ∙ c .if2 .taken))
+
+downshift-swap-requires : (t : ℕ) → downshift-lts.Need-swap-requires (Rd t) (downshift-at t) downshift.Post
+downshift-swap-requires t c κs = let b = c .before .before .before .before .before .before .before .before .before in let a = b .args in let h = headIn (a .times .now) (a .held .now) (a .room) in let s = made (a .heap .now) (a .lookups .now) (a .n) in let e : c .before .before .before .child .result ≡ childOf h s (a .p) = c .before .before .before .child .ensures in let l = child-in h s (a .p) (b .pre .1 .0) (c .before .before .before .before .before .before .if1 .left) (λ w. c .before .before .if2 .left (e ∙ w)) in let r = b .pre .1 .0 .room in (omega (arith, c .before .before .before .before .before .before .if1 .left), omega arith)
+
+downshift-downshift-requires : (t : ℕ) → downshift-lts.Need-downshift-requires (Rd t) (downshift-at t) downshift.Post
+downshift-downshift-requires t c κs = let b = c .before .before .before .before .before .before .before .before .before .before .before .before in let a = b .args in let h = headIn (a .times .now) (a .held .now) (a .room) in let s = made (a .heap .now) (a .lookups .now) (a .n) in let e : c .before .before .before .before .before .before .child .result ≡ childOf h s (a .p) = c .before .before .before .before .before .before .child .ensures in let f = b .pre .1 .0 in let l = child-after h s (a .p) in (omega (arith, c .before .before .before .before .before .if2 .left, c .before .before .before .before .before .before .before .before .before .if1 .left), (record { room = f .room; top = f .top }, b .pre .1 .1))
+
+downshift-returns-3 : (t : ℕ) → downshift-lts.Need-returns-3 (Rd t) (downshift-at t) downshift.Post
+downshift-returns-3 t c = let b = c .before .before .before .before .before .before .before .before .before .before .before .before .before in let a = b .args in let h = headIn (a .times .now) (a .held .now) (a .room) in let s = made (a .heap .now) (a .lookups .now) (a .n) in let e : c .before .before .before .before .before .before .before .child .result ≡ childOf h s (a .p) = c .before .before .before .before .before .before .before .child .ensures in c .downshift .ensures ∙ ap (λ (x : Scheduler). downshifted h x (c .before .before .before .before .before .before .before .child .result)) (c .before .before .before .swap .ensures (a .n)) ∙ ap (λ (x : ℕ). downshifted h (swapAt s (a .p) x) x) e ∙ sym (downshifted-goes h s (a .p) (c .before .before .before .before .before .before .before .before .before .before .if1 .left) (λ w. c .before .before .before .before .before .before .if2 .left (e ∙ w)))
+
+pub +downshift-spec : {M : Type 1} → statement M
++downshift-spec = close μ-downshift λ t. downshift-lts.spec (Rd t)
+    (downshift-at t)
+    downshift.Post
+    (downshift-returns t)
+    (downshift-child-requires t)
+    (downshift-returns-2 t)
+    (downshift-swap-requires t)
+    (downshift-downshift-requires t)
+    (downshift-returns-3 t)

@@ -1,0 +1,53 @@
+use Rattle.scheduler.proofs.Laws.{parent-before, upshifted-stays, upshifted-goes}
+use Rattle.scheduler.specs.Heap.{headIn, parentOf, swapAt, upshifted, made}
+use Rattle.scheduler.specs.declared.Scheduler.{Scheduler}
+use mathlib.Core.Path.{_≡_, sym, ap, _∙_}
+use native.Mathlib.Omega.{arith}
+use borrow.Author.Needs.{needs}
+use Prim.Native.Nat.{ℕ, _<_}
+use borrow.Fn.Kinds.{In}
+use borrow.Fn.PlainCycle.{Measures, is, falls, and}
+use Rattle.scheduler.proofs.upshift.Reads as upshift
+use Rattle.scheduler.proofs.upshift.Kinds as upshift-kinds
+use Rattle.scheduler.proofs.+upshift.Lts-upshift as upshift-lts
+use Rattle.scheduler.proofs.parent.Reads as parent-reads
+use Rattle.scheduler.proofs.swap.Reads as swap-reads
+use Rattle.scheduler.proofs.+upshift.{statement}
+use Rattle.scheduler.proofs.+upshift.Tie.{close}
+
+abbrev μ-upshift : Measures 4 upshift-kinds.ps ℕ
+μ-upshift κs a = a .1 .1 .1 .1 .1 .1 .0
+
+abbrev upshift-at : ℕ → In 4 upshift-kinds.ps
+upshift-at t = and 4 upshift-kinds.ps (is 4 upshift-kinds.ps μ-upshift t) upshift.Pre
+
+abbrev upshift-below : ℕ → In 4 upshift-kinds.ps
+upshift-below t = and 4 upshift-kinds.ps (falls 4 upshift-kinds.ps _<_ μ-upshift t) upshift.Pre
+
+abbrev Rd : ℕ → upshift-lts.Claims
+Rd t = (parent-reads.Asked, parent-reads.Learnt, swap-reads.Asked, swap-reads.Learnt, upshift-below t, upshift.Post)
+
+upshift-parent-requires : (t : ℕ) → upshift-lts.Need-parent-requires (Rd t) (upshift-at t) upshift.Post
+upshift-parent-requires t c κs = search needs
+
+upshift-returns : (t : ℕ) → upshift-lts.Need-returns (Rd t) (upshift-at t) upshift.Post
+upshift-returns t c = let b = c .before .before .before .before .before .before in let a = b .args in let h = headIn (a .times .now) (a .held .now) (a .room) in let s = made (a .heap .now) (a .lookups .now) (a .n) in let e : c .before .parent .result ≡ parentOf h s (a .c) = c .before .parent .ensures in sym (upshifted-stays h s (a .c) (sym e ∙ c .if1 .taken))
+
+upshift-swap-requires : (t : ℕ) → upshift-lts.Need-swap-requires (Rd t) (upshift-at t) upshift.Post
+upshift-swap-requires t c κs = let b = c .before .before .before .before .before .before .before .before in let a = b .args in let h = headIn (a .times .now) (a .held .now) (a .room) in let s = made (a .heap .now) (a .lookups .now) (a .n) in let e : c .before .before .before .parent .result ≡ parentOf h s (a .c) = c .before .before .before .parent .ensures in let l = parent-before h s (a .c) (λ w. c .before .before .if1 .left (e ∙ w)) in (omega (arith, b .pre .1 .0), omega (arith, b .pre .1 .0))
+
+upshift-upshift-requires : (t : ℕ) → upshift-lts.Need-upshift-requires (Rd t) (upshift-at t) upshift.Post
+upshift-upshift-requires t c κs = let b = c .before .before .before .before .before .before .before .before .before .before .before in let a = b .args in let h = headIn (a .times .now) (a .held .now) (a .room) in let s = made (a .heap .now) (a .lookups .now) (a .n) in let e : c .before .before .before .before .before .before .parent .result ≡ parentOf h s (a .c) = c .before .before .before .before .before .before .parent .ensures in let l = parent-before h s (a .c) (λ w. c .before .before .before .before .before .if1 .left (e ∙ w)) in (omega (arith, b .pre .0), (b .pre .1 .0, b .pre .1 .1))
+
+upshift-returns-2 : (t : ℕ) → upshift-lts.Need-returns-2 (Rd t) (upshift-at t) upshift.Post
+upshift-returns-2 t c = let b = c .before .before .before .before .before .before .before .before .before .before .before .before in let a = b .args in let h = headIn (a .times .now) (a .held .now) (a .room) in let s = made (a .heap .now) (a .lookups .now) (a .n) in let e : c .before .before .before .before .before .before .before .parent .result ≡ parentOf h s (a .c) = c .before .before .before .before .before .before .before .parent .ensures in c .upshift .ensures ∙ ap (λ (x : Scheduler). upshifted h x (c .before .before .before .before .before .before .before .parent .result)) (c .before .before .before .swap .ensures (a .n)) ∙ ap (λ (x : ℕ). upshifted h (swapAt s (a .c) x) x) e ∙ sym (upshifted-goes h s (a .c) (λ w. c .before .before .before .before .before .before .if1 .left (e ∙ w)))
+
+pub +upshift-spec : {M : Type 1} → statement M
++upshift-spec = close μ-upshift λ t. upshift-lts.spec (Rd t)
+    (upshift-at t)
+    upshift.Post
+    (upshift-parent-requires t)
+    (upshift-returns t)
+    (upshift-swap-requires t)
+    (upshift-upshift-requires t)
+    (upshift-returns-2 t)
