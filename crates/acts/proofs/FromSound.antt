@@ -5,7 +5,8 @@ use native.Mathlib.Omega.{arith}
 use mathlib.Core.List.{List, [], _∷_, _++_}
 use lib.ListN.{length, getD, length-append}
 use lib.Ieee.{Float}
-use Rattle.chunks.specs.Flat.{flat, Every}
+use Rattle.chunks.specs.Flat.{flat}
+use Rattle.chunks.proofs.Laws.{every-of}
 use Rattle.model.specs.declared.Place.{Place}
 use Rattle.model.specs.State.{Row, none, State, listed}
 use Rattle.model.specs.Grid.{cells}
@@ -15,10 +16,6 @@ use Rattle.tables.specs.declared.Sizes.{Sizes}
 use Rattle.tables.specs.Layout.{queueNums, queueReals, orderBytes}
 use Rattle.tables.specs.Holds.{Good, Ranged, Tabled, Heaped, Queued}
 use Rattle.acts.proofs.Rows.{Top, all-every, fine-low}
-
-every-of : {A : Type 0} (P : A → Type 0) (d : A) (xs : List A) → ((c : ℕ) → c < length xs → P (getD xs c d)) → Every P xs
-every-of P d [] f = tt
-every-of P d (x ∷ xs) f = (f 0 (omega arith), every-of P d xs (λ c h. f (suc c) (omega (arith, h))))
 
 good-of : (n c : ℕ) (m : List ℕ) {t : Float} {room : ℕ} (r : Row Place) → Queue t room n c m r → Good room r
 good-of n c m r q = record { full = length-append (r .live) (r .spare) ∙ q .full; tops = all-every (r .live) (all-to (Held n c m) Top (r .live) (λ p h. fine-low p (h .fine)) (q .held)) }
