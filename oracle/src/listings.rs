@@ -3,7 +3,7 @@
 // still grain, and FOLDER/stdout. The reader and the writer here were written from document 01. Behind them is the
 // model, and for each listing the Rust with document 01's rules, event by event.
 //
-// Refusals 2 and 10 can't be reached: the counts are in range where a text is not too large, and the tables that a
+// Refusals 2 and 10 can't be reached (`answers/Never.answers-are`): the counts are in range where a text is not too large, and the tables that a
 // start leaves hold the standing facts.
 use crate::crafted::{crafted, grain};
 use crate::model::run::{Report, Started, Told};

@@ -3,3 +3,4 @@ pub mod RowLaws
 pub mod RunLaws
 pub mod Served
 pub mod Texts
+pub mod Never

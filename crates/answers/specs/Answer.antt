@@ -28,6 +28,7 @@ use Rattle.listing_text.specs.Size.{tooLarge}
 abbrev pub float : ℕ → Float
 float b = ofBits binary64 b
 
+-- the box and a grain of a text; a grain as it is listed
 abbrev pub boxIn : Input → Domain
 boxIn i = boxOf (vec (float (i .l0)) (float (i .l1))) (i .p0) (i .p1)
 
@@ -50,6 +51,7 @@ byHow synchronised l = l
 byHow spent l = answerOf Spent
 byHow (refusedBy r) l = answerOf (Refused r)
 
+-- what follows the run to the next, and the run through the first
 abbrev pub listing : Ran → List ℕ
 listing r = byHow (r .how) (listingOf (toBits binary64 (r .clock)) (map shown (r .state .grains)))
 
@@ -65,13 +67,13 @@ abbrev pub afterStart : Float → Begun → List ℕ
 afterStart rate (refused r g) = answerOf (Refused r)
 afterStart rate (started s) = byMark (s .mark) (toNext rate (runAll rate budget s))
 
--- ---- the answer to the numbers of a text of the form
+-- ---- the answer to the numbers of a text of the form: `too large`, "then" refused, spent, or the listing
 unfoldable pub answerTo : Input → List ℕ
 answerTo i =
     pick (tooLarge (length (i .grains)) (float (i .l0)) (float (i .l1))) (answerOf TooLarge)
     (afterStart (float (i .rate)) (start (boxIn i) room (map grainIn (i .grains))))
 
--- ---- the answer to a text: what the reader makes of its bytes, "then" the above
+-- ---- the answer to a text: `malformed` unless the reader finds it to be of the form, "then" the above
 abbrev pub flag : ℕ → Bool
 flag n = eqb n 1
 
@@ -88,6 +90,7 @@ inputFrom numbers grains n = record {
 abbrev pub inputOf : Reader → Input
 inputOf r = inputFrom (r .numbers) (r .grains) (r .n)
 
+-- once the reader has been fed the whole text, and so of its bytes (Texts has what this means for the grammar)
 unfoldable pub answered : Reader → List ℕ
 answered r = pick (fineOf (closedOf r)) (answerTo (inputOf (closedOf r))) (answerOf Malformed)
 
