@@ -1,17 +1,11 @@
 // How many events a second the published Rust and the port do, on the same inputs, in turns, by processor time.
-mod port;
-#[path = "../../oracle/src/random.rs"]
-#[allow(dead_code)]
-mod random;
 mod rows;
 
-include!(concat!(env!("OUT_DIR"), "/published.rs"));
+use fesolopi::{Domain, Ending, Grain, Simulation};
+use oracle::rust::{AsPublished, Published};
+use oracle::text::Start;
+use rows::{Row, ROWS};
 
-use port::{Port, SPENT, SYNCHRONISED};
-use published::simulator::Simulator;
-use rows::{Row, PERIODIC, ROWS};
-
-const RATE: f64 = 1.;
 const ROUNDS: usize = 7;
 
 #[repr(C)]
@@ -40,60 +34,66 @@ fn timed(work: impl FnOnce()) -> f64 {
     processor_time() - before
 }
 
-/// One round of the published Rust: its time, and the grains that it leaves.
-fn rust_round(row: &Row, inputs: &[[f64; 5]]) -> (f64, Vec<[u64; 6]>) {
-    let mut simulator = Simulator::new(RATE, row.lengths, PERIODIC, inputs);
-    let time = timed(|| (0..row.runs).for_each(|_| simulator.integrate()));
-    let grain = |p: &std::rc::Rc<std::cell::RefCell<published::simulator::Particle>>| {
-        let p = p.borrow();
-        [p.pos[0], p.pos[1], p.vel[0], p.vel[1], p.time, p.val].map(f64::to_bits)
-    };
-    let grains = simulator.get_particles().iter().map(grain).collect();
-    (time, grains)
-}
-
 /// One round of the port: its time, the events that it did, and how it ends.
-fn port_round(row: &Row, inputs: &[[f64; 5]]) -> (f64, u64, Port) {
-    let mut port = Port::start(row.lengths, PERIODIC, row.room, inputs);
+fn port_round(row: &Row, start: &Start) -> (f64, u64, Simulation) {
+    let grain = |&[x, y, vx, vy, value]: &[f64; 5]| Grain { position: [x, y], velocity: [vx, vy], value };
+    let grains: Vec<Grain> = start.grains.iter().map(grain).collect();
+    let domain = Domain { lengths: start.lengths, periodic: start.periodic };
+    let mut port = Simulation::start(&domain, start.room, &grains).expect("the start is accepted");
     let mut events = 0;
     let time = timed(|| {
         for _ in 0..row.runs {
-            let (answer, done) = port.run(RATE, u32::MAX);
-            assert_eq!(answer, SYNCHRONISED, "{}: the run is halted", row.name);
-            events += done;
+            let report = port.run(start.rate, u32::MAX).expect("the run is not halted");
+            assert_eq!(report.ending, Ending::Synchronised);
+            events += report.events;
         }
     });
     (time, events, port)
 }
 
+/// One round of the published Rust, of as many events: its time, and how it ends.
+fn rust_round(start: &Start, events: u64) -> (f64, AsPublished) {
+    let mut rust = AsPublished::start(start);
+    let time = timed(|| (0..events).for_each(|_| rust.step(start.rate)));
+    (time, rust)
+}
+
+/// Whether both hold the same grains, bit for bit.
+fn same(rust: &AsPublished, port: &Simulation) -> bool {
+    let grains = rust.picture().grains;
+    let floats = grains.iter().flat_map(|g| [g.pos[0], g.pos[1], g.vel[0], g.vel[1], g.time, g.val]);
+    floats.map(f64::to_bits).eq(port.tables().grains[3..].iter().map(|x| x.to_bits()))
+}
+
 /// Seconds that a run of a given budget takes, on the tables that a round leaves.
-fn short_run(port: &mut Port, budget: u32) -> f64 {
+fn short_run(port: &mut Simulation, budget: u32) -> f64 {
     const TIMES: u32 = 500;
-    let work = || {
-        for _ in 0..TIMES {
-            let (answer, _) = port.run(RATE, budget);
-            assert!(answer == SPENT || answer == SYNCHRONISED, "the run is halted");
-        }
-    };
+    let work = || (0..TIMES).for_each(|_| assert!(port.run(1., budget).is_ok(), "the run is not halted"));
     timed(work) / f64::from(TIMES)
+}
+
+/// Bytes of the five tables.
+fn memory(port: &Simulation) -> usize {
+    let t = port.tables();
+    8 * (t.lists.len() + t.grains.len() + t.queue.len() + t.events.len()) + t.order.len()
 }
 
 fn main() {
     println!("| Box | Grains | Room | Tables, kB | Events | Rust, M/s | Port, M/s | Port / Rust | Checks of a run, µs | Port / Rust, one event a run |");
     println!("|---|---|---|---|---|---|---|---|---|---|");
     for row in &ROWS {
-        let inputs = row.inputs();
+        let start = row.start();
         let (mut rust, mut port, mut none, mut one) = (f64::MAX, f64::MAX, f64::MAX, f64::MAX);
-        let (mut events, mut memory) = (0, 0);
+        let (mut events, mut bytes) = (0, 0);
         for _ in 0..ROUNDS {
-            let (time, theirs) = rust_round(row, &inputs);
-            rust = rust.min(time);
-            let (time, done, mut ended) = port_round(row, &inputs);
+            let (time, done, mut ended) = port_round(row, &start);
             port = port.min(time);
-            assert!(theirs == ended.grains(), "{}: the grains differ at the end", row.name);
+            let (time, theirs) = rust_round(&start, done);
+            rust = rust.min(time);
+            assert!(same(&theirs, &ended), "{}: the grains differ at the end", row.name);
             none = none.min(short_run(&mut ended, 0));
             one = one.min(short_run(&mut ended, 1));
-            (events, memory) = (done, ended.memory());
+            (events, bytes) = (done, memory(&ended));
         }
         let each = |time: f64| time / events as f64;
         println!(
@@ -101,7 +101,7 @@ fn main() {
             row.name,
             row.grains,
             row.room,
-            memory / 1000,
+            bytes / 1000,
             events,
             1e-6 / each(rust),
             1e-6 / each(port),

@@ -1,23 +1,21 @@
-// The inputs: boxes with grains at random in a part of them, none touching another.
-use crate::random::Random;
+// The inputs: boxes with grains at random in a part of them, none touching another, at speeds up to 1 in each direction.
+use oracle::random::Random;
+use oracle::text::Start;
 
 pub struct Row {
     pub name: &'static str,
-    pub lengths: [f64; 2],
-    /// How much of the box the grains start in, from its lower corner.
-    pub filled: [f64; 2],
+    /// Each side of the box.
+    length: f64,
+    /// Each side of the part, at the box's lower corner, that the grains start in.
+    filled: f64,
     pub grains: usize,
     pub room: u64,
     /// How many times a run goes on to the next synchronisation, at rate 1.
     pub runs: u64,
-    pub seed: u64,
 }
 
-/// Periodic in the first direction, walls in the second, as the published program has it.
-pub const PERIODIC: [bool; 2] = [true, false];
-
 const fn row(name: &'static str, length: f64, filled: f64, grains: usize, room: u64, runs: u64) -> Row {
-    Row { name, lengths: [length; 2], filled: [filled; 2], grains, room, runs, seed: 1 }
+    Row { name, length, filled, grains, room, runs }
 }
 
 pub const ROWS: [Row; 7] = [
@@ -31,18 +29,17 @@ pub const ROWS: [Row; 7] = [
 ];
 
 impl Row {
-    /// x, y, vx, vy, val of each grain.
-    pub fn inputs(&self) -> Vec<[f64; 5]> {
-        let mut random = Random(self.seed);
+    /// Periodic in the first direction and between walls in the second, as the published program has it.
+    pub fn start(&self) -> Start {
+        let mut random = Random(1);
         let mut grains: Vec<[f64; 5]> = Vec::new();
         while grains.len() < self.grains {
-            let [x, y] = self.filled.map(|length| random.between(0.5, length - 0.5));
-            let apart = |g: &[f64; 5]| (g[0] - x).hypot(g[1] - y) > 1.;
-            if grains.iter().all(apart) {
+            let [x, y] = [(); 2].map(|()| random.between(0.5, self.filled - 0.5));
+            if grains.iter().all(|g| (g[0] - x).hypot(g[1] - y) > 1.) {
                 let [vx, vy] = [(); 2].map(|()| random.between(-1., 1.));
                 grains.push([x, y, vx, vy, random.between(0., 1.)]);
             }
         }
-        grains
+        Start { lengths: [self.length; 2], periodic: [true, false], rate: 1., room: self.room, grains }
     }
 }
