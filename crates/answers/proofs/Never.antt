@@ -20,7 +20,7 @@ use Rattle.model.specs.Start.{Begun, refused, started, start}
 use Rattle.model.specs.Start as begin
 use Rattle.model.specs.Run.{How, synchronised, spent, refused as refusedBy, Ran, runFrom}
 use Rattle.model.specs.Check.{Fits, halt, runAll}
-use Rattle.model.specs.Reached.{after, Reached}
+use Rattle.model.specs.Reached.{after}
 use Rattle.model.proofs.Reached.{Well, reached-well}
 use Rattle.model.proofs.Runs.{run-stands}
 use Rattle.model.proofs.Whole.{runs, sound-sized, rated-later}

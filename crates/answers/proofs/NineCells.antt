@@ -1,18 +1,17 @@
 -- A box that is not too large, with lengths in range, has nine cells: a length below 12 is at most the float before 12, and a third of that is cut to 3. Assumes nothing.
-use Prim.Native.Nat.{ℕ, zero, suc, _+_, _*_, _^_, _≤_, _<_, max}
-use mathlib.Core.Path.{_≡_, refl, sym, ap, _∙_, subst}
-use mathlib.Core.Bool.{Bool, true, false, _&&_, _||_}
+use Prim.Native.Nat.{ℕ, zero, suc, _*_, _^_, _≤_, _<_}
+use mathlib.Core.Path.{_≡_, refl, sym, _∙_, subst}
+use mathlib.Core.Bool.{Bool, true, false, _&&_}
 use native.Mathlib.Omega.{arith}
-use lib.IntN.{ℤ, pos, negsuc}
+use lib.IntN.{pos, negsuc}
 use lib.Dec.{T, leb}
 use lib.Pow.{pow-mono}
-use lib.Ieee.{Float, nan, inf, fin, binary64, ofBits, fits, le, div, toUnsigned, up, down}
+use lib.Ieee.{Float, nan, inf, fin, binary64, ofBits, fits, le, div, toUnsigned}
 use lib.Ieee.Positive.{num, den, positive}
 use borrow.Author.Tests.{leb-true, leb-false}
 use Rattle.order.specs.Numbers.{nine, three, fortyeight}
 use Rattle.order.proofs.Value.{fitting}
 use Rattle.order.proofs.Mono.{plain, positive-plain, le→fr, fr→le, div-mono}
-use Rattle.order.proofs.Order.{le-refl}
 use Rattle.order.proofs.Cut.{cut-mono}
 use Rattle.order.proofs.Compare.{yes}
 use Rattle.model.specs.declared.Domain.{Domain}
@@ -20,7 +19,6 @@ use Rattle.model.specs.Grid.{lengthOf, cellsOf, across, cells}
 use Rattle.model.specs.Sizes.{within, boxOk}
 use Rattle.model.proofs.Queue.{and-l, and-r}
 use Rattle.model.proofs.Quarters.{facts}
-use Rattle.model.proofs.Grid.{cells-range}
 use Rattle.listing_text.specs.Size.{twelve, longLength}
 
 -- ---- the float before 12

@@ -13,8 +13,6 @@ use Rattle.chunks.specs.Flat.{flat}
 use Rattle.model.specs.declared.Domain.{Domain}
 use Rattle.model.specs.declared.Report.{Report}
 use Rattle.model.specs.declared.Started.{Started}
-use Rattle.model.specs.declared.Started.the-variants as start
-use Rattle.model.specs.declared.Report.the-variants as report
 use Rattle.checks.specs.Decode.{Tables, tables, grainsOf, grainsPart}
 use Rattle.simulator.specs.Start.{StartedWith, with, startAll}
 use Rattle.simulator.specs.Run.{toldTables, runTables}
@@ -24,7 +22,7 @@ use Rattle.listing_text.specs.Size.{longLength, tooLarge}
 use Rattle.listing_text.specs.Answers.{Put, listed, answerOf}
 use Rattle.listing_text.proofs.Putting.{put-as}
 use Rattle.answers.specs.declared.runs.Outcome.{Outcome}
-use Rattle.answers.specs.declared.runs.Outcome.the-variants.{Synchronised, Spent, Refused}
+use Rattle.answers.specs.declared.runs.Outcome.the-variants.{Synchronised}
 use Rattle.answers.specs.Answer.{float, shown, room, budget}
 use Rattle.answers.specs.Runs.{Ended, ended, ending, once, again, goOn, twice, byAnswer, begun, simulated, blank, spelt, boxed, spelling, served, judged}
 

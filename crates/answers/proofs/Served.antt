@@ -2,7 +2,7 @@
 -- them is the model's. Assumes nothing.
 use Prim.Native.Nat.{ℕ, zero, suc, _+_, _*_, _≤_}
 use mathlib.Core.Path.{_≡_, refl, sym, ap, _∙_, subst}
-use mathlib.Core.List.{List, [], _∷_, _++_, map}
+use mathlib.Core.List.{List, [], _++_, map}
 use mathlib.Core.Bool.{Bool, true, false, cond, _||_}
 use native.Mathlib.Omega.{arith}
 use lib.Dec.{T, eqb, ltb}
@@ -21,7 +21,7 @@ use Rattle.model.specs.State.{State}
 use Rattle.model.specs.Start.{Begun, refused, started, start}
 use Rattle.model.specs.Run.{How, synchronised, spent, refused as refusedBy, Ran}
 use Rattle.model.specs.Check.{Fits, runAll}
-use Rattle.model.specs.Reached.{after, Reached}
+use Rattle.model.specs.Reached.{after}
 use Rattle.model.proofs.Reached.{Well, runAll-well, reached-well}
 use Rattle.tables.specs.declared.Sizes.{Sizes}
 use Rattle.checks.specs.Decode.{Tables, grainsOf, grainsPart}

@@ -1,11 +1,10 @@
 -- The answer to a text of the form is the answer to its numbers (`answer-text`), and to any other text `malformed` (`answer-malformed`). Assumes nothing.
-use Prim.Native.Nat.{ℕ, zero, suc, _≤_, _<_}
+use Prim.Native.Nat.{ℕ, _<_}
 use mathlib.Core.Path.{_≡_, refl, sym, ap, _∙_, subst}
 use mathlib.Core.List.{List, map}
 use mathlib.Core.Bool.{Bool, true, false, _||_}
 use lib.Dec.{ltb}
 use lib.ListN.{length}
-use lib.Ieee.{Float}
 use borrow.Author.Tests.{lt-ltb, ltb-true, ltb-false}
 use Rattle.halting.specs.Out.{pick}
 use Rattle.model.specs.Start.{start}
@@ -15,7 +14,7 @@ use Rattle.listing_text.specs.Held.{readOf, bitOf}
 use Rattle.listing_text.specs.Rows.{rowsOf, grainsFrom}
 use Rattle.listing_text.specs.Reading.{startOf, feedAll, closedOf, fineOf}
 use Rattle.listing_text.specs.Answers.{answerOf}
-use Rattle.listing_text.specs.Size.{longLength, tooLarge}
+use Rattle.listing_text.specs.Size.{longLength}
 use Rattle.listing_text.proofs.Rows.{rows-back}
 use Rattle.listing_text.proofs.Forward.{read-fine, text-accepted}
 use Rattle.listing_text.proofs.Backward.{accepted-text}

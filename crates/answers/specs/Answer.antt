@@ -12,7 +12,6 @@ use Rattle.model.specs.declared.Domain.{Domain}
 use Rattle.model.specs.declared.Particle.{Particle}
 use Rattle.model.specs.Grid.{boxOf}
 use Rattle.model.specs.Stepping.{grainOf}
-use Rattle.model.specs.State.{State}
 use Rattle.model.specs.Start.{Begun, refused, started, start}
 use Rattle.model.specs.Run.{How, synchronised, spent, refused as refusedBy, Ran}
 use Rattle.model.specs.Check.{runAll}
