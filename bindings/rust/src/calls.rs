@@ -4,63 +4,8 @@
 //! behind it are those of one lent table, that pointers are aligned and not null, and that nothing lent
 //! overlaps. Rust's references give all of that: each pointer below is made from one, its length from the
 //! same slice, and two `&mut` never overlap.
+use crate::declared::{fesolopi_needed, fesolopi_run, fesolopi_square_root, fesolopi_start};
 use crate::tables::Tables;
-
-extern "C" {
-    fn fesolopi_start(
-        l0: f64,
-        l1: f64,
-        periodic0: bool,
-        periodic1: bool,
-        count: u64,
-        room: u64,
-        inputs: *const f64,
-        inputs_length: usize,
-        lists: *mut u64,
-        lists_length: usize,
-        grains: *mut f64,
-        grains_length: usize,
-        queue: *mut u64,
-        queue_length: usize,
-        events: *mut f64,
-        events_length: usize,
-        order: *mut u8,
-        order_length: usize,
-        grain: *mut u64,
-    ) -> u64;
-
-    fn fesolopi_run(
-        lists: *mut u64,
-        lists_length: usize,
-        grains: *mut f64,
-        grains_length: usize,
-        queue: *mut u64,
-        queue_length: usize,
-        events: *mut f64,
-        events_length: usize,
-        order: *mut u8,
-        order_length: usize,
-        rate: f64,
-        budget: u32,
-        clock: *mut f64,
-        done: *mut u64,
-    ) -> u64;
-
-    fn fesolopi_needed(
-        l0: f64,
-        l1: f64,
-        count: u64,
-        room: u64,
-        inputs: *mut u64,
-        lists: *mut u64,
-        grains: *mut u64,
-        queue: *mut u64,
-        events: *mut u64,
-        order: *mut u64,
-    ) -> u64;
-
-    fn fesolopi_square_root(d: f64, root: *mut f64) -> u64;
-}
 
 /// The number of a start, and the grain that it names.
 pub fn start(

@@ -27,6 +27,8 @@
 
 #[allow(unsafe_code)]
 mod calls;
+#[allow(unsafe_code)]
+mod declared;
 mod error;
 mod event;
 mod simulation;
