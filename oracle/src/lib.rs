@@ -6,6 +6,7 @@ pub mod differ;
 pub mod domain;
 pub mod dumps;
 pub mod leaves;
+pub mod listings;
 pub mod lost;
 pub mod model;
 pub mod mutate;

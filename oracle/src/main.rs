@@ -1,5 +1,5 @@
 // The oracle's commands.
-use oracle::{account, compare, crafted, differ, dumps, lost, replay, vectors};
+use oracle::{account, compare, crafted, differ, dumps, listings, lost, replay, vectors};
 
 const USAGE: &str = "usage:
   oracle dump published|rules|model [EVENTS..]   start text on stdin; dumps after so many events
@@ -9,7 +9,8 @@ const USAGE: &str = "usage:
   oracle lost                                    the grain that the text as published loses
   oracle vectors FOLDER                          files for other programs to replay
   oracle leaves                                  those of single schedulings and the like as words, on stdout
-  oracle replay FOLDER                           what the program replay reads, and what it must write";
+  oracle replay FOLDER                           what the program replay reads, and what it must write
+  oracle listings FOLDER                         texts for the listing program, and their answers";
 
 fn main() {
     let arguments: Vec<String> = std::env::args().skip(1).collect();
@@ -23,6 +24,7 @@ fn main() {
         ["lost"] => passed(lost::lost()),
         ["leaves"] => replay::leaves(),
         ["replay", folder] => account::replay(folder),
+        ["listings", folder] => listings::listings(folder),
         _ => Err(USAGE.into()),
     };
     if let Err(message) = done {

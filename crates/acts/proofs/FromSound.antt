@@ -3,31 +3,22 @@ use mathlib.Core.Path.{_≡_, refl, sym, ap, _∙_, subst}
 use Prim.Native.Nat.{ℕ, zero, suc, _+_, _≤_, _<_}
 use native.Mathlib.Omega.{arith}
 use mathlib.Core.List.{List, [], _∷_, _++_}
-use mathlib.Core.Bool.{false}
 use lib.ListN.{length, getD, length-append}
-use lib.Ieee.{Float, lt}
-use Rattle.chunks.specs.Flat.{flat, Every}
-use Rattle.order.specs.Numbers.{last}
+use lib.Ieee.{Float}
+use Rattle.chunks.specs.Flat.{flat}
+use Rattle.chunks.proofs.Laws.{every-of}
 use Rattle.model.specs.declared.Place.{Place}
 use Rattle.model.specs.State.{Row, none, State, listed}
 use Rattle.model.specs.Grid.{cells}
 use Rattle.model.specs.Sound.{Sound, Held, Queue}
-use Rattle.model.specs.Standing.{All}
+use Rattle.model.proofs.Queue.{all-to}
 use Rattle.tables.specs.declared.Sizes.{Sizes}
 use Rattle.tables.specs.Layout.{queueNums, queueReals, orderBytes}
 use Rattle.tables.specs.Holds.{Good, Ranged, Tabled, Heaped, Queued}
-use Rattle.acts.proofs.Rows.{fine-top}
-
-every-of : {A : Type 0} (P : A → Type 0) (d : A) (xs : List A) → ((c : ℕ) → c < length xs → P (getD xs c d)) → Every P xs
-every-of P d [] f = tt
-every-of P d (x ∷ xs) f = (f 0 (omega arith), every-of P d xs (λ c h. f (suc c) (omega (arith, h))))
-
-tops-of : (n c : ℕ) (m : List ℕ) (l : List Place) → All (Held n c m) l → Every (λ (p : Place). lt last (p .time) ≡ false) l
-tops-of n c m [] a = tt
-tops-of n c m (x ∷ l) a = (fine-top x (a .0 .fine), tops-of n c m l (a .1))
+use Rattle.acts.proofs.Rows.{Top, all-every, fine-low}
 
 good-of : (n c : ℕ) (m : List ℕ) {t : Float} {room : ℕ} (r : Row Place) → Queue t room n c m r → Good room r
-good-of n c m r q = record { full = length-append (r .live) (r .spare) ∙ q .full; tops = tops-of n c m (r .live) (q .held) }
+good-of n c m r q = record { full = length-append (r .live) (r .spare) ∙ q .full; tops = all-every (r .live) (all-to (Held n c m) Top (r .live) (λ p h. fine-low p (h .fine)) (q .held)) }
 
 module _ {z : Sizes} (s : State) (k : Sound s) (eg : length (s .grains) ≡ z .grains) (ec : cells (s .box) ≡ z .cells) (er : s .room ≡ z .room) where
   pub sound-ranged : Ranged z

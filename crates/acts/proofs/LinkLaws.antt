@@ -108,9 +108,9 @@ module _ {z : Sizes} {g c : ℕ} {l : List ℕ} (hg : g < z .grains) (hc : c < z
   pub home-there : {ys : List ℕ} (s : State) → InLists z l s → Pair g c s → Makes (pulled g) (memberPart z c l) ys → InNums (homePart g (memberBack z c l ys)) (λ r. has c (r .live) ≡ true)
   home-there s S p one = (homeRow s g, home-part (member-pulled s S p one) g hg, p .1)
 
-  pub leave-only : getD l (homeFrom g) 0 ≤ 1 → (s : State) → InLists z l s → Pair g c s → ListsTold z l 9 (leave g c s)
+  pub leave-refused : getD l (homeFrom g) 0 ≤ 1 → (s : State) → InLists z l s → Pair g c s → ListsTold z l 9 (leave g c s)
   unfolding leave
-  leave-only k s S p =
+  leave-refused k s S p =
       let w : leb (length (home s g)) 1 ≡ true = le-leb _ 1 (subst (λ (n : ℕ). n ≤ 1) (home-count S g hg) k) in
       rw w (refl, S)
 

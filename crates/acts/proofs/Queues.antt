@@ -22,22 +22,23 @@ use Rattle.model.specs.declared.Place.{Place}
 use Rattle.model.specs.Events.{headTime, headPlace, finePlace}
 use Rattle.model.specs.State.{Row, row, none, State, queue, heads, liveAt, requeued, withClock}
 use Rattle.model.specs.Acts.{insert, inserted, cancelled, first, head, taken}
+use Rattle.model.proofs.Lists.{clash}
 use Rattle.tables.specs.declared.Sizes.{Sizes}
 use Rattle.tables.specs.Layout.{places, placeReals, queueNums, queueReals, orderBytes}
 use Rattle.tables.specs.Holds.{Ranged, InRow, Good, Tabled, Heaped, Queued, Told}
 use Rattle.tables.proofs.Runs.{nums-long, reals-long}
 use Rattle.acts.specs.Queues.{placed, without, headless, Rowed, loaded}
-use Rattle.acts.proofs.Rows.{clash, good-placed, good-without, good-headless}
+use Rattle.acts.proofs.Rows.{good-placed, good-without, good-headless}
 use Rattle.acts.proofs.Loaded.{heaped-is, heaped-long, heaped-new}
 
 -- what a negated test says of the definition that a call's answer is
 pub no-of : (r : Bool) {d : Bool} → r ≡ d → not r ≡ true → d ≡ false
-no-of true e n = absurd (clash n)
+no-of true e n = clash n
 no-of false e n = sym e
 
 pub yes-of : (r : Bool) {d : Bool} → r ≡ d → not r ≡ false → d ≡ true
 yes-of true e n = sym e
-yes-of false e n = absurd (clash (sym n))
+yes-of false e n = clash (sym n)
 
 pub on-yes : {A : Type 0} (P : A → Type 0) (b : Bool) (x y : A) → b ≡ true → P x → P (pick b x y)
 on-yes P b x y e p = subst (λ (t : Bool). P (pick t x y)) (sym e) p

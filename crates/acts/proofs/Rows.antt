@@ -4,19 +4,19 @@ use Prim.Native.Nat.{ℕ, zero, suc, _+_, _-_, _*_, _≤_, _<_}
 use native.Mathlib.Nat.{not-suc-le-zero}
 use native.Mathlib.Omega.{arith}
 use mathlib.Core.List.{List, [], _∷_, _++_, append-nil}
-use mathlib.Core.Bool.{Bool, true, false, _&&_}
+use mathlib.Core.Bool.{true, false}
 use lib.ListN.{length, getD, set, replicate, length-append, length-replicate}
-use lib.Ieee.{Float, le, lt}
-use lib.Ieee.Scale.{finite}
+use lib.Ieee.{Float, lt}
 use borrow.Rule.Slice.PartMut.{midOf, putMid}
-use Rattle.halting.specs.Out.{pick}
 use Rattle.chunks.specs.Flat.{flat, Every}
 use Rattle.chunks.proofs.Laws.{mid-tail, put-tail}
 use Rattle.order.specs.Numbers.{last}
 use Rattle.order.proofs.Compare.{lt-asym}
 use Rattle.model.specs.declared.Place.{Place}
-use Rattle.model.specs.Events.{insertBy, keepBy, goneBy, zeroP, names, eventOf, headPlace, finePlace}
+use Rattle.model.specs.Events.{insertBy, keepBy, goneBy, zeroP, headPlace, finePlace}
 use Rattle.model.specs.State.{Row, row}
+use Rattle.model.specs.Standing.{All}
+use Rattle.model.proofs.Queue.{of-T, fine-top, all-insert, all-keep, length-insert, length-keep}
 use Rattle.tables.specs.Layout.{places, placeNums, placeReals}
 use Rattle.tables.specs.Holds.{Run, InRow, Good}
 use Rattle.tables.proofs.Runs.{nums-long, reals-long}
@@ -48,22 +48,13 @@ module _ {nums : List ℕ} {reals : List Float} {r : Row Place} (h : InRow nums 
     reals-is = k .reals-is;
   }
 
-pub length-insertBy : (s : Place) (xs : List Place) → length (insertBy s xs) ≡ suc (length xs)
-unfolding insertBy
-length-insertBy s [] = refl
-length-insertBy s (x ∷ xs) = go (le (x .time) (s .time)) (length-insertBy s xs)
-  where
-    go : (b : Bool) → length (insertBy s xs) ≡ suc (length xs) → length (pick b (x ∷ insertBy s xs) (s ∷ x ∷ xs)) ≡ suc (suc (length xs))
-    go true e = ap suc e
-    go false e = refl
-
 pub insert-row : (e : Place) (n : ℕ) (live spare : List Place) {nums ns : List ℕ} {reals rs : List Float} → n ≡ getD nums 0 0
     → ((live rest : List Place) (x : Place) → n ≡ length live → Run (midOf 1 (length nums - 1) nums) reals (live ++ x ∷ rest) → Run ns rs (insertBy e live ++ rest))
     → InRow nums reals (row live spare) → length live < length (live ++ spare)
     → InRow (set (putMid 1 (length nums - 1) nums ns) 0 (n + 1)) rs (placed e (row live spare))
 insert-row e n live [] en done h l = let k = ap length (append-nil live) in absurd (omega arith)
 insert-row e n live (x ∷ rest) en done h l =
-    row-back h (n + 1) (insertBy e live) rest (let k = row-count h in let m = length-insertBy e live in omega arith)
+    row-back h (n + 1) (insertBy e live) rest (let k = row-count h in let m = length-insert e live in omega arith)
     (done live rest x (en ∙ row-count h) (row-tail h))
 
 pub cancel-row : (g n k : ℕ) (r : Row Place) {nums ns : List ℕ} {reals rs : List Float} → n ≡ getD nums 0 0
@@ -86,56 +77,26 @@ take-row n (y ∷ live) spare en got pulled h l =
 
 -- ---- good rows
 
-pub clash : false ≡ true → ⊥
-clash p = let z : _≡_ {A = ℕ} 1 0 = ap (λ (b : Bool). pick b 0 1) p in omega arith
-
-and-l : (a b : Bool) → (a && b) ≡ true → a ≡ true
-and-l true b e = refl
-and-l false b e = e
-
-and-r : (a b : Bool) → (a && b) ≡ true → b ≡ true
-and-r true b e = e
-and-r false b e = absurd (clash e)
-
-pub fine-top : (e : Place) → finePlace e ≡ true → lt last (e .time) ≡ false
-unfolding finePlace
-fine-top e h = lt-asym (e .time) last (and-r (finite (e .time)) (lt (e .time) last) (and-l (finite (e .time) && lt (e .time) last) _ h))
-
-abbrev Top : Place → Type 0
+abbrev pub Top : Place → Type 0
 Top p = lt last (p .time) ≡ false
 
-every-insert : (e : Place) (l : List Place) → Top e → Every Top l → Every Top (insertBy e l)
-unfolding insertBy
-every-insert e [] t v = (t, tt)
-every-insert e (x ∷ xs) t v = go (le (x .time) (e .time)) (every-insert e xs t (v .1))
-  where
-    go : (b : Bool) → Every Top (insertBy e xs) → Every Top (pick b (x ∷ insertBy e xs) (e ∷ x ∷ xs))
-    go true u = (v .0, u)
-    go false u = (t, v)
+-- the model's `All` and the tables' `Every` say the same
+every-all : (l : List Place) → Every Top l → All Top l
+every-all [] v = tt
+every-all (x ∷ xs) v = (v .0, every-all xs (v .1))
 
-every-keep : (g : ℕ) (l : List Place) → Every Top l → Every Top (keepBy g l)
-unfolding keepBy
-every-keep g [] v = tt
-every-keep g (x ∷ xs) v = go (names (eventOf (x .kind) x) g) (every-keep g xs (v .1))
-  where
-    go : (b : Bool) → Every Top (keepBy g xs) → Every Top (pick b (keepBy g xs) (x ∷ keepBy g xs))
-    go true u = u
-    go false u = (v .0, u)
+pub all-every : (l : List Place) → All Top l → Every Top l
+all-every [] a = tt
+all-every (x ∷ xs) a = (a .0, all-every xs (a .1))
 
-length-keep : (g : ℕ) (xs : List Place) → length (keepBy g xs) + goneBy g xs ≡ length xs
-unfolding keepBy goneBy
-length-keep g [] = refl
-length-keep g (x ∷ xs) = go (names (eventOf (x .kind) x) g) (length-keep g xs)
-  where
-    go : (b : Bool) → length (keepBy g xs) + goneBy g xs ≡ length xs → length (pick b (keepBy g xs) (x ∷ keepBy g xs)) + pick b (suc (goneBy g xs)) (goneBy g xs) ≡ suc (length xs)
-    go true e = omega arith
-    go false e = omega arith
+pub fine-low : (e : Place) → finePlace e ≡ true → Top e
+fine-low e h = lt-asym (e .time) last (of-T (lt (e .time) last) (fine-top e h))
 
 pub good-placed : {room : ℕ} (e : Place) (live spare : List Place) → Good room (row live spare) → finePlace e ≡ true → length live < room → Good room (placed e (row live spare))
 good-placed e live [] g f l = let k = ap length (append-nil live) in let m = g .full in absurd (omega arith)
 good-placed e live (x ∷ rest) g f l = record {
-  full = (let p = length-append (insertBy e live) rest in let q = length-insertBy e live in let t = length-append live (x ∷ rest) in let m = g .full in omega arith);
-  tops = every-insert e live (fine-top e f) (g .tops);
+  full = (let p = length-append (insertBy e live) rest in let q = length-insert e live in let t = length-append live (x ∷ rest) in let m = g .full in omega arith);
+  tops = all-every (insertBy e live) (all-insert Top e live (fine-low e f) (every-all live (g .tops)));
 }
 
 pub good-without : {room : ℕ} (n : ℕ) (r : Row Place) → Good room r → Good room (without n r)
@@ -147,7 +108,7 @@ good-without n r g = record {
       let l₄ = length-keep n (r .live) in
       let l₅ = length-append (r .live) (r .spare) in
       let l₆ = g .full in omega arith);
-  tops = every-keep n (r .live) (g .tops);
+  tops = all-every (keepBy n (r .live)) (all-keep Top n (r .live) (every-all (r .live) (g .tops)));
 }
 
 pub good-headless : {room : ℕ} (live spare : List Place) → 0 < length live → Good room (row live spare) → Good room (headless (row live spare))

@@ -1,9 +1,9 @@
 -- A test of two tests, a value by the direction, indices that wrap at both edges, and what a grid gives of its box. Assumes nothing.
-use Prim.Native.Nat.{ℕ, zero, suc, _+_, _-_, _*_, _/_, _%_, _≤_, _<_}
+use Prim.Native.Nat.{ℕ, zero, suc, _+_, _-_, _*_, _%_, _≤_, _<_}
 use mathlib.Core.Path.{_≡_, refl, sym, ap, _∙_}
 use mathlib.Core.Bool.{Bool, true, false, _&&_}
 use native.Mathlib.Omega.{arith}
-use native.Mathlib.Nat.{mod-lt, mod-self, mod-eq-of-lt, add-mod-right, mul-comm, mul-le-mul, div-lt-iff-lt-mul}
+use native.Mathlib.Nat.{mod-lt, mod-self, mod-eq-of-lt, add-mod-right, mul-le-mul}
 use Rattle.halting.specs.Out.{pick}
 use Rattle.myvec.specs.declared.MyVec.{MyVec}
 use Rattle.myvec.specs.Vec.{vec}
@@ -12,7 +12,7 @@ use Rattle.model.specs.Sizes.{boxOk}
 use Rattle.model.specs.Grid.{across, cells, lengthOf, position}
 use Rattle.model.specs.Periodic.{corrected, apart}
 use Rattle.model.proofs.Grid.{across-max, cells-max}
-use Rattle.model.proofs.Plans.{across-min}
+use Rattle.model.proofs.Plans.{across-min, row-in}
 use Rattle.cell.specs.declared.Grid.{Grid}
 use Rattle.cell.specs.declared.CellAlong.{CellAlong}
 use Rattle.cell.specs.declared.Cell.{Cell}
@@ -60,12 +60,6 @@ pub record Inside (g : Grid) (d c : ℕ) : Type 0 where
   pub narrow : acrossIn g d ≤ 16
   pub under : indexIn g d c < acrossIn g d
   pub small : c < 256
-
-row-in : (b : Domain) (c : ℕ) → c < cells b → c / across 0 b < across 1 b
-row-in b c h =
-    let w = across-min 0 b in
-    let z : 0 < across 0 b = omega arith in
-    div-lt-iff-lt-mul {k = across 0 b} {x = c} {y = across 1 b} z .1 (rw (mul-comm (across 1 b) (across 0 b)) h)
 
 inside-box : (b : Domain) (d c : ℕ) → boxOk b ≡ true → c < cells b → Inside (gridOf b) d c
 inside-box b d c h k =

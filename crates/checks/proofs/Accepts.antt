@@ -17,6 +17,7 @@ use Rattle.model.specs.Standing.{All}
 use Rattle.model.specs.Check.{halt, Fitted}
 use Rattle.model.specs.Check as model
 use Rattle.model.proofs.Queue.{and-l, and-r}
+use Rattle.model.proofs.Halts.{halt-range}
 use Rattle.model.proofs.Stands.{stands}
 use Rattle.model.proofs.Reflect.{says-standing}
 use Rattle.checks.specs.Decode.{Tables, mark, sizesOf, decoded, cutBoth, grainAt, grainsPart, placesOf, queuesOf}
@@ -54,9 +55,6 @@ pub fitted : (t : Tables) → Fits (t .grains) → Fits (t .events) → Fitted (
 fitted t f g = record { clock = f 2; times = λ c. queues-timed ((sizesOf (t .lists)) .room) ((sizesOf (t .lists)) .cells) (t .queue) (t .events) c g }
 
 -- ---- the answer 0
-halted : (m : ℕ) → halt m ≡ true → m ≡ 0 → ⊥
-halted m e z = let p = leb-true 5 m (and-l (leb 5 m) (leb m 9) e) in omega arith
-
 pub record Passed (rate : Float) (t : Tables) : Type 0 where
   pub sizes : sized t ≡ true
   pub unmarked : halt (mark (t .lists)) ≡ false
@@ -71,7 +69,7 @@ checked-means rate t z = go (sized t) (halt (mark (t .lists))) (rated rate) (sta
     go true false true true a b c d z = record { sizes = a; unmarked = b; rate-in = c; stands = d }
     go true false true false a b c d z = absurd (omega arith)
     go true false false d a b c d′ z = absurd (omega arith)
-    go true true c d a b c′ d′ z = absurd (halted (mark (t .lists)) b z)
+    go true true c d a b c′ d′ z = absurd (let h = halt-range (mark (t .lists)) b .0 in omega (arith, h, z))
     go false b c d a b′ c′ d′ z = absurd (omega arith)
 
 both : (t : Tables) → standing t ≡ true → (legible t ≡ true) × (model.standing (decoded t) ≡ true)

@@ -1,7 +1,7 @@
 -- The head time of a cell, read in the tables and in the state that they are read as. Assumes nothing.
 use mathlib.Core.Path.{_≡_, refl, sym, ap, _∙_}
 use Prim.Native.Nat.{ℕ, zero, suc, _+_, _*_, _≤_, _<_}
-use native.Mathlib.Nat.{suc-ne-zero, not-suc-le-zero, le-of-suc-le-suc, suc-mul, mul-le-mul-right, add-zero}
+use native.Mathlib.Nat.{suc-ne-zero, not-suc-le-zero, suc-mul, mul-le-mul-right, add-zero}
 use native.Mathlib.Omega.{arith}
 use mathlib.Core.List.{List, [], _∷_}
 use mathlib.Core.Bool.{Bool, cond}
@@ -13,15 +13,11 @@ use borrow.Author.Tests.{ne-eqb}
 use Rattle.order.specs.Numbers.{last}
 use Rattle.scheduler.specs.Heap.{headIn}
 use Rattle.model.specs.declared.Place.{Place}
+use Rattle.scheduler.proofs.Laws.{getD-any}
 use Rattle.model.specs.Events.{headTime}
 use Rattle.model.specs.State.{Row, none, heads}
 use Rattle.checks.specs.Decode.{cutBoth, placesOf, queueAt, queuesOf}
 use Rattle.checks.proofs.Cut.{both-at}
-
-default-free : {A : Type 0} (l : List A) (i : ℕ) (d e : A) → i < length l → getD l i d ≡ getD l i e
-default-free [] i d e h = absurd (not-suc-le-zero h)
-default-free (x ∷ l) zero d e h = refl
-default-free (x ∷ l) (suc i) d e h = default-free l i d e (le-of-suc-le-suc h)
 
 head-first : (k room : ℕ) (q : List ℕ) (e : List Float) → 0 < room → headTime (take k (placesOf room q e)) ≡ cond (eqb k 0) last (getD e 0 nan)
 unfolding cutBoth
@@ -35,7 +31,7 @@ heads-in room n q e c r h l =
     ap (λ (x : Row Place). headTime (x .live)) (both-at (queueAt room) (room * 4 + 1) (room * 10) n q e c none h)
     ∙ head-first (getD (drop (c * (room * 4 + 1)) q) 0 0) room (drop 1 (drop (c * (room * 4 + 1)) q)) (drop (c * (room * 10)) e) r
     ∙ ap (λ (k : ℕ). cond (eqb k 0) last (getD (drop (c * (room * 10)) e) 0 nan)) (at q (c * (room * 4 + 1)) 0)
-    ∙ ap (λ (x : Float). cond (eqb (getD q (c * (room * 4 + 1)) 0) 0) last x) (at e (c * (room * 10)) nan ∙ default-free e (c * (room * 10)) nan last inside)
+    ∙ ap (λ (x : Float). cond (eqb (getD q (c * (room * 4 + 1)) 0) 0) last x) (at e (c * (room * 10)) nan ∙ getD-any e (c * (room * 10)) nan last inside)
   where
     at : {A : Type 0} (l : List A) (i : ℕ) (d : A) → getD (drop i l) 0 d ≡ getD l i d
     at l i d = getD-drop i l 0 d ∙ ap (λ (k : ℕ). getD l k d) (add-zero i)

@@ -12,6 +12,7 @@ use lib.Seq.{take-add, drop-drop, drop-cons, length-take-le}
 use lib.Ieee.{Float, nan, lt}
 use borrow.Author.Tests.{eq-eqb}
 use Rattle.chunks.specs.Flat.{flat, Every}
+use Rattle.chunks.proofs.Laws.{every-of}
 use Rattle.order.specs.Numbers.{last}
 use Rattle.order.proofs.Compare.{lt-asym}
 use Rattle.model.specs.declared.Place.{Place}
@@ -115,11 +116,6 @@ module _ (room : ℕ) (q : List ℕ) (e : List Float) (h : getD q 0 0 ≤ room) 
 
   queue-reals : room * 10 ≤ length e → queueReals (queueAt room q e) ≡ take (room * 10) e
   queue-reals k = ap (flat placeReals) all-places ∙ places-reals room (drop 1 q) e k
-
--- ---- a fact of each of a list
-every-of : {A : Type 0} (P : A → Type 0) (d : A) (xs : List A) → ((i : ℕ) → i < length xs → P (getD xs i d)) → Every P xs
-every-of P d [] f = tt
-every-of P d (x ∷ xs) f = (f 0 (omega arith), every-of P d xs (λ i h. f (suc i) (omega arith)))
 
 has-every : (P : ℕ → Type 0) (l : List ℕ) → ((x : ℕ) → has x l ≡ true → P x) → Every P l
 unfolding has

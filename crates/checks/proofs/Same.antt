@@ -23,6 +23,7 @@ use Rattle.model.specs.Check.{all, numbers, side, back, inverse, sound}
 use Rattle.model.specs.Check as model
 use Rattle.model.proofs.Lists.{clash}
 use Rattle.model.proofs.Queue.{and-l, and-r}
+use Rattle.model.proofs.Reflect.{both-ways}
 use Rattle.tables.specs.declared.Sizes.{Sizes}
 use Rattle.checks.specs.Decode.{Tables, mark, decodedBy, homesPart, membersPart, grainsPart, grainAt, grainsOf, rowAt, rowsOf, placesOf, queueAt, queuesOf}
 use Rattle.checks.specs.Check.{Sized, Legible, counted, legibleBy, standing}
@@ -33,11 +34,6 @@ use Rattle.checks.proofs.OnePlace.{queue-live}
 use Rattle.checks.proofs.Order.{time-in}
 use Rattle.checks.proofs.Turns.{every-same, every-all, every-walk}
 use Rattle.checks.proofs.Heads.{heads-in}
-
-both-ways : (a b : Bool) → (a ≡ true → b ≡ true) → (b ≡ true → a ≡ true) → a ≡ b
-both-ways true b f g = sym (f refl)
-both-ways false true f g = g refl
-both-ways false false f g = refl
 
 and-same : {a b c d : Bool} → a ≡ c → b ≡ d → (a && b) ≡ (c && d)
 and-same e f = rw (e, f)

@@ -39,6 +39,10 @@ every-at P [] c d v h = absurd (not-suc-le-zero h)
 every-at P (x ∷ xs) zero d v h = v .0
 every-at P (x ∷ xs) (suc c) d v h = every-at P xs c d (v .1) (le-of-suc-le-suc h)
 
+pub every-of : {A : Type 0} (P : A → Type 0) (d : A) (xs : List A) → ((c : ℕ) → c < length xs → P (getD xs c d)) → Every P xs
+every-of P d [] f = tt
+every-of P d (x ∷ xs) f = (f 0 (omega arith), every-of P d xs (λ c h. f (suc c) (omega (arith, h))))
+
 pub every-set : {A : Type 0} (P : A → Type 0) (xs : List A) (c : ℕ) (y : A) → Every P xs → P y → Every P (set xs c y)
 every-set P [] c y v p = tt
 every-set P (x ∷ xs) zero y v p = (p, v .1)

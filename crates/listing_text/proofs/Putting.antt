@@ -119,19 +119,13 @@ decimal-room at m v s u h r p =
     omega arith
 
 -- ---- the listing's lines
-pub decimal-three : (v : ℕ) → v < 1000 → length (decimal v) ≤ 3
-decimal-three v h = go (ltb v 10) refl (ltb v 100) refl
+pub decimal-most : (k v : ℕ) → v < 10 ^ suc k → length (decimal v) ≤ suc k
+decimal-most zero v h = omega (arith, decimal-short v h)
+decimal-most (suc k) v h = go (ltb v 10) refl (decimal-most k (v / 10))
   where
-    go : (b : Bool) → ltb v 10 ≡ b → (d : Bool) → ltb v 100 ≡ d → length (decimal v) ≤ 3
-    go true e d f = omega (arith, decimal-short v (ltb-true v 10 e))
-    go false e true f =
-        let x = ltb-false v 10 e in
-        let y = ltb-true v 100 f in
-        omega (arith, decimal-longer v x, decimal-short (v / 10) (omega arith))
-    go false e false f =
-        let x = ltb-false v 10 e in
-        let y = ltb-false v 100 f in
-        omega (arith, decimal-longer v x, decimal-longer (v / 10) (omega arith), decimal-short (v / 10 / 10) (omega arith))
+    go : (b : Bool) → ltb v 10 ≡ b → (v / 10 < 10 ^ suc k → length (decimal (v / 10)) ≤ suc k) → length (decimal v) ≤ suc (suc k)
+    go true e again = omega (arith, decimal-short v (ltb-true v 10 e))
+    go false e again = omega (arith, decimal-longer v (ltb-false v 10 e), again (let p = pow-suc 10 (suc k) in omega (arith, h, p)))
 
 four-pieces : (a b r : List ℕ) → (((a ++ (44 ∷ [])) ++ b) ++ (44 ∷ [])) ++ r ≡ a ++ (44 ∷ (b ++ (44 ∷ r)))
 four-pieces a b r = simp append-assoc
@@ -141,7 +135,7 @@ line-put {n = n} time i g {v = v} a b h c = put-as (four-pieces (hex time) (deci
 
 pub line-short : (time i : ℕ) (g : Grain) → i < 1000 → length (listingLine time i g) ≤ 107
 line-short time i g h =
-    let d = decimal-three i h in
+    let d = decimal-most 2 i h in
     let e : length (listingLine time i g) ≡ 17 + (length (decimal i) + 87) = ap length (sym (four-pieces (hex time) (decimal i) (grainLine g))) ∙ counted (hex time ++ (44 ∷ [])) (decimal i) (grainLine g) refl refl in
     omega arith
   where

@@ -14,7 +14,7 @@ use crate::hex::hex_glyph;
 pub enum Answer {
     Malformed,
     TooLarge,
-    Refused(u8),
+    Refused(u64),
     Spent,
 }
 
@@ -118,12 +118,12 @@ pub fn put_listing(out: &mut [u8; 4096], time: u64, numbers: &[u64; 160], n: usi
 }
 
 // The answer of a refusal.
-fn put_refused(out: &mut [u8], number: u8) -> usize
-    requires { ⌜ 13 ≤ length (now out) ⌝ }
+fn put_refused(out: &mut [u8], number: u64) -> usize
+    requires { ⌜ 30 ≤ length (now out) ⌝ }
     ensures { λ r. ⌜ Put 0 (line (bytes "refused" ∷ decimal number ∷ [])) (now (out .entry)) (now (out .exit)) r ⌝ }
 {
     let at = put_bytes(out, 0, b"refused,", 0);
-    let next = put_decimal(out, at, number as u64);
+    let next = put_decimal(out, at, number);
     put_bytes(out, next, b"\r\n", 0)
 }
 

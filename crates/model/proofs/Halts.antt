@@ -107,7 +107,7 @@ start-halts b room gs s e n =
 refused-is : {a b : ℕ} → refused a ≡ refused b → a ≡ b
 refused-is e = cc
 
-halt-range : (m : ℕ) → halt m ≡ true → (5 ≤ m) × (m ≤ 9)
+pub halt-range : (m : ℕ) → halt m ≡ true → (5 ≤ m) × (m ≤ 9)
 halt-range m h = by (leb 5 m) refl (leb m 9) refl h
   where
     by : (x : Bool) → leb 5 m ≡ x → (y : Bool) → leb m 9 ≡ y → (x && y) ≡ true → (5 ≤ m) × (m ≤ 9)

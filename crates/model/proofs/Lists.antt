@@ -98,9 +98,13 @@ pub or-case : (a b : Bool) (P : Type 0) → (a || b) ≡ true → (a ≡ true �
 or-case true b P e f g = f refl
 or-case false b P e f g = g e
 
-and-true-l : (a b : Bool) → (a && b) ≡ true → a ≡ true
-and-true-l true b e = refl
-and-true-l false b e = e
+pub and-l : (a b : Bool) → (a && b) ≡ true → a ≡ true
+and-l true b e = refl
+and-l false b e = e
+
+pub and-r : (a b : Bool) → (a && b) ≡ true → b ≡ true
+and-r true b e = e
+and-r false b e = clash e
 
 pub drop-one : {A : Type 0} (l : List A) (a k : ℕ) → a + length l ≡ k → a < k → suc a + length (drop 1 l) ≡ k
 drop-one [] a k e h = absurd (omega (arith, e))
@@ -116,7 +120,7 @@ pushed-numbers n k x r ok h new few = record {
 pub pulled-numbers : (n k x : ℕ) (r : Row ℕ) → Numbers n k r → has x (r .live) ≡ true → Numbers n k (pulled x r)
 pulled-numbers n k x r ok there = record {
   full = omega (arith, ok .full, length-but x (r .live) there);
-  below = λ y e. ok .below y (and-true-l (has y (r .live)) (not (eqb y x)) (sym (has-but y x (r .live) (ok .once)) ∙ e));
+  below = λ y e. ok .below y (and-l (has y (r .live)) (not (eqb y x)) (sym (has-but y x (r .live) (ok .once)) ∙ e));
   once = once-but x (r .live) (ok .once);
 }
 

@@ -54,14 +54,14 @@ grid-in x y a b h k =
 pub cells-some : (b : Domain) → 0 < cells b
 cells-some b = mul-pos (let h = across-min 0 b in omega arith) (let h = across-min 1 b in omega arith)
 
+pub row-in : (b : Domain) (c : ℕ) → c < cells b → c / across 0 b < across 1 b
+row-in b c h =
+    let w = across-min 0 b in
+    let z : 0 < across 0 b = omega arith in
+    div-lt-iff-lt-mul {k = across 0 b} {x = c} {y = across 1 b} z .1 (rw (mul-comm (across 1 b) (across 0 b)) h)
+
 pub shifted-in : (d : ℕ) (b : Domain) (c k : ℕ) → c < cells b → shifted d b c k < cells b
 shifted-in zero b c k h = grid-in ((index 0 b c + k) % across 0 b) (index 1 b c) (across 0 b) (across 1 b) (mod-lt (index 0 b c + k) (let w = across-min 0 b in omega arith)) (row-in b c h)
-  where
-    row-in : (b : Domain) (c : ℕ) → c < cells b → c / across 0 b < across 1 b
-    row-in b c h =
-        let w = across-min 0 b in
-        let z : 0 < across 0 b = omega arith in
-        div-lt-iff-lt-mul {k = across 0 b} {x = c} {y = across 1 b} z .1 (rw (mul-comm (across 1 b) (across 0 b)) h)
 shifted-in (suc d) b c k h = grid-in (index 0 b c) ((index 1 b c + k) % across 1 b) (across 0 b) (across 1 b) (mod-lt c (let w = across-min 0 b in omega arith)) (mod-lt (index 1 b c + k) (let w = across-min 1 b in omega arith))
 
 -- ---- dt is not below 0

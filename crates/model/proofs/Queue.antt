@@ -16,11 +16,10 @@ use Rattle.model.specs.Events.{insertBy, keepBy, goneBy, names, eventOf,
 use Rattle.model.specs.State.{Row, row}
 use Rattle.model.specs.Standing.{Rising, All}
 use Rattle.model.specs.Sound.{Held, Queue}
-use Rattle.model.proofs.Lists.{clash, drop-one}
+pub use Rattle.order.proofs.Compare.{yes as T-of}
+pub use Rattle.model.proofs.Lists.{and-l, and-r}
+use Rattle.model.proofs.Lists.{drop-one}
 use Rattle.model.proofs.Inserts.{Later, inserted-at}
-
-pub T-of : (b : Bool) → b ≡ true → T b
-T-of b e = subst T (sym e) tt
 
 pub of-T : (b : Bool) → T b → b ≡ true
 of-T true t = refl
@@ -29,14 +28,6 @@ of-T false t = absurd t
 pub not-of-T : (b : Bool) → T (not b) → b ≡ false
 not-of-T true t = absurd t
 not-of-T false t = refl
-
-pub and-l : (a b : Bool) → (a && b) ≡ true → a ≡ true
-and-l true b e = refl
-and-l false b e = e
-
-pub and-r : (a b : Bool) → (a && b) ≡ true → b ≡ true
-and-r true b e = e
-and-r false b e = clash e
 
 -- ---- a fine event's time
 pub fine-top : (e : Place) → finePlace e ≡ true → T (lt (e .time) last)

@@ -135,7 +135,7 @@ says-side m n k rs =
 says-back : (m : ℕ) (f g : ℕ → List ℕ) → Says (check.back m f g) ((i : ℕ) → i < m → All (λ c. has i (g c) ≡ true) (f i))
 says-back m f g = says-every (λ i. check.all (λ c. has i (g c)) (f i)) (λ i. All (λ c. has i (g c) ≡ true) (f i)) m (λ i h. says-all (λ c. has i (g c)) (λ c. has i (g c) ≡ true) (f i) (λ c. says-it (has i (g c))))
 
-both-ways : (a b : Bool) → (a ≡ true → b ≡ true) → (b ≡ true → a ≡ true) → a ≡ b
+pub both-ways : (a b : Bool) → (a ≡ true → b ≡ true) → (b ≡ true → a ≡ true) → a ≡ b
 both-ways true b f g = sym (f refl)
 both-ways false true f g = g refl
 both-ways false false f g = refl

@@ -1,7 +1,7 @@
 -- NOT VACUOUS: a reached state whose two runs did a synchronisation, an entry, a collision, leavings, a reflection and a second synchronisation, computed by
 -- the definitions. Two grains in a box of 9.3 by 9.7 with walls in direction 1 meet, part and come to a wall; the rate is 5. Assumes nothing.
 use Prim.Native.Nat.{ℕ, zero, suc, _≤_}
-use mathlib.Core.Path.{_≡_, refl, ap, _∙_}
+use mathlib.Core.Path.{_≡_, refl}
 use mathlib.Core.List.{List, [], _∷_}
 use mathlib.Core.Bool.{Bool, true, false, _&&_}
 use lib.Dec.{T, eqb, lit≤}
@@ -35,7 +35,8 @@ use Rattle.model.specs.Standing.{syncs}
 use Rattle.model.specs.Check.{Fits, sound, standing, runAll}
 use Rattle.model.specs.Reached.{most, Call, after, Reached}
 use Rattle.model.proofs.Lists.{clash}
-use Rattle.model.proofs.Queue.{of-T, and-l, and-r}
+use Rattle.model.proofs.Queue.{T-of, of-T, and-l, and-r}
+use Rattle.model.proofs.Starred.{sameList, same-list}
 
 abbrev box : Domain
 box = boxOf (vec (ofBits binary64 0x402299999999999a) (ofBits binary64 0x4023666666666666)) true false
@@ -50,12 +51,6 @@ rate = ofBits binary64 0x4014000000000000
 abbrev kinds : ℕ → State → List ℕ
 kinds zero s = []
 kinds (suc n) s = (head s) .kind ∷ kinds n ((step rate s) .state)
-
-abbrev same : List ℕ → List ℕ → Bool
-same [] [] = true
-same [] (y ∷ ys) = false
-same (x ∷ xs) [] = false
-same (x ∷ xs) (y ∷ ys) = eqb x y && same xs ys
 
 -- it synchronised, after n events
 abbrev synced : How → Bool
@@ -72,7 +67,7 @@ expected = 5 ∷ 2 ∷ 1 ∷ 3 ∷ 2 ∷ 2 ∷ 2 ∷ 2 ∷ 3 ∷ 3 ∷ 4 ∷ 5 �
 
 abbrev tested : Begun → Bool
 tested (turned r i) = false
-tested (started s) = same (kinds 12 s) expected && (syncedAfter 1 (runAll rate 1 s) && syncedAfter 11 (runAll rate 65536 ((runAll rate 1 s) .state)))
+tested (started s) = sameList (kinds 12 s) expected && (syncedAfter 1 (runAll rate 1 s) && syncedAfter 11 (runAll rate 65536 ((runAll rate 1 s) .state)))
 
 computed : T (tested (start box 16 grains))
 unfolding round add sub mul div neg lt le eq ofInt toUnsigned ofBits rootOf sqrtOf near root leadingZeros across position insertBy keepBy goneBy finePlace newPos apart upFrom reached rows cellsOfGrain heads requeued has but fineGrain store insert cancelled enter leave taken later collision toNeighbour outOfCell wall eachOf others stepGrain boundaries scheduleWith scheduleEvents again forget doCollision doNeighbour doOut doWall doSync event step firstBad clear goesIn pairs initCell begin start each timeIn swapAt childIn down downshifted parentIn up upshifted updated numbered startHeap every syncs sound standing runFrom runAll
@@ -90,12 +85,6 @@ pub record Exhibit : Type 0 where
   pub second-run : ((runAll rate 65536 ((runAll rate 1 begun) .state)) .how ≡ How.synchronised) × ((runAll rate 65536 ((runAll rate 1 begun) .state)) .count ≡ 11)
   pub reached : Reached ((runAll rate 65536 ((runAll rate 1 begun) .state)) .state)
 
-same-is : (xs ys : List ℕ) → same xs ys ≡ true → xs ≡ ys
-same-is [] [] e = refl
-same-is [] (y ∷ ys) e = clash e
-same-is (x ∷ xs) [] e = clash e
-same-is (x ∷ xs) (y ∷ ys) e = ap (λ (k : ℕ). k ∷ xs) (eqb-true x y (and-l (eqb x y) (same xs ys) e)) ∙ ap (λ (l : List ℕ). y ∷ l) (same-is xs ys (and-r (eqb x y) (same xs ys) e))
-
 synced-is : (h : How) → synced h ≡ true → h ≡ How.synchronised
 synced-is How.synchronised e = refl
 synced-is spent e = clash e
@@ -111,11 +100,11 @@ exhibit-of : (o : Begun) → start box 16 grains ≡ o → T (tested o) → Exhi
 exhibit-of (turned r i) e t = absurd t
 exhibit-of (started s) e t =
     let all : tested (started s) ≡ true = of-T (tested (started s)) t in
-    let rest : (syncedAfter 1 (runAll rate 1 s) && syncedAfter 11 (runAll rate 65536 ((runAll rate 1 s) .state))) ≡ true = and-r (same (kinds 12 s) expected) _ all in
+    let rest : (syncedAfter 1 (runAll rate 1 s) && syncedAfter 11 (runAll rate 65536 ((runAll rate 1 s) .state))) ≡ true = and-r (sameList (kinds 12 s) expected) _ all in
     record {
       begun = s;
       accepted = e;
-      done = same-is (kinds 12 s) expected (and-l (same (kinds 12 s) expected) _ all);
+      done = same-list (kinds 12 s) expected (T-of (sameList (kinds 12 s) expected) (and-l (sameList (kinds 12 s) expected) _ all));
       first-run = after-is 1 (runAll rate 1 s) (and-l (syncedAfter 1 (runAll rate 1 s)) _ rest);
       second-run = after-is 11 (runAll rate 65536 ((runAll rate 1 s) .state)) (and-r (syncedAfter 1 (runAll rate 1 s)) _ rest);
       reached = record {

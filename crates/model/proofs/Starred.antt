@@ -162,7 +162,7 @@ unstarred =
     ∷ []
 
 -- ---- the test of a row
-abbrev sameList : List ℕ → List ℕ → Bool
+abbrev pub sameList : List ℕ → List ℕ → Bool
 sameList [] [] = true
 sameList [] (y ∷ ys) = false
 sameList (x ∷ xs) [] = false
@@ -210,7 +210,7 @@ same-test true false h = absurd h
 same-test false true h = absurd h
 same-test false false h = refl
 
-same-list : (x y : List ℕ) → T (sameList x y) → x ≡ y
+pub same-list : (x y : List ℕ) → T (sameList x y) → x ≡ y
 same-list [] [] h = refl
 same-list [] (y ∷ ys) h = absurd h
 same-list (x ∷ xs) [] h = absurd h

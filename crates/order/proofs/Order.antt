@@ -63,7 +63,7 @@ or-l : (a b : Bool) → T a → T (a || b)
 or-l true b t = tt
 or-l false b t = absurd t
 
-or-r : (a b : Bool) → T b → T (a || b)
+pub or-r : (a b : Bool) → T b → T (a || b)
 or-r true b t = tt
 or-r false b t = t
 

@@ -17,6 +17,7 @@ use Rattle.root.specs.declared.Root.{Root}
 use Rattle.root.specs.declared.Root.the-variants.{Value, Refused}
 use Rattle.root.specs.Bits.{rootBits}
 use Rattle.root.specs.Root.{rootOf, sqrtOf}
+use Rattle.order.proofs.Order.{or-r}
 use Rattle.order.proofs.Compare.{yes}
 use Rattle.root.proofs.Law.{sqrt-lawful}
 
@@ -74,10 +75,6 @@ zero-is s e =
     let p : 0 * up e * 1 ≡ 0 = none e 1 in
     let q : 0 * 1 * down e ≡ 0 = none (pos 0) (down e) in
     and-i (eqb (0 * up e * 1) (0 * 1 * down e)) (Bool·beq s false || eqb (0 * up e * 1) 0) (eq→eqb (p ∙ sym q)) (or-r (Bool·beq s false) (eqb (0 * up e * 1) 0) (eq→eqb p))
-  where
-    or-r : (a b : Bool) → T b → T (a || b)
-    or-r true b t = tt
-    or-r false b t = t
 
 -- none of the tests: x is positive and finite
 pub the-rest : (x : Float) → ne x x ≡ false → eq x fz ≡ false → lt x fz ≡ false → eq x (inf false) ≡ false → T (positive x)

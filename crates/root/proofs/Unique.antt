@@ -10,7 +10,7 @@ use lib.Pow.{pow-add, pow-pos}
 use lib.Ieee.{Float, nan, inf, fin, binary64, up, down, fits}
 use lib.Ieee.Fits.{down-pos}
 use lib.Ieee.Exact.{HasValue}
-use Rattle.order.proofs.Value.{value-unique}
+use Rattle.order.proofs.Value.{no-sum, suc-same, value-unique}
 use Rattle.root.proofs.Isqrt.{near-unique}
 use Rattle.root.specs.Rule.{Nearest, Rooted}
 
@@ -43,19 +43,10 @@ module _ (M L : ℕ) (a : 2 ^ 104 ≤ M) (b : M < 2 ^ 106) (c : 2 ^ 104 ≤ L) (
   joined : (n k l : ℕ) → n * (2 ^ k * 2 ^ k) * (2 ^ l * 2 ^ l) ≡ n * (2 ^ (k + l) * 2 ^ (k + l))
   joined n k l = mul-assoc n (2 ^ k * 2 ^ k) (2 ^ l * 2 ^ l) ∙ ap (λ (x : ℕ). n * x) (mul-mul-mul-comm (2 ^ k) (2 ^ k) (2 ^ l) (2 ^ l) ∙ ap (λ (x : ℕ). x * x) (sym (pow-add 2 k l)))
 
-  no-sum : (k l : ℕ) → k + suc l ≡ 0 → ⊥
-  no-sum k l h = omega arith
-
-  no-sum' : (k l : ℕ) → 0 ≡ k + suc l → ⊥
-  no-sum' k l h = omega arith
-
-  suc-same : (k l : ℕ) → suc k ≡ suc l → k ≡ l
-  suc-same k l h = omega arith
-
   same-exp : (e g : ℤ) → M * (up e * up e) * (down g * down g) ≡ L * (up g * up g) * (down e * down e) → (M ≡ L) × (e ≡ g)
   same-exp (pos k) (pos l) h = let r = same-pow k l (sym (mul-one (M * (2 ^ k * 2 ^ k))) ∙ h ∙ mul-one (L * (2 ^ l * 2 ^ l))) in (r .0, ap pos (r .1))
   same-exp (pos k) (negsuc l) h = absurd (no-sum k l (same-pow (k + suc l) 0 (sym (joined M k (suc l)) ∙ h ∙ mul-one (L * 1)) .1))
-  same-exp (negsuc k) (pos l) h = absurd (no-sum' l k (same-pow 0 (l + suc k) (sym (mul-one (M * 1)) ∙ h ∙ joined L l (suc k)) .1))
+  same-exp (negsuc k) (pos l) h = absurd (no-sum l k (sym (same-pow 0 (l + suc k) (sym (mul-one (M * 1)) ∙ h ∙ joined L l (suc k)) .1)))
   same-exp (negsuc k) (negsuc l) h =
       let r = same-pow (suc l) (suc k) (ap (λ (x : ℕ). x * (2 ^ suc l * 2 ^ suc l)) (sym (mul-one M)) ∙ h ∙ ap (λ (x : ℕ). x * (2 ^ suc k * 2 ^ suc k)) (mul-one L)) in
       (r .0, ap negsuc (sym (suc-same l k (r .1))))

@@ -81,7 +81,7 @@ begins b n room inputs t = by (boxOk b) (countsOk room n) (leb (n * 5) (length i
     by true false w v e o f k = absurd k
     by false y w v e o f k = absurd k
 
-start-kept : (b : Domain) (room : ℕ) (n : ℕ) (inputs : List Float) (s : State) → start b room (inputsOf n inputs) ≡ started s → (s .box ≡ b) × (s .room ≡ room) × (length (s .grains) ≡ n)
+pub start-kept : (b : Domain) (room : ℕ) (n : ℕ) (inputs : List Float) (s : State) → start b room (inputsOf n inputs) ≡ started s → (s .box ≡ b) × (s .room ≡ room) × (length (s .grains) ≡ n)
 unfolding clear
 start-kept b room n inputs s e =
     let gs = inputsOf n inputs in

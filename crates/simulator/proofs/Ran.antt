@@ -34,18 +34,15 @@ use Rattle.checks.proofs.Stages.{sized-means}
 use Rattle.checks.proofs.Accepts.{fitted, sized-model}
 
 -- ---- 1. tables that the mark of an earlier halt refuses: its number and zeros, nothing changed, whatever they hold
-by-refusal : (k : ℕ) (rate : Float) (b : ℕ) (t : Tables) → (k ≡ 0 → ⊥) → byCheck k rate b t ≡ beside (refusal k (decoded t)) t
-by-refusal zero rate b t n = absurd (n refl)
-by-refusal (suc k) rate b t n = refl
-
-halt-some : (m : ℕ) → halt m ≡ true → m ≡ 0 → ⊥
-halt-some m e z = clash (ap halt (sym z) ∙ e)
+by-halt : (k : ℕ) (rate : Float) (b : ℕ) (t : Tables) → halt k ≡ true → byCheck k rate b t ≡ beside (refusal k (decoded t)) t
+by-halt zero rate b t h = clash h
+by-halt (suc k) rate b t h = refl
 
 pub halted-tables : (rate : Float) (b : ℕ) (t : Tables) → sized t ≡ true → halt (mark (t .lists)) ≡ true → runTables rate b t ≡ beside (refusal (mark (t .lists)) (decoded t)) t
 unfolding runTables checked
 halted-tables rate b t z h =
     let e : checked rate t ≡ mark (t .lists) = rw (z, h) in
-    ap (λ (k : ℕ). byCheck k rate b t) e ∙ by-refusal (mark (t .lists)) rate b t (halt-some (mark (t .lists)) h)
+    ap (λ (k : ℕ). byCheck k rate b t) e ∙ by-halt (mark (t .lists)) rate b t h
 
 -- states that a run leads to have the sizes of the one that it found
 pub sizes-same : (s u : State) → Sound s → Sound u → Kept s u → sizesIn u ≡ sizesIn s
@@ -80,7 +77,7 @@ module _ (rate : Float) (b : ℕ) (t : Tables) (S : sized t ≡ true) (L : legib
 
       by : (h : Bool) → halt m ≡ h → (r : Bool) → rated rate ≡ r → (s : Bool) → model.standing (decoded t) ≡ s
           → P (byCheck (pick h m (pick r (pick s 0 10) 3)) rate b t) (pick h (refusal m (decoded t)) (pick r (pick s (runFrom rate b 0 (decoded t)) (refusal 10 (decoded t))) (refusal 3 (decoded t))))
-      by true e r f s g = subst (λ (x : RanTables). P x (refusal m (decoded t))) (sym (by-refusal m rate b t (halt-some m e))) (stops m)
+      by true e r f s g = subst (λ (x : RanTables). P x (refusal m (decoded t))) (sym (by-halt m rate b t e)) (stops m)
       by false e true f true g = does f g
       by false e true f false g = stops 10
       by false e false f s g = stops 3
@@ -129,7 +126,7 @@ module _ (s : State) (t : Tables) (K : Sound s) (F : Long (sizesIn s) t) (rate :
     where
       by : (h : Bool) → halt (s .mark) ≡ h → (r : Bool) → rated rate ≡ r → (m : Bool) → model.standing s ≡ m
           → byCheck (pick h (s .mark) (pick r (pick m 0 10) 3)) rate b (encoded s t) ≡ over-t (pick h (refusal (s .mark) s) (pick r (pick m (runFrom rate b 0 s) (refusal 10 s)) (refusal 3 s)))
-      by true e r f m g = by-refusal (s .mark) rate b (encoded s t) (halt-some (s .mark) e)
+      by true e r f m g = by-halt (s .mark) rate b (encoded s t) e
       by false e true f true g = goes f g
       by false e true f false g = refl
       by false e false f m g = refl

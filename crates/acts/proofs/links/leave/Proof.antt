@@ -1,4 +1,4 @@
-use Rattle.acts.proofs.LinkLaws.{member-there, home-there, leave-only, leave-done}
+use Rattle.acts.proofs.LinkLaws.{member-there, home-there, leave-refused, leave-done}
 use Rattle.tables.proofs.ListLaws.{home-in, member-in}
 use native.Mathlib.Omega.{arith}
 use borrow.Author.Needs.{needs}
@@ -33,7 +33,7 @@ slice-read-if1 : tie.Need-slice-read-if1
 slice-read-if1 c = let b = c .before .before .before in let a = b .args in omega (arith, home-in (b .pre .0 .1) (a .grain) (b .pre .2))
 
 returns : tie.Need-returns
-returns c = let b = c .before .before .before .before in let a = b .args in leave-only (b .pre .2) (b .pre .3) (c .if1 .taken)
+returns c = let b = c .before .before .before .before in let a = b .args in leave-refused (b .pre .2) (b .pre .3) (c .if1 .taken)
 
 mul-drop-from : tie.Need-mul-drop-from
 mul-drop-from c = search needs

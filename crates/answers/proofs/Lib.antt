@@ -1,0 +1,6 @@
+pub mod NineCells
+pub mod RowLaws
+pub mod RunLaws
+pub mod Served
+pub mod Texts
+pub mod Never

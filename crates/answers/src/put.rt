@@ -1,0 +1,73 @@
+// The answer, in the order of document 01: malformed, too large, refused or spent, or the listing.
+ghost use mathlib.Core.Path.{_≡_};
+ghost use Prim.Native.Nat.{_≤_};
+ghost use Rattle.listing_text.specs.Answers.{Put};
+ghost use Rattle.answers.specs.Answer.{answered};
+ghost use Rattle.answers.specs.Runs.{boxed, spelt, served, judged};
+use crate::rows;
+use crate::runs;
+use crate::runs::Outcome;
+use listing_text::Answer;
+use listing_text::Reader;
+use listing_text::bits_of_float;
+use listing_text::float_of_bits;
+use listing_text::put_answer;
+use listing_text::put_listing;
+use listing_text::too_large;
+use model::Domain;
+use myvec::MyVec;
+
+// The box that was read.
+fn box_of(numbers: &[u64; 10]) -> Domain
+    ensures { λ r. ⌜ r ≡ boxed (now (numbers .entry)) ⌝ }
+{
+    let lengths = MyVec::new(float_of_bits(numbers[0]), float_of_bits(numbers[1]));
+    Domain::new(lengths, numbers[2] == 1, numbers[3] == 1)
+}
+
+// The listing of n grains, or the line that says why there is none.
+fn put_outcome(out: &mut [u8; 4096], outcome: Outcome, bits: &[u64; 160], n: usize) -> usize
+    ensures { λ r. ⌜ Put 0 (spelt outcome n (now (bits .entry))) (now (out .entry)) (now (out .exit)) r ⌝ }
+{
+    match outcome {
+        Outcome::Synchronised(clock) => put_listing(out, bits_of_float(clock), bits, n),
+        Outcome::Spent => put_answer(out, Answer::Spent),
+        Outcome::Refused(number) => put_answer(out, Answer::Refused(number)),
+    }
+}
+
+// The answer to n grains in a box, of the numbers that were read.
+fn put_served(out: &mut [u8; 4096], numbers: &[u64; 10], grains: &[u64; 160], n: usize) -> usize
+    requires { ⌜ n ≤ 32 ⌝ }
+    ensures { λ r. ⌜ Put 0 (served (now (numbers .entry)) (now (grains .entry)) n) (now (out .entry)) (now (out .exit)) r ⌝ }
+{
+    let mut inputs = [0f64; 160];
+    rows::floats(grains, &mut inputs);
+    let mut bits = [0u64; 160];
+    let rate = float_of_bits(numbers[4]);
+    let outcome = runs::serve(box_of(numbers), n, rate, &inputs, &mut bits);
+    put_outcome(out, outcome, &bits, n)
+}
+
+// The answer to a text of the form.
+fn put_judged(out: &mut [u8; 4096], numbers: &[u64; 10], grains: &[u64; 160], n: u64) -> usize
+    ensures { λ r. ⌜ Put 0 (judged (now (numbers .entry)) (now (grains .entry)) n) (now (out .entry)) (now (out .exit)) r ⌝ }
+{
+    if too_large(n, float_of_bits(numbers[0]), float_of_bits(numbers[1])) {
+        return put_answer(out, Answer::TooLarge);
+    }
+    put_served(out, numbers, grains, n as usize)
+}
+
+// The answer to the text that the reader was fed, written to the start of `out`; how many bytes it has.
+pub fn answer(reader: Reader, out: &mut [u8; 4096]) -> usize
+    ensures { λ r. ⌜ Put 0 (answered reader) (now (out .entry)) (now (out .exit)) r ⌝ }
+{
+    let whole = reader.closed();
+    if !whole.fine() {
+        return put_answer(out, Answer::Malformed);
+    }
+    let numbers = whole.numbers;
+    let grains = whole.grains;
+    put_judged(out, &numbers, &grains, whole.n)
+}
