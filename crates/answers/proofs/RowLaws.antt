@@ -18,7 +18,7 @@ use Rattle.model.specs.Stepping.{grainOf}
 use Rattle.checks.specs.Decode.{cut, grainAt, grainsOf, grainsPart}
 use Rattle.checks.proofs.Cut.{cut-none, cut-step, tail-is, drop-next}
 use Rattle.listing_text.specs.Grammar.{Grain}
-use Rattle.simulator.specs.Inputs.{inputsOf}
+use Rattle.starting.specs.Inputs.{inputsOf}
 use Rattle.listing_text.specs.Rows.{fiveOf, rowsOf, grainsFrom}
 use Rattle.listing_text.proofs.Rows.{rows-flat, rows-back}
 use Rattle.listing_text.proofs.Rows as text

@@ -15,7 +15,8 @@ use Rattle.model.specs.declared.Report.{Report}
 use Rattle.model.specs.declared.Started.{Started}
 use Rattle.checks.specs.Decode.{Tables, tables, grainsOf, grainsPart}
 use Rattle.simulator.specs.Start.{StartedWith, with, startAll}
-use Rattle.simulator.specs.Run.{toldTables, runTables}
+use Rattle.running.specs.Ran.{toldTables}
+use Rattle.simulator.specs.Run.{runTables}
 use Rattle.listing_text.specs.declared.writer.Answer.the-variants as answer
 use Rattle.listing_text.specs.Rows.{fiveOf}
 use Rattle.listing_text.specs.Size.{longLength, tooLarge}

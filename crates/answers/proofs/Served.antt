@@ -26,11 +26,12 @@ use Rattle.model.proofs.Reached.{Well, runAll-well, reached-well}
 use Rattle.tables.specs.declared.Sizes.{Sizes}
 use Rattle.checks.specs.Decode.{Tables, grainsOf, grainsPart}
 use Rattle.checks.specs.Check.{listsNeed, grainsNeed, queueNeed, eventsNeed}
-use Rattle.simulator.specs.Inputs.{inputsOf}
-use Rattle.simulator.specs.Encode.{sizesIn, encoded}
-use Rattle.simulator.specs.Start.{sizesFor, fits, cleared, StartedWith, with, leaving, startAll}
+use Rattle.starting.specs.Inputs.{inputsOf}
+use Rattle.checks.specs.Encode.{sizesIn, encoded}
+use Rattle.starting.specs.Cleared.{sizesFor, cleared}
+use Rattle.simulator.specs.Start.{fits, StartedWith, with, leaving, startAll}
 use Rattle.simulator.specs.Start as simulator
-use Rattle.simulator.specs.Run.{RanTables}
+use Rattle.running.specs.Ran.{RanTables}
 use Rattle.simulator.proofs.Kept.{all-kept}
 use Rattle.simulator.proofs.Encoded.{Long, decoded-encoded}
 use Rattle.simulator.proofs.Ran.{sizes-same, run-over}

@@ -14,7 +14,8 @@ use Rattle.model.specs.Grid.{boxOf}
 use Rattle.model.specs.Run.{How, synchronised, spent, refused}
 use Rattle.checks.specs.Decode.{Tables, tables, grainsOf, grainsPart}
 use Rattle.simulator.specs.Start.{StartedWith, startAll}
-use Rattle.simulator.specs.Run.{RanTables, runTables}
+use Rattle.running.specs.Ran.{RanTables}
+use Rattle.simulator.specs.Run.{runTables}
 use Rattle.listing_text.specs.declared.writer.Answer.the-variants as answer
 use Rattle.listing_text.specs.Rows.{fiveOf}
 use Rattle.listing_text.specs.Answers.{listed, answerOf}

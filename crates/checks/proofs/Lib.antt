@@ -12,6 +12,7 @@ pub mod Same
 pub mod Stages
 pub mod Holding
 pub mod Back
+pub mod Over
 pub mod Accepts
 pub mod Again
 pub mod Needs

@@ -1,10 +1,11 @@
--- 01: "no table needs more than 32 numbers for each grain, cell, list place and event place that the counts give, and 1,024 besides". Assumes nothing.
-use mathlib.Core.Path.{_≡_, sym, ap, _∙_}
+-- How long the tables must be. 01: "no table needs more than 32 numbers for each grain, cell, list place and event place that the counts give, and 1,024 besides". Assumes nothing.
+use mathlib.Core.Path.{_≡_, sym, ap, _∙_, subst}
 use Prim.Native.Nat.{ℕ, _+_, _*_, _≤_}
 use native.Mathlib.Nat.{mul-add, mul-assoc, mul-one}
 use native.Mathlib.Omega.{arith}
 use Rattle.tables.specs.declared.Sizes.{Sizes}
-use Rattle.checks.specs.Check.{listsNeed, grainsNeed, queueNeed, eventsNeed, orderNeed}
+use Rattle.checks.specs.declared.Lengths.{Lengths}
+use Rattle.checks.specs.Check.{listsNeed, grainsNeed, queueNeed, eventsNeed, orderNeed, lengthsFor}
 
 -- grains, cells, list places and event places
 abbrev pub allowed : Sizes → ℕ
@@ -15,3 +16,17 @@ needs-most z =
     let q : queueNeed z ≡ z .cells * z .room * 4 + z .cells = mul-add (z .cells) (z .room * 4) 1 ∙ ap (λ (k : ℕ). k + z .cells * 1) (sym (mul-assoc (z .cells) (z .room) 4)) ∙ ap (λ (k : ℕ). z .cells * z .room * 4 + k) (mul-one (z .cells)) in
     let e : eventsNeed z ≡ z .cells * z .room * 10 = sym (mul-assoc (z .cells) (z .room) 10) in
     (omega arith, omega arith, omega arith, omega arith, omega arith)
+
+-- where the parts behind the headers end, in tables of these lengths
+pub record Ends (n : Lengths) (l g q e : ℕ) : Type 0 where
+  pub lists-from : 6 ≤ n .lists
+  pub lists-to : n .lists ≤ l
+  pub grains-from : 3 ≤ n .grains
+  pub grains-to : n .grains ≤ g
+  pub queue-to : n .queue ≤ q
+  pub events-to : n .events ≤ e
+
+pub ends-of : (z : Sizes) (n : Lengths) {l g q e : ℕ} → n ≡ lengthsFor z → listsNeed z ≤ l → grainsNeed z ≤ g → queueNeed z ≤ q → eventsNeed z ≤ e → Ends n l g q e
+ends-of z n {l} {g} {q} {e} is hl hg hq he =
+    subst (λ (m : Lengths). Ends m l g q e) (sym is)
+    (record { lists-from = omega arith; lists-to = hl; grains-from = omega arith; grains-to = hg; queue-to = hq; events-to = he })

@@ -11,6 +11,7 @@ use Rattle.model.specs.Sizes.{memberRoom, homeRoom, rated}
 use Rattle.model.specs.Check.{halt}
 use Rattle.model.specs.Check as model
 use Rattle.tables.specs.declared.Sizes.{Sizes}
+use Rattle.checks.specs.declared.Lengths.{Lengths}
 use Rattle.checks.specs.Decode.{Tables, mark, sizesOf, homesPart, membersPart, decoded}
 
 -- ---- 2: a count is out of range, or a lent table is shorter than the counts need
@@ -32,6 +33,9 @@ eventsNeed z = z .cells * (z .room * 10)
 
 abbrev pub orderNeed : ℕ
 orderNeed = 512
+
+abbrev pub lengthsFor : Sizes → Lengths
+lengthsFor z = record { lists = listsNeed z; grains = grainsNeed z; queue = queueNeed z; events = eventsNeed z }
 
 -- what the counts need of each table, behind its header
 abbrev pub listsBody : Sizes → List ℕ → List ℕ

@@ -4,8 +4,8 @@ ghost use Prim.Native.Nat.{_+_, _*_, _≤_};
 ghost use lib.ListN.{length};
 ghost use Rattle.model.specs.Sizes.{rated};
 ghost use Rattle.model.specs.Check.{halt};
-ghost use Rattle.checks.specs.Decode.{tables, rowsOf};
-ghost use Rattle.checks.specs.Check.{long, sizedBy, Sized, legibleBy, standing, listsNeed, grainsNeed, queueNeed};
+ghost use Rattle.checks.specs.Decode.{tables, sizesOf, rowsOf};
+ghost use Rattle.checks.specs.Check.{lengthsFor, long, sizedBy, Sized, legibleBy, standing, listsNeed, grainsNeed, queueNeed};
 ghost use Rattle.checks.specs.Held.{Answered};
 ghost use Rattle.checks.specs.Walk.{Rowed};
 ghost use Rattle.checks.specs.Parts.{settled, queued, heaped};
@@ -17,6 +17,38 @@ mod grains;
 mod heap;
 mod places;
 mod rows;
+
+// The counts that a table of lists begins with, behind the mark.
+pub fn sizes_of(lists: &[u64]) -> Sizes
+    requires { ⌜ 4 ≤ length (now lists) ⌝ }
+    ensures { λ r. ⌜ r ≡ sizesOf (now (lists .entry)) ⌝ }
+{
+    Sizes {
+        grains: lists[1] as usize,
+        cells: lists[2] as usize,
+        room: lists[3] as usize,
+    }
+}
+
+// How long the tables must be for these counts; that of the heap always 512.
+pub struct Lengths {
+    pub lists: usize,
+    pub grains: usize,
+    pub queue: usize,
+    pub events: usize,
+}
+
+pub fn needed(z: Sizes) -> Lengths
+    requires { ⌜ (z .grains ≤ 256) × (z .cells ≤ 256) × (z .room ≤ 256) ⌝ }
+    ensures { λ r. ⌜ r ≡ lengthsFor z ⌝ }
+{
+    Lengths {
+        lists: 6 + z.grains * 9 + z.cells * 33,
+        grains: 3 + z.grains * 6,
+        queue: z.cells * (z.room * 4 + 1),
+        events: z.cells * (z.room * 10),
+    }
+}
 
 // Check 2: are the counts in range, and the tables as long as they need?
 pub fn sized(lists: &[u64], grains: usize, queue: usize, events: usize, order: usize) -> bool
@@ -40,11 +72,7 @@ pub fn sized(lists: &[u64], grains: usize, queue: usize, events: usize, order: u
     if 256 < lists[3] {
         return false;
     }
-    let z = Sizes {
-        grains: lists[1] as usize,
-        cells: lists[2] as usize,
-        room: lists[3] as usize,
-    };
+    let z = sizes_of(lists);
     long(z, lists.len(), grains, queue, events, order)
 }
 
@@ -60,19 +88,17 @@ pub fn long(
     requires { ⌜ (z .grains ≤ 256) × (z .cells ≤ 256) × (z .room ≤ 256) ⌝ }
     ensures { λ r. ⌜ r ≡ long z lists grains queue events order ⌝ }
 {
-    let g = z.grains;
-    let n = z.cells;
-    let room = z.room;
-    if lists < 6 + g * 9 + n * 33 {
+    let need = needed(z);
+    if lists < need.lists {
         return false;
     }
-    if grains < 3 + g * 6 {
+    if grains < need.grains {
         return false;
     }
-    if queue < n * (room * 4 + 1) {
+    if queue < need.queue {
         return false;
     }
-    if events < n * (room * 10) {
+    if events < need.events {
         return false;
     }
     512 <= order
@@ -218,11 +244,7 @@ pub fn check(
     if !rated(rate) {
         return 3;
     }
-    let z = Sizes {
-        grains: lists[1] as usize,
-        cells: lists[2] as usize,
-        room: lists[3] as usize,
-    };
+    let z = sizes_of(lists);
     if !standing(lists, grains, queue, events, order, z) {
         return 10;
     }

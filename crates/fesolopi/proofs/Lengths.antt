@@ -14,7 +14,7 @@ use Rattle.model.proofs.Queue.{and-l, and-r}
 use Rattle.model.proofs.Grid.{cells-max}
 use Rattle.cell.specs.declared.Grid.{Grid}
 use Rattle.cell.specs.Cell.{gridOf, Laid}
-use Rattle.simulator.specs.Start.{sizesFor}
+use Rattle.starting.specs.Cleared.{sizesFor}
 use Rattle.simulator.proofs.StartLaws.{cells-counted}
 use Rattle.fesolopi.specs.Needed.{Needed, needed, neededBy, none, refusedBy, neededFor}
 

@@ -8,7 +8,7 @@ use Rattle.model.specs.declared.Report.the-variants as report
 use Rattle.model.specs.Reports.{startNumber}
 use Rattle.checks.specs.Decode.{Tables}
 use Rattle.simulator.specs.Start.{StartedWith, with}
-use Rattle.simulator.specs.Run.{RanTables, toldTables}
+use Rattle.running.specs.Ran.{RanTables, toldTables}
 use Rattle.fesolopi.specs.Codes.{grainNamed, begun, begunBy, reportNumber, clockTold, eventsTold, ended, endedBy}
 
 pub start-told : (a : Started) (n g : ℕ) (t : Tables) (s : StartedWith) → n ≡ startNumber a → g ≡ grainNamed a → with a t ≡ s → begun n g t ≡ begunBy s

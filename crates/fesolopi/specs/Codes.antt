@@ -15,7 +15,7 @@ use Rattle.model.specs.Grid.{boxOf}
 use Rattle.model.specs.Run.{How, synchronised, spent, refused}
 use Rattle.checks.specs.Decode.{Tables}
 use Rattle.simulator.specs.Start.{StartedWith}
-use Rattle.simulator.specs.Run.{RanTables}
+use Rattle.running.specs.Ran.{RanTables}
 
 -- the box of these lengths and flags
 abbrev pub boxed : Float → Float → Bool → Bool → Domain

@@ -5,7 +5,7 @@ use Rattle.model.specs.declared.Domain.{Domain}
 use Rattle.model.specs.Sizes.{boxOk, countsOk}
 use Rattle.tables.specs.declared.Sizes.{Sizes}
 use Rattle.checks.specs.Check.{listsNeed, grainsNeed, queueNeed, eventsNeed, orderNeed}
-use Rattle.simulator.specs.Start.{sizesFor}
+use Rattle.starting.specs.Cleared.{sizesFor}
 
 -- a number, and the lengths beside it
 pub record Needed : Type 0 where

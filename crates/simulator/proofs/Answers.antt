@@ -18,8 +18,9 @@ use Rattle.model.proofs.Never.{no-8-or-9-at-start}
 use Rattle.tables.specs.declared.Sizes.{Sizes}
 use Rattle.checks.specs.Decode.{Tables}
 use Rattle.checks.proofs.Needs.{allowed}
-use Rattle.simulator.specs.Inputs.{inputsOf}
-use Rattle.simulator.specs.Start.{sizesFor, fits, StartedWith, with, byMark, leaving, startAll}
+use Rattle.starting.specs.Inputs.{inputsOf}
+use Rattle.starting.specs.Cleared.{sizesFor}
+use Rattle.simulator.specs.Start.{fits, StartedWith, with, byMark, leaving, startAll}
 
 -- a fact of every refusal that leaves the tables, and of every start that the model accepts, is a fact of every start
 every-start : (P : StartedWith → Type 0) (b : Domain) (n room : ℕ) (inputs : List Float) (t : Tables) → ((r : ℕ) → P (with (answer.Refused r) t))

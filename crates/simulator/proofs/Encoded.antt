@@ -29,8 +29,8 @@ use Rattle.checks.proofs.Holding.{side-rows}
 use Rattle.checks.proofs.Stages.{means-sized}
 use Rattle.checks.proofs.Back.{row-wide, long-nums, long-reals, read-back}
 use Rattle.checks.proofs.Again.{legible-held}
-use Rattle.simulator.specs.Encode.{over, flagged, listsHead, grainsHead, sizesIn, encoded}
-use Rattle.simulator.proofs.Over.{over-again}
+use Rattle.checks.specs.Encode.{over, flagged, listsHead, grainsHead, sizesIn, encoded}
+use Rattle.checks.proofs.Over.{over-again}
 
 -- ---- what a state of these sizes needs of the tables
 pub record Long (z : Sizes) (t : Tables) : Type 0 where

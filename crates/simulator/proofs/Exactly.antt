@@ -22,8 +22,9 @@ use Rattle.model.proofs.Exactly.{Exactly, differ}
 use Rattle.checks.specs.Decode.{Tables, mark, decoded}
 use Rattle.checks.specs.Check.{sized, standing, checked}
 use Rattle.checks.proofs.Cut.{cut-long}
-use Rattle.simulator.specs.Inputs.{inputAt, inputsOf}
-use Rattle.simulator.specs.Start.{sizesFor, fits, StartedWith, startAll}
+use Rattle.starting.specs.Inputs.{inputAt, inputsOf}
+use Rattle.starting.specs.Cleared.{sizesFor}
+use Rattle.simulator.specs.Start.{fits, StartedWith, startAll}
 use Rattle.simulator.specs.Run.{byCheck, runTables}
 use Rattle.simulator.proofs.StartLaws.{start-1, start-2, start-is, start-bad, start-good, counts-ok}
 

@@ -36,10 +36,12 @@ use Rattle.tables.specs.declared.Sizes.{Sizes}
 use Rattle.checks.specs.Decode.{Tables, mark, decoded}
 use Rattle.checks.specs.Check.{listsNeed, grainsNeed, queueNeed, eventsNeed, long}
 use Rattle.checks.proofs.Cut.{cut-long}
-use Rattle.simulator.specs.Inputs.{inputAt, inputsOf}
-use Rattle.simulator.specs.Encode.{sizesIn, encoded}
-use Rattle.simulator.specs.Start.{sizesFor, fits, cleared, with, byNumber, leaving, startAll}
-use Rattle.simulator.specs.Run.{RanTables, beside, runTables}
+use Rattle.starting.specs.Inputs.{inputAt, inputsOf}
+use Rattle.checks.specs.Encode.{sizesIn, encoded}
+use Rattle.starting.specs.Cleared.{sizesFor, cleared}
+use Rattle.simulator.specs.Start.{fits, with, byNumber, leaving, startAll}
+use Rattle.running.specs.Ran.{RanTables, beside}
+use Rattle.simulator.specs.Run.{runTables}
 use Rattle.simulator.specs.Reached.{Taken, afterCalls, ReachedTables}
 use Rattle.simulator.proofs.Kept.{does-kept, all-kept}
 use Rattle.simulator.proofs.Encoded.{Long, decoded-encoded}

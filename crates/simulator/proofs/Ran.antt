@@ -23,8 +23,9 @@ use Rattle.tables.specs.declared.Sizes.{Sizes}
 use Rattle.checks.specs.Decode.{Tables, mark, grainAt, decoded, sizesOf, grainsPart}
 use Rattle.checks.specs.Check.{sized, checked, legible, standing}
 use Rattle.checks.proofs.Cut.{cut-long}
-use Rattle.simulator.specs.Encode.{sizesIn, encoded}
-use Rattle.simulator.specs.Run.{RanTables, beside, byCheck, runTables, toldTables, leaving as over-found}
+use Rattle.checks.specs.Encode.{sizesIn, encoded}
+use Rattle.running.specs.Ran.{RanTables, beside, toldTables, leaving as over-found}
+use Rattle.simulator.specs.Run.{byCheck, runTables}
 use Rattle.simulator.proofs.Kept.{Kept, run-kept}
 use Rattle.simulator.proofs.Encoded.{Long, decoded-encoded, encoded-mark, encoded-standing, encoded-sized, encoded-again}
 use Rattle.model.specs.declared.Report.{Report}

@@ -22,10 +22,11 @@ use Rattle.tables.specs.declared.Sizes.{Sizes}
 use Rattle.checks.specs.Decode.{Tables}
 use Rattle.checks.specs.Check.{long, listsNeed, grainsNeed, queueNeed, eventsNeed}
 use Rattle.checks.proofs.Cut.{cut-long}
-use Rattle.simulator.specs.Inputs.{inputAt, inputsOf}
-use Rattle.simulator.specs.Encode.{encoded}
-use Rattle.simulator.specs.Start.{sizesFor, fits, cleared, with, byMark, leaving, startAll}
-use Rattle.simulator.specs.Begin.{Startable, Began}
+use Rattle.starting.specs.Inputs.{inputAt, inputsOf}
+use Rattle.checks.specs.Encode.{encoded}
+use Rattle.starting.specs.Cleared.{sizesFor, cleared}
+use Rattle.simulator.specs.Start.{fits, with, byMark, leaving, startAll}
+use Rattle.starting.specs.Begin.{Startable, Began}
 
 -- ---- what it is that checks 1 and 2 are passed
 module _ (z : Sizes) (ni nl ng nq ne no : ℕ) (e : fits z ni nl ng nq ne no ≡ true) where

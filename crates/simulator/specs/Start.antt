@@ -4,34 +4,25 @@ use Prim.Native.Nat.{ℕ, zero, suc, _*_}
 use mathlib.Core.List.{List}
 use mathlib.Core.Bool.{Bool, _&&_}
 use lib.Dec.{eqb, leb}
-use lib.ListN.{length, replicate}
+use lib.ListN.{length}
 use lib.Ieee.{Float}
-use Rattle.order.specs.Numbers.{fzero}
 use Rattle.halting.specs.Out.{pick}
 use Rattle.model.specs.declared.Domain.{Domain}
 use Rattle.model.specs.declared.Started.{Started}
 use Rattle.model.specs.declared.Started.the-variants as answer
 use Rattle.model.specs.Sizes.{boxOk, countsOk}
-use Rattle.model.specs.Grid.{cells}
 use Rattle.model.specs.Start.{Begun, refused, started, start}
 use Rattle.model.specs.Reports.{startNumber}
 use Rattle.tables.specs.declared.Sizes.{Sizes}
-use Rattle.checks.specs.Decode.{Tables, tables}
+use Rattle.checks.specs.Decode.{Tables}
 use Rattle.checks.specs.Check.{long}
-use Rattle.simulator.specs.Inputs.{inputsOf}
-use Rattle.simulator.specs.Encode.{encoded}
+use Rattle.starting.specs.Inputs.{inputsOf}
+use Rattle.starting.specs.Cleared.{sizesFor, cleared}
+use Rattle.checks.specs.Encode.{encoded}
 
 -- 2: a count is out of range, or a lent table is shorter than the counts need
-abbrev pub sizesFor : Domain → ℕ → ℕ → Sizes
-sizesFor b n room = record { grains = n; cells = cells b; room = room }
-
 unfoldable pub fits : Sizes → ℕ → ℕ → ℕ → ℕ → ℕ → ℕ → Bool
 fits z inputs l g q e o = countsOk (z .room) (z .grains) && (leb (z .grains * 5) inputs && long z l g q e o)
-
--- every place of every table, also beyond what the counts need
-abbrev pub cleared : Tables → Tables
-cleared t =
-    tables (replicate (length (t .lists)) 0) (replicate (length (t .grains)) fzero) (replicate (length (t .queue)) 0) (replicate (length (t .events)) fzero) (replicate (length (t .order)) 0)
 
 -- an answer, the number of 01 that it stands for (0: accepted, not halted), and the tables afterwards
 pub record StartedWith : Type 0 where

@@ -35,23 +35,17 @@ rated-requires c κs = search needs
 returns-3 : tie.Need-returns-3
 returns-3 c = let b = c .before .before .before .before .before .before .before .before .before .before .before .before .before .before in let g = b .args in let t = tables (g .lists .now) (g .grains .now) (g .queue .now) (g .events .now) (g .order .now) in record { is = check-3 (g .rate) t (sym (c .before .before .before .before .before .before .sized .ensures) ∙ not-false _ (c .before .before .before .before .before .if1 .left)) (sym (c .before .before .before .halt .ensures) ∙ c .before .before .if2 .left) (sym (c .before .rated .ensures) ∙ not-true _ (c .if3 .taken)); grains-fit = c .before .before .before .before .before .before .before .before .known .ensures; events-fit = c .before .before .before .before .before .before .before .known2 .ensures }
 
-shared-slice-read-t17 : tie.Need-shared-slice-read-t17
-shared-slice-read-t17 c = let b = c .before .before .before .before .before .before .before .before .before .before .before .before .before .before .before in let g = b .args in let t = tables (g .lists .now) (g .grains .now) (g .queue .now) (g .events .now) (g .order .now) in let S = sized-means t (sym (c .before .before .before .before .before .before .before .sized .ensures) ∙ not-false _ (c .before .before .before .before .before .before .if1 .left)) in let h = S .lists-long in omega arith
-
-shared-slice-read-t21 : tie.Need-shared-slice-read-t21
-shared-slice-read-t21 c = let b = c .before .before .before .before .before .before .before .before .before .before .before .before .before .before .before .before in let g = b .args in let t = tables (g .lists .now) (g .grains .now) (g .queue .now) (g .events .now) (g .order .now) in let S = sized-means t (sym (c .before .before .before .before .before .before .before .before .sized .ensures) ∙ not-false _ (c .before .before .before .before .before .before .before .if1 .left)) in let h = S .lists-long in omega arith
-
-shared-slice-read-t23 : tie.Need-shared-slice-read-t23
-shared-slice-read-t23 c = let b = c .before .before .before .before .before .before .before .before .before .before .before .before .before .before .before .before .before in let g = b .args in let t = tables (g .lists .now) (g .grains .now) (g .queue .now) (g .events .now) (g .order .now) in let S = sized-means t (sym (c .before .before .before .before .before .before .before .before .before .sized .ensures) ∙ not-false _ (c .before .before .before .before .before .before .before .before .if1 .left)) in let h = S .lists-long in omega arith
+sizes-of-requires : tie.Need-sizes-of-requires
+sizes-of-requires c κs = let b = c .before .before .before .before .before .before .before .before .before .before .before .before .before .before in let g = b .args in let t = tables (g .lists .now) (g .grains .now) (g .queue .now) (g .events .now) (g .order .now) in let S = sized-means t (sym (c .before .before .before .before .before .before .sized .ensures) ∙ not-false _ (c .before .before .before .before .before .if1 .left)) in let h = S .lists-long in omega arith
 
 standing-requires : tie.Need-standing-requires
-standing-requires c κs = let b = c .before .before .before .before .before .before .before .before .before .before .before .before .before .before .before .before .before in let g = b .args in let t = tables (g .lists .now) (g .grains .now) (g .queue .now) (g .events .now) (g .order .now) in let S = sized-means t (sym (c .before .before .before .before .before .before .before .before .before .sized .ensures) ∙ not-false _ (c .before .before .before .before .before .before .before .before .if1 .left)) in S
+standing-requires c κs = let b = c .before .before .before .before .before .before .before .before .before .before .before .before .before .before .before in let g = b .args in let t = tables (g .lists .now) (g .grains .now) (g .queue .now) (g .events .now) (g .order .now) in let S = sized-means t (sym (c .before .before .before .before .before .before .before .sized .ensures) ∙ not-false _ (c .before .before .before .before .before .before .if1 .left)) in rw (c .sizes-of .ensures) S
 
 returns-4 : tie.Need-returns-4
-returns-4 c = let b = c .before .before .before .before .before .before .before .before .before .before .before .before .before .before .before .before .before .before .before in let g = b .args in let t = tables (g .lists .now) (g .grains .now) (g .queue .now) (g .events .now) (g .order .now) in record { is = check-10 (g .rate) t (sym (c .before .before .before .before .before .before .before .before .before .before .before .sized .ensures) ∙ not-false _ (c .before .before .before .before .before .before .before .before .before .before .if1 .left)) (sym (c .before .before .before .before .before .before .before .before .halt .ensures) ∙ c .before .before .before .before .before .before .before .if2 .left) (sym (c .before .before .before .before .before .before .rated .ensures) ∙ not-false _ (c .before .before .before .before .before .if3 .left)) (sym (c .before .standing .ensures) ∙ not-true _ (c .if4 .taken)); grains-fit = c .before .before .before .before .before .before .before .before .before .before .before .before .before .known .ensures; events-fit = c .before .before .before .before .before .before .before .before .before .before .before .before .known2 .ensures }
+returns-4 c = let b = c .before .before .before .before .before .before .before .before .before .before .before .before .before .before .before .before .before in let g = b .args in let t = tables (g .lists .now) (g .grains .now) (g .queue .now) (g .events .now) (g .order .now) in record { is = check-10 (g .rate) t (sym (c .before .before .before .before .before .before .before .before .before .sized .ensures) ∙ not-false _ (c .before .before .before .before .before .before .before .before .if1 .left)) (sym (c .before .before .before .before .before .before .halt .ensures) ∙ c .before .before .before .before .before .if2 .left) (sym (c .before .before .before .before .rated .ensures) ∙ not-false _ (c .before .before .before .if3 .left)) (sym (c .before .standing .ensures) ∙ not-true _ (c .if4 .taken)); grains-fit = c .before .before .before .before .before .before .before .before .before .before .before .known .ensures; events-fit = c .before .before .before .before .before .before .before .before .before .before .known2 .ensures }
 
 returns-5 : tie.Need-returns-5
-returns-5 c = let b = c .before .before .before .before .before .before .before .before .before .before .before .before .before .before .before .before .before .before .before in let g = b .args in let t = tables (g .lists .now) (g .grains .now) (g .queue .now) (g .events .now) (g .order .now) in record { is = check-0 (g .rate) t (sym (c .before .before .before .before .before .before .before .before .before .before .before .sized .ensures) ∙ not-false _ (c .before .before .before .before .before .before .before .before .before .before .if1 .left)) (sym (c .before .before .before .before .before .before .before .before .halt .ensures) ∙ c .before .before .before .before .before .before .before .if2 .left) (sym (c .before .before .before .before .before .before .rated .ensures) ∙ not-false _ (c .before .before .before .before .before .if3 .left)) (sym (c .before .standing .ensures) ∙ not-false _ (c .if4 .left)); grains-fit = c .before .before .before .before .before .before .before .before .before .before .before .before .before .known .ensures; events-fit = c .before .before .before .before .before .before .before .before .before .before .before .before .known2 .ensures }
+returns-5 c = let b = c .before .before .before .before .before .before .before .before .before .before .before .before .before .before .before .before .before in let g = b .args in let t = tables (g .lists .now) (g .grains .now) (g .queue .now) (g .events .now) (g .order .now) in record { is = check-0 (g .rate) t (sym (c .before .before .before .before .before .before .before .before .before .sized .ensures) ∙ not-false _ (c .before .before .before .before .before .before .before .before .if1 .left)) (sym (c .before .before .before .before .before .before .halt .ensures) ∙ c .before .before .before .before .before .if2 .left) (sym (c .before .before .before .before .rated .ensures) ∙ not-false _ (c .before .before .before .if3 .left)) (sym (c .before .standing .ensures) ∙ not-false _ (c .if4 .left)); grains-fit = c .before .before .before .before .before .before .before .before .before .before .before .known .ensures; events-fit = c .before .before .before .before .before .before .before .before .before .before .known2 .ensures }
 
 pub check-spec : {M : Type 1} → statement M
 check-spec =
@@ -66,9 +60,7 @@ check-spec =
     returns-2
     rated-requires
     returns-3
-    shared-slice-read-t17
-    shared-slice-read-t21
-    shared-slice-read-t23
+    sizes-of-requires
     standing-requires
     returns-4
     returns-5)

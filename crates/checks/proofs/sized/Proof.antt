@@ -44,21 +44,15 @@ returns-6 : tie.Need-returns-6
 unfolding sizedBy
 returns-6 c = rw (le-leb _ _ (c .before .before .before .before .before .before .before .before .before .before .if1 .left), le-leb _ _ (c .before .before .before .before .before .before .before .before .if2 .left), le-leb _ _ (c .before .before .before .before .before .before .if3 .left), le-leb _ _ (c .before .before .before .before .if4 .left), le-leb _ _ (c .before .before .if5 .left), lt-leb _ _ (c .if6 .taken))
 
-shared-slice-read-long : tie.Need-shared-slice-read-long
-shared-slice-read-long c = search needs
-
-shared-slice-read-t17 : tie.Need-shared-slice-read-t17
-shared-slice-read-t17 c = search needs
-
-shared-slice-read-t20 : tie.Need-shared-slice-read-t20
-shared-slice-read-t20 c = search needs
+sizes-of-requires : tie.Need-sizes-of-requires
+sizes-of-requires c κs = search needs
 
 long-requires : tie.Need-long-requires
-long-requires c κs = search needs
+long-requires c κs = rw (c .sizes-of .ensures) (c .before .before .before .before .before .before .before .before .before .if2 .left, c .before .before .before .before .before .if4 .left, c .before .if6 .left)
 
 returns-7 : tie.Need-returns-7
 unfolding sizedBy
-returns-7 c = rw (le-leb _ _ (c .before .before .before .before .before .before .before .before .before .before .before .before .before .before .if1 .left), le-leb _ _ (c .before .before .before .before .before .before .before .before .before .before .before .before .if2 .left), le-leb _ _ (c .before .before .before .before .before .before .before .before .before .before .if3 .left), le-leb _ _ (c .before .before .before .before .before .before .before .before .if4 .left), le-leb _ _ (c .before .before .before .before .before .before .if5 .left), le-leb _ _ (c .before .before .before .before .if6 .left)) (c .long .ensures)
+returns-7 c = rw (le-leb _ _ (c .before .before .before .before .before .before .before .before .before .before .before .before .if1 .left), le-leb _ _ (c .before .before .before .before .before .before .before .before .before .before .if2 .left), le-leb _ _ (c .before .before .before .before .before .before .before .before .if3 .left), le-leb _ _ (c .before .before .before .before .before .before .if4 .left), le-leb _ _ (c .before .before .before .before .if5 .left), le-leb _ _ (c .before .before .if6 .left)) (rw (c .before .sizes-of .ensures) at (c .long .ensures))
 
 pub sized-spec : {M : Type 1} → statement M
 sized-spec =
@@ -75,8 +69,6 @@ sized-spec =
     returns-5
     shared-slice-read-if6
     returns-6
-    shared-slice-read-long
-    shared-slice-read-t17
-    shared-slice-read-t20
+    sizes-of-requires
     long-requires
     returns-7)

@@ -1,7 +1,7 @@
 -- `fesolopi_needed`: refused, or the lengths. Assumes nothing.
 use mathlib.Core.Bool.{true}
 use Rattle.model.specs.Sizes.{boxOk, countsOk}
-use Rattle.simulator.proofs.GoLaws.{grid-few}
+use Rattle.starting.proofs.GoLaws.{grid-few}
 use Rattle.fesolopi.specs.Codes.{boxed}
 use Rattle.fesolopi.proofs.Lengths.{none-needed, laid, few-grains, small-room, few-cells, few-places, few-floats, all-needed}
 use native.Mathlib.Omega.{arith}

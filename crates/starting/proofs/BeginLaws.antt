@@ -1,0 +1,239 @@
+-- An accepted start, from what its calls say: grains in and then the first events (fill), and the tables around the parts (begin). Assumes nothing.
+use Prim.Native.Nat.{ℕ, _+_, _-_, _*_, _≤_}
+use mathlib.Core.Path.{_≡_, refl, sym, ap, _∙_, subst}
+use mathlib.Core.List.{List, [], _++_}
+use native.Mathlib.Omega.{arith}
+use lib.ListN.{length, set, replicate, length-replicate}
+use lib.Ieee.{Float}
+use borrow.Rule.Slice.PartMut.{midOf, putMid}
+use Rattle.order.specs.Numbers.{fzero}
+use Rattle.chunks.specs.Flat.{flat}
+use Rattle.halting.specs.Out.{Out, then, each}
+use Rattle.scheduler.specs.Heap.{start as startHeap}
+use Rattle.model.specs.declared.Domain.{Domain}
+use Rattle.model.specs.Grid.{cells}
+use Rattle.model.specs.State.{State, marked}
+use Rattle.model.specs.Start.{clear, goesIn, initCell, begin}
+use Rattle.model.proofs.Grid.{cells-max}
+use Rattle.cell.specs.declared.Grid.{Grid}
+use Rattle.tables.specs.declared.Sizes.{Sizes}
+use Rattle.tables.specs.Layout.{orderBytes, rowNums, grainReals, queueNums, queueReals}
+use Rattle.tables.specs.Holds.{Queued, Holds}
+use Rattle.checks.specs.Decode.{Tables, tables}
+use Rattle.checks.specs.declared.Lengths.{Lengths}
+use Rattle.checks.specs.Check.{lengthsFor}
+use Rattle.checks.proofs.Cut.{cut-long}
+use Rattle.checks.proofs.Needs.{Ends, ends-of}
+use Rattle.acts.proofs.InTurn.{told-stop, told-on}
+use Rattle.step.specs.declared.World.{World}
+use Rattle.step.specs.World.{Held, Says, Does, worldAt}
+use Rattle.starting.specs.Inputs.{inputAt, inputsOf}
+use Rattle.starting.specs.Grains.{InBoth, BothTold, Going}
+use Rattle.checks.specs.Encode.{listsHead, grainsHead, over, sizesIn, encoded}
+use Rattle.starting.specs.Begin.{Startable, Filling, Began}
+use Rattle.checks.proofs.Over.{over-part, over-put, over-again, over-front, same-part}
+use Rattle.starting.proofs.Zeros.{start-long, cleared-held}
+use Rattle.starting.proofs.OnlyIn.{OnlyIn, all-only, in-along}
+
+-- ---- grains in, then the first events
+abbrev blank : Sizes → World → State
+blank z w = clear (w .domain) (z .room) (z .grains)
+
+abbrev allIn : Sizes → World → List Float → Out State
+allIn z w inputs = each (goesIn (inputsOf (z .grains) inputs)) (z .grains - 0) 0 (blank z w)
+
+module _ {z : Sizes} {w : World} (inputs : List Float) {l : List ℕ} {t : List Float} {q : List ℕ} {e : List Float} {o : List ℕ} (F : Filling z w (length inputs) l t q e o) where
+  fill-both : InBoth z (w .domain) l t (blank z w)
+  fill-both = record { lists = F .held .listed; grains = F .held .seen .grained; box = F .held .seen .at .0 }
+
+  pub fill-going : Going z (w .domain) (w .grid) inputs l t
+  fill-going = record {
+    held = (blank z w, fill-both);
+    ranged = F .held .seen .queued .ranged;
+    laid = F .placed .laid;
+    cells-are = sym (F .placed .cells-are);
+    inputs-long = F .inputs-long;
+  }
+
+  begin-is : begin (w .domain) (z .room) (inputsOf (z .grains) inputs) ≡ then (allIn z w inputs) (λ s. each initCell (z .cells) 0 s)
+  unfolding begin
+  begin-is =
+      ap (λ (n : ℕ). then (each (goesIn (inputsOf (z .grains) inputs)) n 0 (clear (w .domain) (z .room) n)) (λ s. each initCell (cells (w .domain)) 0 s)) (cut-long inputAt 5 (z .grains) inputs)
+      ∙ ap (λ (n : ℕ). then (each (goesIn (inputsOf (z .grains) inputs)) n 0 (blank z w)) (λ s. each initCell (cells (w .domain)) 0 s)) (let h : z .grains ≡ z .grains - 0 = omega arith in h)
+      ∙ ap (λ (n : ℕ). then (allIn z w inputs) (λ s. each initCell n 0 s)) (F .placed .cells-are)
+
+  module _ {l′ : List ℕ} {t′ : List Float} {r : ℕ} (told : (s : State) → InBoth z (w .domain) l t s → BothTold z (w .domain) l′ t′ r (each (goesIn (inputsOf (z .grains) inputs)) (z .grains - 0) 0 s)) where
+    all-in : Says (Held z w l′ t′ q e o) r (allIn z w inputs)
+    all-in =
+        let d = told (blank z w) fill-both in
+        let u = (allIn z w inputs) .st in
+        let k : OnlyIn (blank z w) u = all-only (inputsOf (z .grains) inputs) (z .grains - 0) 0 (blank z w) in
+        let p = F .held .seen .queued in (
+          d .0,
+          record {
+            listed = d .1 .lists;
+            seen = record {
+              at = (d .1 .box, in-along (λ (v : State). v .clock ≡ w .clock) (blank z w) u k (F .held .seen .at .1));
+              grained = d .1 .grains;
+              queued = in-along (Queued z q e o) (blank z w) u k (record { ranged = p .ranged; tables = p .tables; heap = p .heap; room-is = p .room-is });
+            };
+          },
+        )
+
+    pub fill-stop : (r ≡ 0 → ⊥) → Says (Held z w l′ t′ q e o) r (begin (w .domain) (z .room) (inputsOf (z .grains) inputs))
+    fill-stop u = subst (λ (a : Out State). Says (Held z w l′ t′ q e o) r a) (sym begin-is) (told-stop (Held z w l′ t′ q e o) (allIn z w inputs) (λ s. each initCell (z .cells) 0 s) u all-in)
+
+    -- some state is held when the events are scheduled
+    pub fill-some : (s : State) × Held z w l′ t′ q e o s
+    fill-some = ((allIn z w inputs) .st, all-in .1)
+
+    pub fill-on : {q′ : List ℕ} {e′ : List Float} {o′ : List ℕ} {r′ : ℕ} → r ≡ 0 → Does (Held z w l′ t′ q e o) (Held z w l′ t′ q′ e′ o′) r′ (each initCell (z .cells) 0)
+        → Says (Held z w l′ t′ q′ e′ o′) r′ (begin (w .domain) (z .room) (inputsOf (z .grains) inputs))
+    fill-on {q′} {e′} {o′} {r′} u d =
+        subst (λ (a : Out State). Says (Held z w l′ t′ q′ e′ o′) r′ a) (sym begin-is)
+        (told-on (Held z w l′ t′ q e o) (Held z w l′ t′ q′ e′ o′) (allIn z w inputs) (λ s. each initCell (z .cells) 0 s) u all-in (d .says ((allIn z w inputs) .st) (all-in .1)))
+
+-- ---- the tables around the parts
+module _ {z : Sizes} {b : Domain} {g : Grid} {ni nl ng nq ne no : ℕ} (S : Startable z b g ni nl ng nq ne no) where
+  abbrev lists₀ : List ℕ
+  lists₀ = over (listsHead 0 z b) (replicate nl 0)
+
+  abbrev grains₀ : List Float
+  grains₀ = over (grainsHead b fzero) (replicate ng fzero)
+
+  abbrev order₀ : List ℕ
+  order₀ = over (orderBytes (startHeap (z .cells))) (replicate no 0)
+
+  abbrev listsLong : ℕ
+  listsLong = 6 + z .grains * 9 + z .cells * 33 - 6
+
+  abbrev grainsLong : ℕ
+  grainsLong = 3 + z .grains * 6 - 3
+
+  abbrev queueLong : ℕ
+  queueLong = z .cells * (z .room * 4 + 1) - 0
+
+  abbrev eventsLong : ℕ
+  eventsLong = z .cells * (z .room * 10) - 0
+
+  pub few-cells : z .cells ≤ 256
+  few-cells = subst (λ (n : ℕ). n ≤ 256) (sym (S .cells-are)) (cells-max b (S .laid .box))
+
+  pub ends : {n : Lengths} → n ≡ lengthsFor z → Ends n nl ng nq ne
+  ends e = ends-of z _ e (S .lists-long) (S .grains-long) (S .queue-long) (S .events-long)
+
+  order-full : length (orderBytes (startHeap (z .cells))) ≡ 512
+  order-full = start-long (z .cells) few-cells
+
+  lists-part : midOf 6 listsLong lists₀ ≡ replicate (z .grains * 9 + z .cells * 33) 0
+  lists-part =
+      let k : listsLong ≡ z .grains * 9 + z .cells * 33 = omega arith in
+      over-part (listsHead 0 z b) (replicate nl 0) 6 listsLong refl ∙ same-part 0 nl 6 listsLong (let h = S .lists-long in omega arith) ∙ ap (λ (n : ℕ). replicate n 0) k
+
+  grains-part : midOf 3 grainsLong grains₀ ≡ replicate (z .grains * 6) fzero
+  grains-part =
+      let k : grainsLong ≡ z .grains * 6 = omega arith in
+      over-part (grainsHead b fzero) (replicate ng fzero) 3 grainsLong refl ∙ same-part fzero ng 3 grainsLong (let h = S .grains-long in omega arith) ∙ ap (λ (n : ℕ). replicate n fzero) k
+
+  queue-part : midOf 0 queueLong (replicate {A = ℕ} nq 0) ≡ replicate (z .cells * (z .room * 4 + 1)) 0
+  queue-part = let h = S .queue-long in same-part 0 nq 0 queueLong (omega arith) ∙ ap (λ (n : ℕ). replicate n 0) (let k : queueLong ≡ z .cells * (z .room * 4 + 1) = omega arith in k)
+
+  events-part : midOf 0 eventsLong (replicate ne fzero) ≡ replicate (z .cells * (z .room * 10)) fzero
+  events-part = let h = S .events-long in same-part fzero ne 0 eventsLong (omega arith) ∙ ap (λ (n : ℕ). replicate n fzero) (let k : eventsLong ≡ z .cells * (z .room * 10) = omega arith in k)
+
+  order-part : midOf 0 (512 - 0) order₀ ≡ orderBytes (startHeap (z .cells))
+  order-part = over-front (orderBytes (startHeap (z .cells))) (replicate no 0) (512 - 0) order-full
+
+  module _ {l : List ℕ} {t : List Float} {q : List ℕ} {e : List Float} {o : List ℕ} (el : l ≡ lists₀) (et : t ≡ grains₀) (eq : q ≡ replicate nq 0) (ee : e ≡ replicate ne fzero) (eo : o ≡ order₀) where
+    abbrev L : List ℕ
+    L = midOf 6 listsLong l
+
+    abbrev G : List Float
+    G = midOf 3 grainsLong t
+
+    abbrev Q : List ℕ
+    Q = midOf 0 queueLong q
+
+    abbrev E : List Float
+    E = midOf 0 eventsLong e
+
+    abbrev O : List ℕ
+    O = midOf 0 (512 - 0) o
+
+    part-l : L ≡ replicate (z .grains * 9 + z .cells * 33) 0
+    part-l = ap (midOf 6 listsLong) el ∙ lists-part
+
+    part-g : G ≡ replicate (z .grains * 6) fzero
+    part-g = ap (midOf 3 grainsLong) et ∙ grains-part
+
+    part-q : Q ≡ replicate (z .cells * (z .room * 4 + 1)) 0
+    part-q = ap (midOf 0 queueLong) eq ∙ queue-part
+
+    part-e : E ≡ replicate (z .cells * (z .room * 10)) fzero
+    part-e = ap (midOf 0 eventsLong) ee ∙ events-part
+
+    part-o : O ≡ orderBytes (startHeap (z .cells))
+    part-o = ap (midOf 0 (512 - 0)) eo ∙ order-part
+
+    world-held : (l : List ℕ) (t : List Float) (q : List ℕ) (e : List Float) (o : List ℕ) → Holds z l t q e o (clear b (z .room) (z .grains)) → Held z (worldAt b g fzero) l t q e o (clear b (z .room) (z .grains))
+    unfolding clear
+    world-held l t q e o H = record { listed = H .listed; seen = record { at = (refl, refl); grained = H .grained; queued = H .queued } }
+
+    pub begin-filling : Filling z (worldAt b g fzero) ni L G Q E O
+    begin-filling = record {
+      held = world-held L G Q E O
+          (cleared-held z b (S .cells-are) (S .laid .box) (S .room-least) (S .room-most) (S .grains-most) part-l part-g part-q part-e part-o);
+      placed = record { laid = S .laid; cells-are = sym (S .cells-are) };
+      inputs-long = S .inputs-long;
+    }
+
+    -- the parts put back, and the mark
+    module _ {l′ : List ℕ} {t′ : List Float} {q′ : List ℕ} {e′ : List Float} {o′ : List ℕ} (kl : length l′ ≡ length L) (kg : length t′ ≡ length G) (kq : length q′ ≡ length Q) (ke : length e′ ≡ length E) (ko : length o′ ≡ length O)
+        {r : ℕ} (a : Out State) (told : Says (Held z (worldAt b g fzero) l′ t′ q′ e′ o′) r a) where
+      abbrev end : State
+      end = marked (a .num) (a .st)
+
+      sizes-end : z ≡ sizesIn end
+      sizes-end =
+          let h = told .1 .seen in
+          λ i. record { grains = (sym (h .grained .many)) i; cells = (sym (h .queued .heap .cells-is)) i; room = (sym (h .queued .room-is)) i }
+
+      lists-end : set (putMid 6 listsLong l l′) 0 r ≡ over (listsHead (a .num) (sizesIn end) (end .box) ++ (flat rowNums (end .homes) ++ flat rowNums (end .members))) (replicate nl 0)
+      lists-end =
+          ap (λ (m : List ℕ). set (putMid 6 listsLong m l′) 0 r) el
+          ∙ ap (λ (m : List ℕ). set m 0 r) (over-put (listsHead 0 z b) l′ (replicate nl 0) 6 listsLong refl (kl ∙ ap length part-l ∙ length-replicate (z .grains * 9 + z .cells * 33) 0 ∙ (let k : z .grains * 9 + z .cells * 33 ≡ listsLong = omega arith in k)))
+          ∙ λ i. over (listsHead (told .0 i) (sizes-end i) (sym (told .1 .seen .at .0) i) ++ told .1 .listed .is i) (replicate nl 0)
+
+      grains-end : putMid 3 grainsLong t t′ ≡ over (grainsHead (end .box) (end .clock) ++ flat grainReals (end .grains)) (replicate ng fzero)
+      grains-end =
+          ap (λ (m : List Float). putMid 3 grainsLong m t′) et
+          ∙ over-put (grainsHead b fzero) t′ (replicate ng fzero) 3 grainsLong refl (kg ∙ ap length part-g ∙ length-replicate (z .grains * 6) fzero ∙ (let k : z .grains * 6 ≡ grainsLong = omega arith in k))
+          ∙ λ i. over (grainsHead (sym (told .1 .seen .at .0) i) (sym (told .1 .seen .at .1) i) ++ told .1 .seen .grained .is i) (replicate ng fzero)
+
+      queue-end : putMid 0 queueLong q q′ ≡ over (flat queueNums (end .queues)) (replicate nq 0)
+      queue-end =
+          ap (λ (m : List ℕ). putMid 0 queueLong m q′) eq
+          ∙ over-put [] q′ (replicate nq 0) 0 queueLong refl (kq ∙ ap length part-q ∙ length-replicate (z .cells * (z .room * 4 + 1)) 0 ∙ (let k : z .cells * (z .room * 4 + 1) ≡ queueLong = omega arith in k))
+          ∙ ap (λ (m : List ℕ). over m (replicate nq 0)) (told .1 .seen .queued .tables .queue-is)
+
+      events-end : putMid 0 eventsLong e e′ ≡ over (flat queueReals (end .queues)) (replicate ne fzero)
+      events-end =
+          ap (λ (m : List Float). putMid 0 eventsLong m e′) ee
+          ∙ over-put [] e′ (replicate ne fzero) 0 eventsLong refl (ke ∙ ap length part-e ∙ length-replicate (z .cells * (z .room * 10)) fzero ∙ (let k : z .cells * (z .room * 10) ≡ eventsLong = omega arith in k))
+          ∙ ap (λ (m : List Float). over m (replicate ne fzero)) (told .1 .seen .queued .tables .events-is)
+
+      order-end : putMid 0 (512 - 0) o o′ ≡ over (orderBytes (end .sched)) (replicate no 0)
+      order-end =
+          ap (λ (m : List ℕ). putMid 0 (512 - 0) m o′) eo
+          ∙ over-again (orderBytes (startHeap (z .cells))) o′ (replicate no 0) (512 - 0) order-full (ko ∙ ap length part-o ∙ order-full)
+          ∙ ap (λ (m : List ℕ). over m (replicate no 0)) (told .1 .seen .queued .heap .is)
+
+      pub begun : (tab : Tables) → length (tab .lists) ≡ nl → length (tab .grains) ≡ ng → length (tab .queue) ≡ nq → length (tab .events) ≡ ne → length (tab .order) ≡ no
+          → Began a r tab (tables (set (putMid 6 listsLong l l′) 0 r) (putMid 3 grainsLong t t′) (putMid 0 queueLong q q′) (putMid 0 eventsLong e e′) (putMid 0 (512 - 0) o o′))
+      unfolding encoded
+      begun tab p₁ p₂ p₃ p₄ p₅ = record {
+        number = told .0;
+        left =
+            (λ i. tables (lists-end i) (grains-end i) (queue-end i) (events-end i) (order-end i))
+            ∙ λ i. encoded end (tables (replicate (sym p₁ i) 0) (replicate (sym p₂ i) fzero) (replicate (sym p₃ i) 0) (replicate (sym p₄ i) fzero) (replicate (sym p₅ i) 0));
+      }

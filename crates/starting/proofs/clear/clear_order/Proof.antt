@@ -1,0 +1,50 @@
+-- `clear_order`: all places 0, and then the scheduler of the cells in front. Assumes nothing.
+use Prim.Native.Nat.{_-_}
+use mathlib.Core.Path.{refl, ap, _∙_}
+use mathlib.Core.List.{[]}
+use lib.ListN.{length, replicate}
+use borrow.Rule.Slice.PartMut.{putMid}
+use Rattle.tables.specs.Layout.{orderBytes}
+use Rattle.starting.proofs.Zeros.{start-long}
+use Rattle.checks.proofs.Over.{over-put}
+use Rattle.checks.specs.Encode.{over}
+use borrow.Author.Needs.{needs}
+use Rattle.starting.proofs.clear.clear_order.Statement.{statement}
+use Rattle.starting.proofs.clear.clear_order.Tie as tie
+
+clear-bytes-requires : tie.Need-clear-bytes-requires
+clear-bytes-requires c κs = search needs
+
+sub-store : tie.Need-sub-store
+sub-store c = search needs
+
+part-store-start : tie.Need-part-store-start
+part-store-start c = search needs
+
+part-store-end : tie.Need-part-store-end
+part-store-end c = search needs
+
+new-requires : tie.Need-new-requires
+new-requires c κs = search needs
+
+store-requires : tie.Need-store-requires
+store-requires c κs = search needs
+
+same-length : tie.Need-same-length
+same-length c = search needs
+
+returns : tie.Need-returns
+returns c = let b = c .before .before .before .before .before .before .before .before .before .before in let a = b .args in ap (λ m. putMid 0 (512 - 0) m (c .before .before .store .last .0)) (c .before .before .before .before .before .before .before .clear-bytes .ensures) ∙ over-put [] (c .before .before .store .last .0) (replicate (length (a .order .now)) 0) 0 512 refl (ap length (c .before .before .store .ensures ∙ ap orderBytes (c .before .before .before .new .ensures)) ∙ start-long (a .cells) (b .pre .1)) ∙ ap (λ m. over m (replicate (length (a .order .now)) 0)) (c .before .before .store .ensures ∙ ap orderBytes (c .before .before .before .new .ensures))
+
+pub clear-order-spec : {M : Type 1} → statement M
+clear-order-spec =
+    tie.close
+    (tie.spec
+    clear-bytes-requires
+    sub-store
+    part-store-start
+    part-store-end
+    new-requires
+    store-requires
+    same-length
+    returns)

@@ -1,0 +1,16 @@
+-- The sizes of a start's tables, and 01: "accepted start clears every table place to zero". Assumes nothing: these are definitions.
+use Prim.Native.Nat.{ℕ}
+use lib.ListN.{length, replicate}
+use Rattle.order.specs.Numbers.{fzero}
+use Rattle.model.specs.declared.Domain.{Domain}
+use Rattle.model.specs.Grid.{cells}
+use Rattle.tables.specs.declared.Sizes.{Sizes}
+use Rattle.checks.specs.Decode.{Tables, tables}
+
+abbrev pub sizesFor : Domain → ℕ → ℕ → Sizes
+sizesFor b n room = record { grains = n; cells = cells b; room = room }
+
+-- every place of every table, also beyond what the counts need
+abbrev pub cleared : Tables → Tables
+cleared t =
+    tables (replicate (length (t .lists)) 0) (replicate (length (t .grains)) fzero) (replicate (length (t .queue)) 0) (replicate (length (t .events)) fzero) (replicate (length (t .order)) 0)
