@@ -2,7 +2,7 @@
 ghost use mathlib.Core.Path.{_≡_};
 ghost use Prim.Native.Nat.{_+_, _*_, _≤_};
 ghost use lib.ListN.{length};
-ghost use Rattle.model.specs.Sizes.{rated};
+ghost use Rattle.model.specs.Sizes.{countsOk, rated};
 ghost use Rattle.model.specs.Check.{halt};
 ghost use Rattle.checks.specs.Decode.{tables, sizesOf, rowsOf};
 ghost use Rattle.checks.specs.Check.{lengthsFor, long, sizedBy, Sized, legibleBy, standing, listsNeed, grainsNeed, queueNeed};
@@ -28,6 +28,19 @@ pub fn sizes_of(lists: &[u64]) -> Sizes
         cells: lists[2] as usize,
         room: lists[3] as usize,
     }
+}
+
+// Are a start's counts of grains and of events a cell in range?
+pub fn counts_ok(grains: u64, room: u64) -> bool
+    ensures { λ r. ⌜ r ≡ countsOk room grains ⌝ }
+{
+    if 256 < grains {
+        return false;
+    }
+    if room < 16 {
+        return false;
+    }
+    room <= 256
 }
 
 // How long the tables must be for these counts; that of the heap always 512.

@@ -1,21 +1,19 @@
 -- What a start's refusals by 1 and 2 say of its counts, and the lengths that it needs. Assumes nothing.
-use Prim.Native.Nat.{ℕ, _+_, _*_, _≤_}
+use Prim.Native.Nat.{ℕ, _*_, _≤_}
 use mathlib.Core.Path.{_≡_, refl, sym, ap, _∙_, subst}
 use mathlib.Core.Bool.{Bool, true, false}
 use native.Mathlib.Omega.{arith}
-use native.Mathlib.Nat.{mul-le-mul}
-use lib.Dec.{leb}
-use borrow.Author.Tests.{leb-true}
 use Rattle.halting.specs.Out.{pick}
 use Rattle.model.specs.declared.Domain.{Domain}
 use Rattle.model.specs.Sizes.{boxOk, countsOk}
 use Rattle.model.specs.Grid.{cells}
-use Rattle.model.proofs.Queue.{and-l, and-r}
 use Rattle.model.proofs.Grid.{cells-max}
 use Rattle.cell.specs.declared.Grid.{Grid}
 use Rattle.cell.specs.Cell.{gridOf, Laid}
 use Rattle.starting.specs.Cleared.{sizesFor}
-use Rattle.simulator.proofs.StartLaws.{cells-counted}
+use Rattle.checks.specs.declared.Lengths.{Lengths}
+use Rattle.checks.specs.Check.{lengthsFor}
+use Rattle.simulator.proofs.StartLaws.{Counts, counts-mean, cells-counted}
 use Rattle.fesolopi.specs.Needed.{Needed, needed, neededBy, none, refusedBy, neededFor}
 
 -- ---- refused
@@ -37,11 +35,8 @@ module _ (b : Domain) (n room r : ℕ) (e : r ≡ refusedBy b n room) (z : r ≡
   pub laid : (g : Grid) → g ≡ gridOf b → Laid b g
   laid g f = record { box = both .0; grid = f }
 
-  pub few-grains : n ≤ 256
-  few-grains = leb-true _ _ (and-l (leb n 256) _ (both .1))
-
-  pub small-room : room ≤ 256
-  small-room = leb-true _ _ (and-r (leb 16 room) _ (and-r (leb n 256) _ (both .1)))
+  pub counts : Counts room n
+  counts = counts-mean room n (both .1)
 
   module _ (g : Grid) (c : ℕ) (f : g ≡ gridOf b) (k : c ≡ g .n0 * g .n1) where
     counted : c ≡ cells b
@@ -50,11 +45,7 @@ module _ (b : Domain) (n room r : ℕ) (e : r ≡ refusedBy b n room) (z : r ≡
     pub few-cells : c ≤ 256
     few-cells = subst (λ m. m ≤ 256) (sym counted) (cells-max b (both .0))
 
-    pub few-places : c * (room * 4 + 1) ≤ 256 * 1025
-    few-places = mul-le-mul {m₁ = room * 4 + 1} {n₂ = 256} {m₂ = 1025} few-cells (let h = small-room in omega (arith, h))
-
-    pub few-floats : c * (room * 10) ≤ 256 * 2560
-    few-floats = mul-le-mul {m₁ = room * 10} {n₂ = 256} {m₂ = 2560} few-cells (let h = small-room in omega (arith, h))
-
-    pub all-needed : neededBy n (record { grains = n; cells = c; room = room }) ≡ neededFor b n room
-    all-needed = ap (λ (m : ℕ). neededBy n (record { grains = n; cells = m; room = room })) counted ∙ rw (both .0, both .1)
+    pub all-needed : {l : Lengths} → l ≡ lengthsFor (record { grains = n; cells = c; room = room }) → needed 0 (n * 5) (l .lists) (l .grains) (l .queue) (l .events) 512 ≡ neededFor b n room
+    all-needed q =
+        ap (λ (l : Lengths). needed 0 (n * 5) (l .lists) (l .grains) (l .queue) (l .events) 512) q
+        ∙ ap (λ (m : ℕ). neededBy n (record { grains = n; cells = m; room = room })) counted ∙ rw (both .0, both .1)

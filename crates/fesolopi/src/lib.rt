@@ -15,6 +15,7 @@ use model::Report;
 use model::Started;
 use myvec::MyVec;
 use root::Root;
+use tables::Sizes;
 
 // A start. 0: accepted; 1, 2, 4: refused, and nothing is changed; 5 to 9: accepted and halted. Where it is 4, `grain` is the lowest bad grain.
 #[no_mangle]
@@ -161,13 +162,7 @@ fn refusal(domain: Domain, count: u64, room: u64) -> u64
     if !cell::box_ok(domain) {
         return 1;
     }
-    if 256 < count {
-        return 2;
-    }
-    if room < 16 {
-        return 2;
-    }
-    if 256 < room {
+    if !checks::counts_ok(count, room) {
         return 2;
     }
     0
@@ -206,12 +201,17 @@ pub extern "C" fn fesolopi_needed(
         return refused;
     }
     let grid = Grid::new(domain);
-    let cells = grid.cells() as u64;
+    let z = Sizes {
+        grains: count as usize,
+        cells: grid.cells(),
+        room: room as usize,
+    };
+    let need = checks::needed(z);
     *inputs = count * 5;
-    *lists = 6 + count * 9 + cells * 33;
-    *grains = 3 + count * 6;
-    *queue = cells * (room * 4 + 1);
-    *events = cells * (room * 10);
+    *lists = need.lists as u64;
+    *grains = need.grains as u64;
+    *queue = need.queue as u64;
+    *events = need.events as u64;
     *order = 512;
     0
 }

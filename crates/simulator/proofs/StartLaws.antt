@@ -1,5 +1,5 @@
 -- A start's answer and tables, by what its tests and its calls say. Assumes nothing.
-use Prim.Native.Nat.{ℕ, zero, suc, _*_}
+use Prim.Native.Nat.{ℕ, zero, suc, _*_, _≤_}
 use mathlib.Core.Path.{_≡_, refl, sym, ap, _∙_}
 use mathlib.Core.Bool.{Bool, true, false, _&&_}
 use mathlib.Core.List.{List}
@@ -28,6 +28,17 @@ use Rattle.starting.specs.Cleared.{sizesFor, cleared}
 use Rattle.simulator.specs.Start.{fits, with, byMark, leaving, startAll}
 use Rattle.starting.specs.Begin.{Startable, Began}
 
+-- ---- counts in range
+pub record Counts (room n : ℕ) : Type 0 where
+  pub grains-most : n ≤ 256
+  pub room-least : 16 ≤ room
+  pub room-most : room ≤ 256
+
+pub counts-mean : (room n : ℕ) → countsOk room n ≡ true → Counts room n
+counts-mean room n e =
+    let r = and-r (leb n 256) _ e in
+    record { grains-most = leb-true _ _ (and-l (leb n 256) _ e); room-least = leb-true _ _ (and-l (leb 16 room) _ r); room-most = leb-true _ _ (and-r (leb 16 room) _ r) }
+
 -- ---- what it is that checks 1 and 2 are passed
 module _ (z : Sizes) (ni nl ng nq ne no : ℕ) (e : fits z ni nl ng nq ne no ≡ true) where
   counts-pass : countsOk (z .room) (z .grains) ≡ true
@@ -44,16 +55,16 @@ module _ (z : Sizes) (ni nl ng nq ne no : ℕ) (e : fits z ni nl ng nq ne no ≡
 
   pub startable : (b : Domain) (g : Grid) → boxOk b ≡ true → g ≡ gridOf b → z .cells ≡ cells b → Startable z b g ni nl ng nq ne no
   startable b g box grid are =
-      let r = and-r (leb (z .grains) 256) _ counts-pass in
+      let k = counts-mean (z .room) (z .grains) counts-pass in
       let p = and-l (leb (listsNeed z) nl && leb (grainsNeed z) ng) _ long-pass in
       let q = and-r (leb (listsNeed z) nl && leb (grainsNeed z) ng) _ long-pass in
       let u = and-l (leb (queueNeed z) nq && leb (eventsNeed z) ne) _ q in
       record {
         laid = record { box = box; grid = grid };
         cells-are = are;
-        grains-most = leb-true _ _ (and-l (leb (z .grains) 256) _ counts-pass);
-        room-least = leb-true _ _ (and-l (leb 16 (z .room)) _ r);
-        room-most = leb-true _ _ (and-r (leb 16 (z .room)) _ r);
+        grains-most = k .grains-most;
+        room-least = k .room-least;
+        room-most = k .room-most;
         inputs-long = leb-true _ _ inputs-pass;
         lists-long = leb-true _ _ (and-l (leb (listsNeed z) nl) _ p);
         grains-long = leb-true _ _ (and-r (leb (listsNeed z) nl) _ p);

@@ -21,13 +21,7 @@ fn fits(
     requires { ⌜ z .cells ≤ 256 ⌝ }
     ensures { λ r. ⌜ r ≡ fitsIn z inputs lists grains queue events order ⌝ }
 {
-    if 256 < z.grains {
-        return false;
-    }
-    if z.room < 16 {
-        return false;
-    }
-    if 256 < z.room {
+    if !checks::counts_ok(z.grains as u64, z.room as u64) {
         return false;
     }
     if inputs < z.grains * 5 {

@@ -1,11 +1,11 @@
 -- `fesolopi_needed`: refused, or the lengths. Assumes nothing.
 use mathlib.Core.Bool.{true}
+use native.Mathlib.Omega.{arith}
+use borrow.Author.Needs.{needs}
 use Rattle.model.specs.Sizes.{boxOk, countsOk}
 use Rattle.starting.proofs.GoLaws.{grid-few}
 use Rattle.fesolopi.specs.Codes.{boxed}
-use Rattle.fesolopi.proofs.Lengths.{none-needed, laid, few-grains, small-room, few-cells, few-places, few-floats, all-needed}
-use native.Mathlib.Omega.{arith}
-use borrow.Author.Needs.{needs}
+use Rattle.fesolopi.proofs.Lengths.{none-needed, laid, counts, few-cells, all-needed}
 use Rattle.fesolopi.proofs.fesolopi_needed.Statement.{statement}
 use Rattle.fesolopi.proofs.fesolopi_needed.Tie as tie
 
@@ -19,46 +19,16 @@ new-requires : tie.Need-new-requires
 new-requires c κs = search needs
 
 cells-requires : tie.Need-cells-requires
-cells-requires c κs = grid-few _ _ (laid (boxed (c .before .before .before .args .l0) (c .before .before .before .args .l1) true true) (c .before .before .before .args .count) (c .before .before .before .args .room) (c .before .before .refusal .result) (c .before .before .refusal .ensures) (c .before .if1 .left) (c .new .result) (c .new .ensures))
+cells-requires c κs = let a = c .before .before .before .args in let r = c .before .before .refusal in grid-few _ _ (laid (boxed (a .l0) (a .l1) true true) (a .count) (a .room) (r .result) (r .ensures) (c .before .if1 .left) (c .new .result) (c .new .ensures))
+
+needed-requires : tie.Need-needed-requires
+needed-requires c κs = let a = c .before .before .before .before .args in let r = c .before .before .before .refusal in let k = counts (boxed (a .l0) (a .l1) true true) (a .count) (a .room) (r .result) (r .ensures) (c .before .before .if1 .left) in (k .grains-most, few-cells (boxed (a .l0) (a .l1) true true) (a .count) (a .room) (r .result) (r .ensures) (c .before .before .if1 .left) (c .before .new .result) (c .cells .result) (c .before .new .ensures) (c .cells .ensures), k .room-most)
 
 mul-inputs : tie.Need-mul-inputs
-mul-inputs c = let g = few-grains (boxed (c .before .before .before .before .args .l0) (c .before .before .before .before .args .l1) true true) (c .before .before .before .before .args .count) (c .before .before .before .before .args .room) (c .before .before .before .refusal .result) (c .before .before .before .refusal .ensures) (c .before .before .if1 .left) in omega (arith, g)
-
-mul-lists : tie.Need-mul-lists
-mul-lists c = let g = few-grains (boxed (c .before .before .before .before .args .l0) (c .before .before .before .before .args .l1) true true) (c .before .before .before .before .args .count) (c .before .before .before .before .args .room) (c .before .before .before .refusal .result) (c .before .before .before .refusal .ensures) (c .before .before .if1 .left) in omega (arith, g)
-
-add-lists : tie.Need-add-lists
-add-lists c = let g = few-grains (boxed (c .before .before .before .before .args .l0) (c .before .before .before .before .args .l1) true true) (c .before .before .before .before .args .count) (c .before .before .before .before .args .room) (c .before .before .before .refusal .result) (c .before .before .before .refusal .ensures) (c .before .before .if1 .left) in omega (arith, g)
-
-mul-lists-2 : tie.Need-mul-lists-2
-mul-lists-2 c = let k = few-cells (boxed (c .before .before .before .before .args .l0) (c .before .before .before .before .args .l1) true true) (c .before .before .before .before .args .count) (c .before .before .before .before .args .room) (c .before .before .before .refusal .result) (c .before .before .before .refusal .ensures) (c .before .before .if1 .left) (c .before .new .result) (c .cells .result) (c .before .new .ensures) (c .cells .ensures) in omega (arith, k)
-
-add-lists-2 : tie.Need-add-lists-2
-add-lists-2 c = let g = few-grains (boxed (c .before .before .before .before .args .l0) (c .before .before .before .before .args .l1) true true) (c .before .before .before .before .args .count) (c .before .before .before .before .args .room) (c .before .before .before .refusal .result) (c .before .before .before .refusal .ensures) (c .before .before .if1 .left) in let k = few-cells (boxed (c .before .before .before .before .args .l0) (c .before .before .before .before .args .l1) true true) (c .before .before .before .before .args .count) (c .before .before .before .before .args .room) (c .before .before .before .refusal .result) (c .before .before .before .refusal .ensures) (c .before .before .if1 .left) (c .before .new .result) (c .cells .result) (c .before .new .ensures) (c .cells .ensures) in omega (arith, g, k)
-
-mul-grains : tie.Need-mul-grains
-mul-grains c = let g = few-grains (boxed (c .before .before .before .before .args .l0) (c .before .before .before .before .args .l1) true true) (c .before .before .before .before .args .count) (c .before .before .before .before .args .room) (c .before .before .before .refusal .result) (c .before .before .before .refusal .ensures) (c .before .before .if1 .left) in omega (arith, g)
-
-add-grains : tie.Need-add-grains
-add-grains c = let g = few-grains (boxed (c .before .before .before .before .args .l0) (c .before .before .before .before .args .l1) true true) (c .before .before .before .before .args .count) (c .before .before .before .before .args .room) (c .before .before .before .refusal .result) (c .before .before .before .refusal .ensures) (c .before .before .if1 .left) in omega (arith, g)
-
-mul-queue : tie.Need-mul-queue
-mul-queue c = let r = small-room (boxed (c .before .before .before .before .args .l0) (c .before .before .before .before .args .l1) true true) (c .before .before .before .before .args .count) (c .before .before .before .before .args .room) (c .before .before .before .refusal .result) (c .before .before .before .refusal .ensures) (c .before .before .if1 .left) in omega (arith, r)
-
-add-queue : tie.Need-add-queue
-add-queue c = let r = small-room (boxed (c .before .before .before .before .args .l0) (c .before .before .before .before .args .l1) true true) (c .before .before .before .before .args .count) (c .before .before .before .before .args .room) (c .before .before .before .refusal .result) (c .before .before .before .refusal .ensures) (c .before .before .if1 .left) in omega (arith, r)
-
-mul-queue-2 : tie.Need-mul-queue-2
-mul-queue-2 c = let m = few-places (boxed (c .before .before .before .before .args .l0) (c .before .before .before .before .args .l1) true true) (c .before .before .before .before .args .count) (c .before .before .before .before .args .room) (c .before .before .before .refusal .result) (c .before .before .before .refusal .ensures) (c .before .before .if1 .left) (c .before .new .result) (c .cells .result) (c .before .new .ensures) (c .cells .ensures) in omega (arith, m)
-
-mul-events : tie.Need-mul-events
-mul-events c = let r = small-room (boxed (c .before .before .before .before .args .l0) (c .before .before .before .before .args .l1) true true) (c .before .before .before .before .args .count) (c .before .before .before .before .args .room) (c .before .before .before .refusal .result) (c .before .before .before .refusal .ensures) (c .before .before .if1 .left) in omega (arith, r)
-
-mul-events-2 : tie.Need-mul-events-2
-mul-events-2 c = let m = few-floats (boxed (c .before .before .before .before .args .l0) (c .before .before .before .before .args .l1) true true) (c .before .before .before .before .args .count) (c .before .before .before .before .args .room) (c .before .before .before .refusal .result) (c .before .before .before .refusal .ensures) (c .before .before .if1 .left) (c .before .new .result) (c .cells .result) (c .before .new .ensures) (c .cells .ensures) in omega (arith, m)
+mul-inputs c = let a = c .before .before .before .before .before .args in let r = c .before .before .before .before .refusal in let k = counts (boxed (a .l0) (a .l1) true true) (a .count) (a .room) (r .result) (r .ensures) (c .before .before .before .if1 .left) in omega (arith, k .grains-most)
 
 returns-2 : tie.Need-returns-2
-returns-2 c = all-needed (boxed (c .before .before .before .before .args .l0) (c .before .before .before .before .args .l1) true true) (c .before .before .before .before .args .count) (c .before .before .before .before .args .room) (c .before .before .before .refusal .result) (c .before .before .before .refusal .ensures) (c .before .before .if1 .left) (c .before .new .result) (c .cells .result) (c .before .new .ensures) (c .cells .ensures)
+returns-2 c = let a = c .before .before .before .before .before .args in let r = c .before .before .before .before .refusal in all-needed (boxed (a .l0) (a .l1) true true) (a .count) (a .room) (r .result) (r .ensures) (c .before .before .before .if1 .left) (c .before .before .new .result) (c .before .cells .result) (c .before .before .new .ensures) (c .before .cells .ensures) (c .needed .ensures)
 
 pub fesolopi-needed-spec : {M : Type 1} → statement M
 fesolopi-needed-spec =
@@ -68,16 +38,6 @@ fesolopi-needed-spec =
     returns
     new-requires
     cells-requires
+    needed-requires
     mul-inputs
-    mul-lists
-    add-lists
-    mul-lists-2
-    add-lists-2
-    mul-grains
-    add-grains
-    mul-queue
-    add-queue
-    mul-queue-2
-    mul-events
-    mul-events-2
     returns-2)

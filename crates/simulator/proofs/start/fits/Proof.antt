@@ -1,36 +1,33 @@
--- `fits`: count by count, then table by table. Assumes nothing.
-use borrow.Author.Tests.{le-leb, lt-leb}
+-- `fits`: the counts, then table by table. Assumes nothing.
+use mathlib.Core.Path.{sym, _∙_}
+use native.Mathlib.Omega.{arith}
+use borrow.Author.Tests.{not-true, not-false, le-leb, lt-leb}
 use Rattle.simulator.specs.Start.{fits}
+use Rattle.simulator.proofs.StartLaws.{counts-mean}
 use borrow.Author.Needs.{needs}
 use Rattle.simulator.proofs.start.fits.Statement.{statement}
 use Rattle.simulator.proofs.start.fits.Tie as tie
 
+counts-ok-requires : tie.Need-counts-ok-requires
+counts-ok-requires c κs = search needs
+
 returns : tie.Need-returns
 unfolding fits
-returns c = rw (lt-leb _ _ (c .if1 .taken))
+returns c = rw (sym (c .before .counts-ok .ensures) ∙ not-true _ (c .if1 .taken))
+
+mul-if2 : tie.Need-mul-if2
+mul-if2 c = let z = c .before .before .before .args .z in let h = counts-mean (z .room) (z .grains) (sym (c .before .before .counts-ok .ensures) ∙ not-false _ (c .before .if1 .left)) .grains-most in omega (arith, h)
 
 returns-2 : tie.Need-returns-2
 unfolding fits
-returns-2 c = rw (le-leb _ _ (c .before .before .if1 .left), lt-leb _ _ (c .if2 .taken))
+returns-2 c = rw (sym (c .before .before .before .counts-ok .ensures) ∙ not-false _ (c .before .before .if1 .left), lt-leb _ _ (c .if2 .taken))
+
+long-requires : tie.Need-long-requires
+long-requires c κs = let z = c .before .before .before .before .args .z in let k = counts-mean (z .room) (z .grains) (sym (c .before .before .before .counts-ok .ensures) ∙ not-false _ (c .before .before .if1 .left)) in (k .grains-most, c .before .before .before .before .pre, k .room-most)
 
 returns-3 : tie.Need-returns-3
 unfolding fits
-returns-3 c = rw (le-leb _ _ (c .before .before .before .before .if1 .left), le-leb _ _ (c .before .before .if2 .left), lt-leb _ _ (c .if3 .taken))
-
-mul-if4 : tie.Need-mul-if4
-mul-if4 c = search needs
-
-returns-4 : tie.Need-returns-4
-unfolding fits
-returns-4 c = rw (le-leb _ _ (c .before .before .before .before .before .before .if1 .left), le-leb _ _ (c .before .before .before .before .if2 .left), le-leb _ _ (c .before .before .if3 .left), lt-leb _ _ (c .if4 .taken))
-
-long-requires : tie.Need-long-requires
-long-requires c κs = let b = c .before .before .before .before .before .before .before .before in (c .before .before .before .before .before .before .if1 .left, b .pre, c .before .before .if3 .left)
-
-returns-5 : tie.Need-returns-5
-unfolding fits
-returns-5 c = rw (le-leb _ _ (c .before .before .before .before .before .before .before .if1 .left), le-leb _ _ (c .before .before .before .before .before .if2 .left), le-leb _ _ (c .before .before .before .if3 .left), le-leb _ _ (c .before .if4 .left)) (c .long .ensures)
+returns-3 c = rw (sym (c .before .before .before .before .counts-ok .ensures) ∙ not-false _ (c .before .before .before .if1 .left), le-leb _ _ (c .before .if2 .left)) (c .long .ensures)
 
 pub fits-spec : {M : Type 1} → statement M
-fits-spec =
-    tie.close (tie.spec returns returns-2 returns-3 mul-if4 returns-4 long-requires returns-5)
+fits-spec = tie.close (tie.spec counts-ok-requires returns mul-if2 returns-2 long-requires returns-3)
