@@ -6,12 +6,11 @@ use mathlib.Core.List.{List, [], _∷_, _++_}
 use lib.ListN.{length, getD, length-append}
 use lib.Ieee.{Float}
 use Rattle.chunks.specs.Flat.{flat}
-use Rattle.chunks.proofs.Laws.{every-of}
 use Rattle.model.specs.declared.Place.{Place}
 use Rattle.model.specs.State.{Row, none, State, listed}
 use Rattle.model.specs.Grid.{cells}
 use Rattle.model.specs.Sound.{Sound, Held, Queue}
-use Rattle.model.proofs.Queue.{all-to}
+use Rattle.halting.proofs.All.{all-to, all-of}
 use Rattle.tables.specs.declared.Sizes.{Sizes}
 use Rattle.tables.specs.Layout.{queueNums, queueReals, orderBytes}
 use Rattle.tables.specs.Holds.{Good, Ranged, Tabled, Heaped, Queued}
@@ -37,7 +36,7 @@ module _ {z : Sizes} (s : State) (k : Sound s) (eg : length (s .grains) ≡ z .g
       queue-is = en;
       events-is = ef;
       many = k .long ∙ ec;
-      good = every-of (Good (z .room)) none (s .queues)
+      good = all-of (Good (z .room)) none (s .queues)
           (λ c h. subst (λ (n : ℕ). Good n (getD (s .queues) c none)) er (good-of (cells (s .box)) c (listed s c) (getD (s .queues) c none) (k .queues c (omega (arith, k .long)))));
     };
     heap = record { is = eo; heap-long = k .heap .inverse .heap-long; lookups-long = k .heap .inverse .lookups-long; cells-is = k .heap .cells ∙ ec };

@@ -7,16 +7,17 @@ use mathlib.Core.List.{List, [], _∷_, _++_, append-nil}
 use mathlib.Core.Bool.{true, false}
 use lib.ListN.{length, getD, set, replicate, length-append, length-replicate}
 use lib.Ieee.{Float, lt}
+use lib.Ieee.Bits.{is-true}
 use borrow.Rule.Slice.PartMut.{midOf, putMid}
-use Rattle.chunks.specs.Flat.{flat, Every}
+use Rattle.chunks.specs.Flat.{flat}
 use Rattle.chunks.proofs.Laws.{mid-tail, put-tail}
 use Rattle.order.specs.Numbers.{last}
 use Rattle.order.proofs.Compare.{lt-asym}
 use Rattle.model.specs.declared.Place.{Place}
 use Rattle.model.specs.Events.{insertBy, keepBy, goneBy, zeroP, headPlace, finePlace}
 use Rattle.model.specs.State.{Row, row}
-use Rattle.model.specs.Standing.{All}
-use Rattle.model.proofs.Queue.{of-T, fine-top, all-insert, all-keep, length-insert, length-keep}
+use Rattle.halting.specs.Every.{All}
+use Rattle.model.proofs.Queue.{fine-top, all-insert, all-keep, length-insert, length-keep}
 use Rattle.tables.specs.Layout.{places, placeNums, placeReals}
 use Rattle.tables.specs.Holds.{Run, InRow, Good}
 use Rattle.tables.proofs.Runs.{nums-long, reals-long}
@@ -80,17 +81,17 @@ take-row n (y ∷ live) spare en got pulled h l =
 abbrev pub Top : Place → Type 0
 Top p = lt last (p .time) ≡ false
 
--- the model's `All` and the tables' `Every` say the same
-every-all : (l : List Place) → Every Top l → All Top l
+-- the model's `All` and the tables' `All` say the same
+every-all : (l : List Place) → All Top l → All Top l
 every-all [] v = tt
 every-all (x ∷ xs) v = (v .0, every-all xs (v .1))
 
-pub all-every : (l : List Place) → All Top l → Every Top l
+pub all-every : (l : List Place) → All Top l → All Top l
 all-every [] a = tt
 all-every (x ∷ xs) a = (a .0, all-every xs (a .1))
 
 pub fine-low : (e : Place) → finePlace e ≡ true → Top e
-fine-low e h = lt-asym (e .time) last (of-T (lt (e .time) last) (fine-top e h))
+fine-low e h = lt-asym (e .time) last (is-true (lt (e .time) last) (fine-top e h))
 
 pub good-placed : {room : ℕ} (e : Place) (live spare : List Place) → Good room (row live spare) → finePlace e ≡ true → length live < room → Good room (placed e (row live spare))
 good-placed e live [] g f l = let k = ap length (append-nil live) in let m = g .full in absurd (omega arith)

@@ -13,10 +13,10 @@ use Rattle.halting.specs.Out.{pick}
 use Rattle.model.specs.declared.Place.{Place}
 use Rattle.model.specs.Sizes.{rated}
 use Rattle.model.specs.State.{none}
-use Rattle.model.specs.Standing.{All}
+use Rattle.halting.specs.Every.{All}
 use Rattle.model.specs.Check.{halt, Fitted}
 use Rattle.model.specs.Check as model
-use Rattle.model.proofs.Queue.{and-l, and-r}
+use Rattle.halting.proofs.Bools.{and-l, and-r}
 use Rattle.model.proofs.Halts.{halt-range}
 use Rattle.model.proofs.Stands.{stands}
 use Rattle.model.proofs.Reflect.{says-standing}

@@ -11,7 +11,8 @@ use lib.ListN.{length, getD, drop, length-append, List·getD-eq-default}
 use lib.Seq.{drop-at}
 use lib.Ieee.{Float, binary64, fits}
 use borrow.Author.Tests.{le-leb, lt-leb}
-use Rattle.chunks.specs.Flat.{flat, Every}
+use Rattle.halting.specs.Every.{All}
+use Rattle.chunks.specs.Flat.{flat}
 use Rattle.model.specs.declared.Place.{Place}
 use Rattle.model.specs.Grid.{cells}
 use Rattle.model.specs.Sizes.{rated}
@@ -32,7 +33,7 @@ use Rattle.checks.proofs.Stages.{means-sized, check-0}
 
 -- ---- counts of rows that are written are within their room
 module _ {A : Type 0} (enc : A → List ℕ) (v w : ℕ) (P : A → Type 0) (long : (x : A) → P x → length (enc x) ≡ w) (few : (x : A) (y : List ℕ) → P x → getD (enc x ++ y) 0 0 ≤ v) where
-  counted-flat : (n : ℕ) (xs : List A) (y : List ℕ) → length xs ≡ n → Every P xs → counted v w n (flat enc xs ++ y) ≡ true
+  counted-flat : (n : ℕ) (xs : List A) (y : List ℕ) → length xs ≡ n → All P xs → counted v w n (flat enc xs ++ y) ≡ true
   unfolding counted
   counted-flat zero xs y e f = refl
   counted-flat (suc n) [] y e f = absurd (suc-ne-zero n (sym e))

@@ -8,7 +8,8 @@ use mathlib.Core.List.{List, [], _∷_, _++_, append-assoc}
 use lib.ListN.{length, take, drop, take-append-drop}
 use lib.Seq.{take-at, drop-at, drop-drop}
 use lib.Ieee.{Float}
-use Rattle.chunks.specs.Flat.{flat, Every}
+use Rattle.halting.specs.Every.{All}
+use Rattle.chunks.specs.Flat.{flat}
 use Rattle.chunks.proofs.Laws.{length-flat}
 use Rattle.scheduler.specs.declared.Scheduler.{Scheduler}
 use Rattle.model.specs.declared.Domain.{Domain}
@@ -24,7 +25,7 @@ use Rattle.checks.specs.Held.{Hold}
 
 -- ---- records that are written are read back, whatever follows them
 module _ {A B : Type 0} (read : List B → A) (enc : A → List B) (w : ℕ) (again : (x : A) (y : List B) → length (enc x) ≡ w → read (enc x ++ y) ≡ x) where
-  cut-back : (n : ℕ) (xs : List A) (y : List B) → length xs ≡ n → Every (λ (x : A). length (enc x) ≡ w) xs → cut read w n (flat enc xs ++ y) ≡ xs
+  cut-back : (n : ℕ) (xs : List A) (y : List B) → length xs ≡ n → All (λ (x : A). length (enc x) ≡ w) xs → cut read w n (flat enc xs ++ y) ≡ xs
   unfolding cut
   cut-back zero [] y e v = refl
   cut-back zero (x ∷ xs) y e v = absurd (suc-ne-zero (length xs) e)
@@ -36,7 +37,7 @@ module _ {A B : Type 0} (read : List B → A) (enc : A → List B) (w : ℕ) (ag
 
 module _ {A B C : Type 0} (read : List B → List C → A) (enc : A → List B) (enc′ : A → List C) (w v : ℕ) (P : A → Type 0)
     (long : (x : A) → P x → length (enc x) ≡ w) (long′ : (x : A) → P x → length (enc′ x) ≡ v) (again : (x : A) (y : List B) (z : List C) → P x → read (enc x ++ y) (enc′ x ++ z) ≡ x) where
-  both-back : (n : ℕ) (xs : List A) (y : List B) (z : List C) → length xs ≡ n → Every P xs → cutBoth read w v n (flat enc xs ++ y) (flat enc′ xs ++ z) ≡ xs
+  both-back : (n : ℕ) (xs : List A) (y : List B) (z : List C) → length xs ≡ n → All P xs → cutBoth read w v n (flat enc xs ++ y) (flat enc′ xs ++ z) ≡ xs
   unfolding cutBoth
   both-back zero [] y z e f = refl
   both-back zero (x ∷ xs) y z e f = absurd (suc-ne-zero (length xs) e)
@@ -61,7 +62,7 @@ nums-back v r y e = ap (rowOf (length (r .live))) (take-at (places r) y v (let a
 abbrev All′ : Place → Type 0
 All′ p = Unit {0}
 
-all-units : (ps : List Place) → Every All′ ps
+all-units : (ps : List Place) → All All′ ps
 all-units [] = tt
 all-units (p ∷ ps) = (tt, all-units ps)
 
@@ -72,14 +73,14 @@ module _ (room : ℕ) (r : Row Place) (f : length (places r) ≡ room) where
   wide-nums : (ps : List Place) → length (flat placeNums ps) ≡ length ps * 4
   wide-nums ps = length-flat placeNums 4 ps (each ps)
     where
-      each : (ps : List Place) → Every (λ (p : Place). length (placeNums p) ≡ 4) ps
+      each : (ps : List Place) → All (λ (p : Place). length (placeNums p) ≡ 4) ps
       each [] = tt
       each (p ∷ ps) = (refl, each ps)
 
   wide-reals : (ps : List Place) → length (flat placeReals ps) ≡ length ps * 10
   wide-reals ps = length-flat placeReals 10 ps (each ps)
     where
-      each : (ps : List Place) → Every (λ (p : Place). length (placeReals p) ≡ 10) ps
+      each : (ps : List Place) → All (λ (p : Place). length (placeReals p) ≡ 10) ps
       each [] = tt
       each (p ∷ ps) = (refl, each ps)
 
@@ -93,7 +94,7 @@ module _ (room : ℕ) (r : Row Place) (f : length (places r) ≡ room) where
   queue-back y z = ap (rowOf (length (r .live))) (places-back room (places r) y z f) ∙ row-back r
 
 -- ---- the parts
-pub row-wide : (k : ℕ) (rs : List (Row ℕ)) → Every (λ (r : Row ℕ). length (places r) ≡ k) rs → Every (λ (r : Row ℕ). length (rowNums r) ≡ k + 1) rs
+pub row-wide : (k : ℕ) (rs : List (Row ℕ)) → All (λ (r : Row ℕ). length (places r) ≡ k) rs → All (λ (r : Row ℕ). length (rowNums r) ≡ k + 1) rs
 row-wide k [] v = tt
 row-wide k (r ∷ rs) v = (ap suc (v .0) ∙ sym (add-one k), row-wide k rs (v .1))
 
@@ -103,11 +104,11 @@ rows-back k {m = m} rs y R = cut-back (rowAt k) rowNums (k + 1) (nums-back k) m 
 grains-back : (n : ℕ) (gs : List Particle) (y : List Float) → length gs ≡ n → grainsOf n (flat grainReals gs ++ y) ≡ gs
 grains-back n gs y e = cut-back grainAt grainReals 6 (λ p y e. refl) n gs y e (each gs)
   where
-    each : (gs : List Particle) → Every (λ (p : Particle). length (grainReals p) ≡ 6) gs
+    each : (gs : List Particle) → All (λ (p : Particle). length (grainReals p) ≡ 6) gs
     each [] = tt
     each (p ∷ gs) = (refl, each gs)
 
-queues-back : (room n : ℕ) (qs : List (Row Place)) (y : List ℕ) (z : List Float) → length qs ≡ n → Every (Good room) qs → queuesOf room n (flat queueNums qs ++ y) (flat queueReals qs ++ z) ≡ qs
+queues-back : (room n : ℕ) (qs : List (Row Place)) (y : List ℕ) (z : List Float) → length qs ≡ n → All (Good room) qs → queuesOf room n (flat queueNums qs ++ y) (flat queueReals qs ++ z) ≡ qs
 queues-back room n qs y z e f =
     both-back (queueAt room) queueNums queueReals (room * 4 + 1) (room * 10) (Good room) (λ r g. long-nums room r (g .full)) (λ r g. long-reals room r (g .full)) (λ r y z g. queue-back room r (g .full) y z) n qs y z e f
 

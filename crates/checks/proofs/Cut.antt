@@ -10,7 +10,7 @@ use lib.ListN.{length, getD, take, drop, length-drop}
 use lib.Seq.{take-all, drop-drop}
 use borrow.Author.Tests.{leb-true, le-leb, lt-leb}
 use borrow.Rule.Slice.PartMut.{midOf}
-use Rattle.model.proofs.Queue.{and-l, and-r}
+use Rattle.halting.proofs.Bools.{and-l, and-r}
 use Rattle.checks.specs.Decode.{cut, cutBoth}
 use Rattle.checks.specs.Check.{counted}
 use Rattle.checks.specs.Walk.{Rowed, First}

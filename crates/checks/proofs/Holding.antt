@@ -10,17 +10,18 @@ use lib.Dec.{eqb}
 use lib.ListN.{length, getD, take, drop, length-append, length-drop, take-append-drop}
 use lib.Seq.{take-add, drop-drop, drop-cons, length-take-le}
 use lib.Ieee.{Float, nan, lt}
+use lib.Ieee.Bits.{is-true}
 use borrow.Author.Tests.{eq-eqb}
-use Rattle.chunks.specs.Flat.{flat, Every}
-use Rattle.chunks.proofs.Laws.{every-of}
+use Rattle.chunks.specs.Flat.{flat}
+use Rattle.halting.proofs.All.{all-of}
 use Rattle.order.specs.Numbers.{last}
 use Rattle.order.proofs.Compare.{lt-asym}
 use Rattle.model.specs.declared.Place.{Place}
 use Rattle.model.specs.Grid.{cells}
 use Rattle.model.specs.State.{Row, none, listed, has}
-use Rattle.model.specs.Standing.{All}
+use Rattle.halting.specs.Every.{All}
 use Rattle.model.specs.Sound.{Held, Numbers, Side, Stands}
-use Rattle.model.proofs.Queue.{of-T, fine-top}
+use Rattle.model.proofs.Queue.{fine-top}
 use Rattle.tables.specs.declared.Sizes.{Sizes}
 use Rattle.tables.specs.Layout.{places, grainReals, rowNums, placeNums, placeReals, queueNums, queueReals}
 use Rattle.tables.specs.Holds.{Grained, Rows, Listed, Good, Tabled, Heaped, Holds}
@@ -117,7 +118,7 @@ module _ (room : ℕ) (q : List ℕ) (e : List Float) (h : getD q 0 0 ≤ room) 
   queue-reals : room * 10 ≤ length e → queueReals (queueAt room q e) ≡ take (room * 10) e
   queue-reals k = ap (flat placeReals) all-places ∙ places-reals room (drop 1 q) e k
 
-has-every : (P : ℕ → Type 0) (l : List ℕ) → ((x : ℕ) → has x l ≡ true → P x) → Every P l
+has-every : (P : ℕ → Type 0) (l : List ℕ) → ((x : ℕ) → has x l ≡ true → P x) → All P l
 unfolding has
 has-every P [] f = tt
 has-every P (y ∷ ys) f = (f y (rw (eq-eqb y y refl)), has-every P ys (λ x h. f x (more (eqb x y) (has x ys) h)))
@@ -126,9 +127,9 @@ has-every P (y ∷ ys) f = (f y (rw (eq-eqb y y refl)), has-every P ys (λ x h. 
     more true b e = refl
     more false b e = e
 
-held-tops : (n c : ℕ) (l : List ℕ) (ps : List Place) → All (Held n c l) ps → Every (λ (p : Place). lt last (p .time) ≡ false) ps
+held-tops : (n c : ℕ) (l : List ℕ) (ps : List Place) → All (Held n c l) ps → All (λ (p : Place). lt last (p .time) ≡ false) ps
 held-tops n c l [] a = tt
-held-tops n c l (p ∷ ps) a = (lt-asym (p .time) last (of-T (lt (p .time) last) (fine-top p (a .0 .fine))), held-tops n c l ps (a .1))
+held-tops n c l (p ∷ ps) a = (lt-asym (p .time) last (is-true (lt (p .time) last) (fine-top p (a .0 .fine))), held-tops n c l ps (a .1))
 
 -- a side of the lists
 pub side-rows : (k : ℕ) (rs : List (Row ℕ)) {a b m n : ℕ} → a ≡ m → b ≡ n → Side a b k rs → Rows m k n rs
@@ -140,8 +141,8 @@ side-rows k rs {m = m} {n = n} p q u = rows (rw (p, q) at u)
     rows : Side m n k rs → Rows m k n rs
     rows s = record {
       many = s .long;
-      wide = every-of (λ (r : Row ℕ). length (places r) ≡ k) none rs (λ i h. wide (getD rs i none) (s .each i (let e = s .long in omega arith)));
-      below = every-of (λ (r : Row ℕ). Every (λ (x : ℕ). x < n) (r .live)) none rs
+      wide = all-of (λ (r : Row ℕ). length (places r) ≡ k) none rs (λ i h. wide (getD rs i none) (s .each i (let e = s .long in omega arith)));
+      below = all-of (λ (r : Row ℕ). All (λ (x : ℕ). x < n) (r .live)) none rs
           (λ i h. has-every (λ (x : ℕ). x < n) ((getD rs i none) .live) (s .each i (let e = s .long in omega arith) .below));
     }
 
@@ -198,7 +199,7 @@ module _ (z : Sizes) (t : Tables) (S : Sized z t) (L : Legible z (t .lists) (t .
         events-is = sym (both-second (queueAt (z .room)) w v queueReals (z .cells) (t .queue) (t .events)
             (λ i h. queue-reals (z .room) (drop (i * w) (t .queue)) (drop (i * v) (t .events)) (counted-at (z .room) w (z .cells) (t .queue) i (L .events) h) (inside (z .cells) v i (t .events) (S .events-long) h)));
         many = many;
-        good = every-of (Good (z .room)) none qs (λ i h. good i (let e = cells-agree in omega arith));
+        good = all-of (Good (z .room)) none qs (λ i h. good i (let e = cells-agree in omega arith));
       }
     where
       good : (i : ℕ) → i < cells ((decodedBy z t) .box) → Good (z .room) (getD ((decodedBy z t) .queues) i none)

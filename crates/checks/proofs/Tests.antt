@@ -18,7 +18,8 @@ use Rattle.model.specs.Acts.{fineGrain}
 use Rattle.model.specs.State.{Row}
 use Rattle.model.specs.Standing.{syncs}
 use Rattle.model.specs.Check.{inverse}
-use Rattle.model.proofs.Queue.{T-of, and-l, and-r}
+use Rattle.halting.proofs.Bools.{and-l, and-r}
+use Rattle.model.proofs.Queue.{T-of}
 use Rattle.model.proofs.Grid.{cells-range}
 use Rattle.tables.specs.declared.Sizes.{Sizes}
 use Rattle.checks.specs.Decode.{grainAt, placesOf, queuesOf}

@@ -10,7 +10,7 @@ use Rattle.halting.specs.Out.{pick}
 use Rattle.model.specs.declared.Domain.{Domain}
 use Rattle.model.specs.Sizes.{boxOk, countsOk}
 use Rattle.model.specs.Grid.{cells}
-use Rattle.model.proofs.Queue.{and-l, and-r}
+use Rattle.halting.proofs.Bools.{and-l, and-r}
 use Rattle.model.proofs.Grid.{cells-max}
 use Rattle.cell.specs.declared.Grid.{Grid}
 use Rattle.cell.specs.Cell.{gridOf, Laid}

@@ -9,6 +9,7 @@ use lib.Dec.{T, eqb}
 use lib.ListN.{length, getD, set, drop, length-set, List·getD-eq-default}
 use lib.Ieee.{Float, binary64, ofBits, le, lt, isNan, fits}
 use lib.Ieee.Scale.{finite}
+use lib.Ieee.Bits.{is-true, is-false}
 use borrow.Author.Tests.{eq-eqb, ne-eqb}
 use Rattle.model.specs.declared.Particle.{Particle}
 use Rattle.model.specs.declared.Place.{Place}
@@ -27,11 +28,14 @@ use Rattle.model.specs.Grid.{cells}
 use Rattle.model.specs.Events.{names, eventOf, headTime, headPlace, zeroP}
 use Rattle.model.specs.State.{Row, row, none, State, zeroG, grain, home, listed, queue, heads, has, requeued, withClock, withGrains}
 use Rattle.model.specs.Acts.{fineGrain, store, insert, cancelled, enter, entered, leave, gone, first, head, taken, queueRow}
-use Rattle.model.specs.Standing.{Rising, All}
+use Rattle.halting.specs.Every.{All}
+use Rattle.model.specs.Standing.{Rising}
 use Rattle.model.specs.Sound.{Named, Held, Queue, Heap, Grain, Sound}
-use Rattle.model.proofs.Lists.{clash, set-every, live-same, live-other, has-entered, has-left, lists-enter, lists-leave}
+use Rattle.halting.proofs.Bools.{clash}
+use Rattle.model.proofs.Lists.{set-every, live-same, live-other, has-entered, has-left, lists-enter, lists-leave}
 use Rattle.model.proofs.Cases.{store-case, insert-case, enter-case, leave-case}
-use Rattle.model.proofs.Queue.{T-of, of-T, not-of-T, fine-top, fine-finite, fine-real, all-to, all-both, queue-insert, queue-cancel}
+use Rattle.halting.proofs.All.{all-to, all-both}
+use Rattle.model.proofs.Queue.{T-of, fine-top, fine-finite, fine-real, queue-insert, queue-cancel}
 
 -- ---- head times
 fmax-real : isNan last ≡ false
@@ -41,11 +45,11 @@ fmax-real = refl
 module _ (n c : ℕ) (m : List ℕ) where
   head-real : (l : List Place) → All (Held n c m) l → isNan (headTime l) ≡ false
   head-real [] a = fmax-real
-  head-real (x ∷ xs) a = not-of-T _ (fine-real x (a .0 .fine))
+  head-real (x ∷ xs) a = is-false _ (fine-real x (a .0 .fine))
 
   head-top : (l : List Place) → All (Held n c m) l → lt last (headTime l) ≡ false
   head-top [] a = lt-irrefl last
-  head-top (x ∷ xs) a = lt-asym (x .time) last (of-T _ (fine-top x (a .0 .fine)))
+  head-top (x ∷ xs) a = lt-asym (x .time) last (is-true _ (fine-top x (a .0 .fine)))
 
 module _ (s : State) (sound : Sound s) where
   abbrev N : ℕ

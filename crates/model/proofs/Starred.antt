@@ -31,7 +31,7 @@ use Rattle.model.specs.Moves.{later, toNeighbour, outOfCell}
 use Rattle.model.specs.Walls.{wall}
 use Rattle.model.specs.Events.{zeroV, placeOf, insertBy}
 use Rattle.model.specs.Start.{Begun, refused, started, start}
-use Rattle.model.specs.Standing.{All}
+use Rattle.halting.specs.Every.{All}
 use Rattle.model.specs.Check.{all}
 
 -- ---- what an example says: one or more equations, between numbers, lists of them, floats, tests, or times

@@ -10,7 +10,7 @@ use mathlib.Core.Bool.{Bool, true, false, not, _&&_, _||_, Bool·beq}
 use lib.IntN.{ℤ, pos}
 use lib.Dec.{T, leb, ltb, eqb, leb→le, le→leb, ltb→lt, lt→ltb, nltb→le, nleb→lt, eqb→eq, eqb-refl, T-not, not-T}
 use lib.Ieee.{Float, nan, inf, fin, up, down, below, level, lt, eq, le, isNan}
-use lib.Ieee.Fits.{up-pos, down-pos, eq→eqb}
+use lib.Ieee.Fits.{up-pos, down-pos, and-i, and-l, and-r, eq→eqb}
 use lib.Ieee.Bits.{is-true, is-false}
 
 -- ---- signed magnitudes: ±a ≤ ±b, where -0 equals +0
@@ -67,26 +67,14 @@ pub or-r : (a b : Bool) → T b → T (a || b)
 or-r true b t = tt
 or-r false b t = t
 
-and-1 : (a b : Bool) → T (a && b) → T a
-and-1 true b t = tt
-and-1 false b t = t
-
-and-2 : (a b : Bool) → T (a && b) → T b
-and-2 true b t = t
-and-2 false b t = absurd t
-
-and-12 : (a b : Bool) → T a → T b → T (a && b)
-and-12 true b t u = u
-and-12 false b t u = t
-
 test→leq : (s : Bool) (a : ℕ) (t : Bool) (b : ℕ) → T (below s a t b || level s a t b) → Leq s a t b
-test→leq false a false b h = elim (or-case (ltb a b) (eqb a b && true) h) [ inl p ↦ le-of-lt (ltb→lt a b p) | inr q ↦ le-of-eq (eqb→eq a b (and-1 (eqb a b) true q)) ]
+test→leq false a false b h = elim (or-case (ltb a b) (eqb a b && true) h) [ inl p ↦ le-of-lt (ltb→lt a b p) | inr q ↦ le-of-eq (eqb→eq a b (and-l (eqb a b) true q)) ]
 test→leq false a true b h =
-    let p : a ≡ b = eqb→eq a b (and-1 (eqb a b) (eqb a 0) h) in
-    let q : a ≡ 0 = eqb→eq a 0 (and-2 (eqb a b) (eqb a 0) h) in
+    let p : a ≡ b = eqb→eq a b (and-l (eqb a b) (eqb a 0) h) in
+    let q : a ≡ 0 = eqb→eq a 0 (and-r (eqb a b) (eqb a 0) h) in
     omega arith
 test→leq true a false b h = tt
-test→leq true a true b h = elim (or-case (ltb b a) (eqb a b && true) h) [ inl p ↦ le-of-lt (ltb→lt b a p) | inr q ↦ le-of-eq (sym (eqb→eq a b (and-1 (eqb a b) true q))) ]
+test→leq true a true b h = elim (or-case (ltb b a) (eqb a b && true) h) [ inl p ↦ le-of-lt (ltb→lt b a p) | inr q ↦ le-of-eq (sym (eqb→eq a b (and-l (eqb a b) true q))) ]
 
 zero-both : (a b : ℕ) → a + b ≤ 0 → (a ≡ b) × (a ≡ 0)
 zero-both a b h = (omega arith, omega arith)
@@ -95,14 +83,14 @@ nothing-below : (a b : ℕ) → b + a ≤ 0 → (a ≡ b) × (a ≡ 0)
 nothing-below a b h = (omega arith, omega arith)
 
 leq→test : (s : Bool) (a : ℕ) (t : Bool) (b : ℕ) → Leq s a t b → T (below s a t b || level s a t b)
-leq→test false a false b h = elim (eq-or-lt-of-le h) [ inl p ↦ or-r (ltb a b) (eqb a b && true) (and-12 (eqb a b) true (eq→eqb p) tt) | inr q ↦ or-l (ltb a b) (eqb a b && true) (lt→ltb a b q) ]
-leq→test false a true b h = let z = zero-both a b h in and-12 (eqb a b) (eqb a 0) (eq→eqb (z .0)) (eq→eqb (z .1))
+leq→test false a false b h = elim (eq-or-lt-of-le h) [ inl p ↦ or-r (ltb a b) (eqb a b && true) (and-i (eqb a b) true (eq→eqb p) tt) | inr q ↦ or-l (ltb a b) (eqb a b && true) (lt→ltb a b q) ]
+leq→test false a true b h = let z = zero-both a b h in and-i (eqb a b) (eqb a 0) (eq→eqb (z .0)) (eq→eqb (z .1))
 leq→test true a false b h = go (ltb 0 (a + b)) (nltb→le 0 (a + b))
   where
     go : (c : Bool) → (T (not c) → a + b ≤ 0) → T (c || (eqb a b && (false || eqb a 0)))
     go true k = tt
-    go false k = let z = zero-both a b (k tt) in and-12 (eqb a b) (eqb a 0) (eq→eqb (z .0)) (eq→eqb (z .1))
-leq→test true a true b h = elim (eq-or-lt-of-le h) [ inl p ↦ or-r (ltb b a) (eqb a b && true) (and-12 (eqb a b) true (eq→eqb (sym p)) tt) | inr q ↦ or-l (ltb b a) (eqb a b && true) (lt→ltb b a q) ]
+    go false k = let z = zero-both a b (k tt) in and-i (eqb a b) (eqb a 0) (eq→eqb (z .0)) (eq→eqb (z .1))
+leq→test true a true b h = elim (eq-or-lt-of-le h) [ inl p ↦ or-r (ltb b a) (eqb a b && true) (and-i (eqb a b) true (eq→eqb (sym p)) tt) | inr q ↦ or-l (ltb b a) (eqb a b && true) (lt→ltb b a q) ]
 
 -- ---- le
 pub le→leq : (s : Bool) (m : ℕ) (e : ℤ) (t : Bool) (n : ℕ) (d : ℤ) → T (le (fin s m e) (fin t n d)) → Leq s (m * up e * down d) t (n * up d * down e)

@@ -7,14 +7,15 @@ use native.Mathlib.Omega.{arith}
 use lib.ListN.{length, getD, drop, length-append, length-drop}
 use lib.Seq.{take-at}
 use lib.Ieee.{Float}
-use Rattle.chunks.specs.Flat.{flat, Every}
+use Rattle.halting.specs.Every.{All}
+use Rattle.chunks.specs.Flat.{flat}
 use Rattle.chunks.proofs.Laws.{length-flat, every-wide}
 use Rattle.model.specs.declared.Place.{Place}
 use Rattle.model.specs.Grid.{cells, boxOf}
 use Rattle.model.specs.State.{Row, State}
 use Rattle.model.specs.Sound.{Sound}
 use Rattle.model.specs.Check as model
-use Rattle.model.proofs.Queue.{and-l, and-r}
+use Rattle.halting.proofs.Bools.{and-l, and-r}
 use Rattle.model.proofs.Whole.{sound-sized}
 use borrow.Author.Tests.{leb-true}
 use lib.Dec.{leb}
@@ -78,11 +79,11 @@ module _ (s : State) (K : Sound s) where
   grains-many : length (flat grainReals (s .grains)) ≡ grainsNeed (sizesIn s) - 3
   grains-many = let g : length (flat grainReals (s .grains)) ≡ length (s .grains) * 6 = length-flat grainReals 6 (s .grains) (every-wide grainReals 6 (λ p. refl) (lib.Dec.lit< tt) (s .grains)) in omega (arith, g)
 
-  nums-wide : (qs : List (Row Place)) → Every (Good (s .room)) qs → Every (λ (r : Row Place). length (queueNums r) ≡ s .room * 4 + 1) qs
+  nums-wide : (qs : List (Row Place)) → All (Good (s .room)) qs → All (λ (r : Row Place). length (queueNums r) ≡ s .room * 4 + 1) qs
   nums-wide [] v = tt
   nums-wide (r ∷ qs) v = (long-nums (s .room) r (v .0 .full), nums-wide qs (v .1))
 
-  reals-wide : (qs : List (Row Place)) → Every (Good (s .room)) qs → Every (λ (r : Row Place). length (queueReals r) ≡ s .room * 10) qs
+  reals-wide : (qs : List (Row Place)) → All (Good (s .room)) qs → All (λ (r : Row Place). length (queueReals r) ≡ s .room * 10) qs
   reals-wide [] v = tt
   reals-wide (r ∷ qs) v = (long-reals (s .room) r (v .0 .full), reals-wide qs (v .1))
 

@@ -3,7 +3,7 @@ use Rattle.step.proofs.Starting.{sync-held, pairs-held, bounds-held, in
 use Rattle.step.proofs.Scheduling.{made-index, made-cell}
 use Rattle.step.proofs.Leaves.{members-below}
 use Rattle.step.proofs.Does.{after}
-use Rattle.chunks.specs.Flat.{Every}
+use Rattle.halting.specs.Every.{All}
 use borrow.Rule.Slice.PartMut.{midOf}
 use Prim.Native.Nat.{_-_, _<_}
 use mathlib.Core.Path.{sym, _∙_, subst}
@@ -45,7 +45,7 @@ part-pairs-end : tie.Need-part-pairs-end
 part-pairs-end c = let k = c .before .members-of .ensures .0 in let m = c .before .members-of .ensures .1 in omega arith
 
 pairs-requires : tie.Need-pairs-requires
-pairs-requires c κs = let b = c .before .before .before .before .before .before .before .before .before .before .before .before .before .before .before .before .before .before .before .before .before .before in let a = b .args in let o = b .pre .0 in let u = after (sync-held (a .cell) (c .before .before .before .before .before .before .before .before .before .before .before .before .before .sync-in .ensures)) o in ((u .0, u .1 .seen), made-cell (a .cell) (c .before .before .before .before .new .ensures) (b .pre .2), (subst (Every (λ n. n < a .z .grains)) (sym (c .before .before .before .before .before .members-of .ensures .2 (o .0) (o .1 .listed))) (members-below (o .0) (o .1 .listed) (a .cell) (b .pre .2))))
+pairs-requires c κs = let b = c .before .before .before .before .before .before .before .before .before .before .before .before .before .before .before .before .before .before .before .before .before .before in let a = b .args in let o = b .pre .0 in let u = after (sync-held (a .cell) (c .before .before .before .before .before .before .before .before .before .before .before .before .before .sync-in .ensures)) o in ((u .0, u .1 .seen), made-cell (a .cell) (c .before .before .before .before .new .ensures) (b .pre .2), (subst (All (λ n. n < a .z .grains)) (sym (c .before .before .before .before .before .members-of .ensures .2 (o .0) (o .1 .listed))) (members-below (o .0) (o .1 .listed) (a .cell) (b .pre .2))))
 
 same-length-4 : tie.Need-same-length-4
 same-length-4 c = c .before .before .before .before .before .before .before .pairs .kept .1 .1 .0 ∙ c .before .before .before .before .before .before .before .before .before .before .before .before .before .before .before .before .before .before .before .before .before .sync-in .kept .0
@@ -72,7 +72,7 @@ part-bounds-each-end : tie.Need-part-bounds-each-end
 part-bounds-each-end c = let k = c .before .before .before .before .before .before .before .before .before .before .before .before .before .members-of .ensures .0 in let m = c .before .before .before .before .before .before .before .before .before .before .before .before .before .members-of .ensures .1 in omega arith
 
 bounds-each-requires : tie.Need-bounds-each-requires
-bounds-each-requires c κs = let b = c .before .before .before .before .before .before .before .before .before .before .before .before .before .before .before .before .before .before .before .before .before .before .before .before .before .before .before .before .before .before .before .before .before .before in let a = b .args in let o = b .pre .0 in let u = after (pairs-held (midOf (c .before .before .before .before .before .before .before .before .before .before .before .before .before .before .before .before .before .members-of .result .from) (c .before .before .before .before .before .before .before .before .before .before .before .before .before .before .before .before .before .members-of .result .to - c .before .before .before .before .before .before .before .before .before .before .before .before .before .before .before .before .before .members-of .result .from) (a .lists .now)) (made-index (a .w .domain) (a .cell) (c .before .before .before .before .before .before .before .before .before .before .before .before .before .before .before .before .new .ensures)) (c .before .before .before .before .before .before .before .before .before .before .before .pairs .ensures)) (after (sync-held (a .cell) (c .before .before .before .before .before .before .before .before .before .before .before .before .before .before .before .before .before .before .before .before .before .before .before .before .before .sync-in .ensures)) o) in ((u .0, u .1 .seen), made-cell (a .cell) (c .before .before .before .before .before .before .before .before .before .before .before .before .before .before .before .before .new .ensures) (b .pre .2), (subst (Every (λ n. n < a .z .grains)) (sym (c .before .before .before .before .before .before .before .before .before .before .before .before .before .before .before .before .before .members-of .ensures .2 (o .0) (o .1 .listed))) (members-below (o .0) (o .1 .listed) (a .cell) (b .pre .2))))
+bounds-each-requires c κs = let b = c .before .before .before .before .before .before .before .before .before .before .before .before .before .before .before .before .before .before .before .before .before .before .before .before .before .before .before .before .before .before .before .before .before .before in let a = b .args in let o = b .pre .0 in let u = after (pairs-held (midOf (c .before .before .before .before .before .before .before .before .before .before .before .before .before .before .before .before .before .members-of .result .from) (c .before .before .before .before .before .before .before .before .before .before .before .before .before .before .before .before .before .members-of .result .to - c .before .before .before .before .before .before .before .before .before .before .before .before .before .before .before .before .before .members-of .result .from) (a .lists .now)) (made-index (a .w .domain) (a .cell) (c .before .before .before .before .before .before .before .before .before .before .before .before .before .before .before .before .new .ensures)) (c .before .before .before .before .before .before .before .before .before .before .before .pairs .ensures)) (after (sync-held (a .cell) (c .before .before .before .before .before .before .before .before .before .before .before .before .before .before .before .before .before .before .before .before .before .before .before .before .before .sync-in .ensures)) o) in ((u .0, u .1 .seen), made-cell (a .cell) (c .before .before .before .before .before .before .before .before .before .before .before .before .before .before .before .before .new .ensures) (b .pre .2), (subst (All (λ n. n < a .z .grains)) (sym (c .before .before .before .before .before .before .before .before .before .before .before .before .before .before .before .before .before .members-of .ensures .2 (o .0) (o .1 .listed))) (members-below (o .0) (o .1 .listed) (a .cell) (b .pre .2))))
 
 same-length-7 : tie.Need-same-length-7
 same-length-7 c = c .before .before .before .before .before .before .bounds-each .kept .1 .1 .0 ∙ c .before .before .before .before .before .before .before .before .before .before .before .before .before .before .before .before .before .before .pairs .kept .1 .1 .0 ∙ c .before .before .before .before .before .before .before .before .before .before .before .before .before .before .before .before .before .before .before .before .before .before .before .before .before .before .before .before .before .before .before .before .sync-in .kept .0
