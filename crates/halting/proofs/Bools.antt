@@ -25,6 +25,13 @@ pub and-r : (a b : Bool) → (a && b) ≡ true → b ≡ true
 and-r true b e = e
 and-r false b e = clash e
 
+-- what `a && b` answers: q, which is a, passed and r, which is b, is the answer; or r, which is a, failed
+pub both : (q a b r : Bool) → q ≡ a → q ≡ true → r ≡ b → r ≡ (a && b)
+both q a b r m e f = rw (sym m ∙ e) f
+
+pub neither : (a b r : Bool) → r ≡ a → r ≡ false → r ≡ (a && b)
+neither a b r m e = rw (sym m ∙ e) e
+
 -- ---- or
 pub or-case : (a b : Bool) (P : Type 0) → (a || b) ≡ true → (a ≡ true → P) → (b ≡ true → P) → P
 or-case true b P e f g = f refl
@@ -38,7 +45,22 @@ pub or-false-r : (a b : Bool) → (a || b) ≡ false → b ≡ false
 or-false-r true b e = clash (sym e)
 or-false-r false b e = e
 
--- ---- a branch that fails where its test does is an `and`
+-- ---- what `if t { x } else { y }` answers
+pub taken : {A : Type 0} (t : Bool) (x y r : A) → t ≡ true → r ≡ x → r ≡ pick t x y
+taken t x y r e f = rw e f
+
+pub left : {A : Type 0} (t : Bool) (x y r : A) → t ≡ false → r ≡ y → r ≡ pick t x y
+left t x y r e f = rw e f
+
+-- the test itself, an `and`, and what both branches are
+pub itself : (a : Bool) → a ≡ pick a true false
+itself true = refl
+itself false = refl
+
 pub and-pick : (a b : Bool) → (a && b) ≡ pick a b false
 and-pick true b = refl
 and-pick false b = refl
+
+pub either : {A : Type 0} (t : Bool) (x : A) → x ≡ pick t x x
+either true x = refl
+either false x = refl

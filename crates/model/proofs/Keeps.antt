@@ -23,7 +23,7 @@ use Rattle.scheduler.specs.Standing.{Real}
 use Rattle.order.proofs.Compare.{lt-asym, lt-irrefl, le-of-not-lt}
 use Rattle.scheduler.proofs.Laws.{time-in}
 use Rattle.scheduler.proofs.Inverse.{updated-inverse, updated-cells}
-use Rattle.scheduler.proofs.Order.{updated-ordered, root-least}
+use Rattle.scheduler.proofs.Order.{last-real, updated-ordered, root-least}
 use Rattle.model.specs.Grid.{cells}
 use Rattle.model.specs.Events.{names, eventOf, headTime, headPlace, zeroP}
 use Rattle.model.specs.State.{Row, row, none, State, zeroG, grain, home, listed, queue, heads, has, requeued, withClock, withGrains}
@@ -38,13 +38,9 @@ use Rattle.halting.proofs.All.{all-to, all-both}
 use Rattle.model.proofs.Queue.{T-of, fine-top, fine-finite, fine-real, queue-insert, queue-cancel}
 
 -- ---- head times
-fmax-real : isNan last ≡ false
-unfolding isNan ofBits
-fmax-real = refl
-
 module _ (n c : ℕ) (m : List ℕ) where
   head-real : (l : List Place) → All (Held n c m) l → isNan (headTime l) ≡ false
-  head-real [] a = fmax-real
+  head-real [] a = last-real
   head-real (x ∷ xs) a = is-false _ (fine-real x (a .0 .fine))
 
   head-top : (l : List Place) → All (Held n c m) l → lt last (headTime l) ≡ false
@@ -64,7 +60,7 @@ module _ (s : State) (sound : Sound s) where
 
   pub heads-real : Real (heads (s .queues))
   unfolding Real
-  heads-real = heads-all (λ t. isNan t ≡ false) fmax-real (λ c h. head-real N c (listed s c) (queue s c) (sound .queues c h .held))
+  heads-real = heads-all (λ t. isNan t ≡ false) last-real (λ c h. head-real N c (listed s c) (queue s c) (sound .queues c h .held))
 
   pub heads-top : (c : ℕ) → lt last (heads (s .queues) c) ≡ false
   heads-top = heads-all (λ t. lt last t ≡ false) (lt-irrefl last) (λ c h. head-top N c (listed s c) (queue s c) (sound .queues c h .held))

@@ -213,7 +213,7 @@ low-end : quarter 36 ≡ nine
 unfolding round ofBits
 low-end = refl
 
-high-end : quarter 192 ≡ fortyeight
+pub high-end : quarter 192 ≡ fortyeight
 unfolding round ofBits
 high-end = refl
 

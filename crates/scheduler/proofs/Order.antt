@@ -74,7 +74,7 @@ module _ (n : ℕ) (t t′ : ℕ → Float) (real : (i : ℕ) → isNan (t i) �
   }
 
 -- ---- the times of a scheduler's indices
-last-real : isNan last ≡ false
+pub last-real : isNan last ≡ false
 unfolding isNan ofBits
 last-real = refl
 

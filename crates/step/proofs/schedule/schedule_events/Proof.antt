@@ -5,7 +5,8 @@ use Rattle.acts.proofs.Frame.{queues-along}
 use Rattle.acts.proofs.Touch.{each-step-only}
 use Rattle.acts.specs.Tell.{InLists}
 use Prim.Native.Nat.{_-_, _<_}
-use Rattle.step.proofs.Scheduling.{events-stop, events-on, at-index, made-index, made-cell}
+use Rattle.cell.proofs.Laws.{index-cell}
+use Rattle.step.proofs.Scheduling.{events-stop, events-on, at-index, made-cell}
 use Rattle.step.proofs.Leaves.{grains-do, seen-do, members-below, stepped-only}
 use Rattle.step.proofs.Does.{after}
 use Rattle.model.specs.Doing.{others, stepGrain, scheduleCollision, boundaries}
@@ -72,7 +73,7 @@ same-length-5 : tie.Need-same-length-5
 same-length-5 c = c .before .before .before .before .before .before .schedule-stepped .kept .1 .1 .1 .1 .0
 
 returns-2 : tie.Need-returns-2
-returns-2 c = let b = c .before .before .before .before .before .before .before .before .before .before .before .before .before .before .before .before .before .before .before .before .before .before .before .before .before in let a = b .args in events-on (a .p) (a .cell) (midOf (c .before .before .before .before .before .before .before .before .before .before .before .before .before .before .before .before .before .before .before .members-of .result .from) (c .before .before .before .before .before .before .before .before .before .before .before .before .before .before .before .before .before .before .before .members-of .result .to - c .before .before .before .before .before .before .before .before .before .before .before .before .before .before .before .before .before .before .before .members-of .result .from) (a .lists .now)) (λ s h. c .before .before .before .before .before .before .before .before .before .before .before .before .before .before .before .before .before .before .before .members-of .ensures .2 s (h .listed)) (c .before .before .before .before .before .before .before .before .before .before .before .before .before .if1 .left) (grains-do (eachOf stepGrain (others (a .p) (midOf (c .before .before .before .before .before .before .before .before .before .before .before .before .before .before .before .before .before .before .before .members-of .result .from) (c .before .before .before .before .before .before .before .before .before .before .before .before .before .before .before .before .before .before .before .members-of .result .to - c .before .before .before .before .before .before .before .before .before .before .before .before .before .before .before .before .before .before .before .members-of .result .from) (a .lists .now)))) (λ s. each-step-only (others (a .p) (midOf (c .before .before .before .before .before .before .before .before .before .before .before .before .before .before .before .before .before .before .before .members-of .result .from) (c .before .before .before .before .before .before .before .before .before .before .before .before .before .before .before .before .before .before .before .members-of .result .to - c .before .before .before .before .before .before .before .before .before .before .before .before .before .before .before .before .before .before .before .members-of .result .from) (a .lists .now))) s) (c .before .before .before .before .before .before .before .before .before .before .before .before .before .before .before .before .step-others .ensures)) (at-index (a .p) (midOf (c .before .before .before .before .before .before .before .before .before .before .before .before .before .before .before .before .before .before .before .members-of .result .from) (c .before .before .before .before .before .before .before .before .before .before .before .before .before .before .before .before .before .before .before .members-of .result .to - c .before .before .before .before .before .before .before .before .before .before .before .before .before .before .before .before .before .before .before .members-of .result .from) (a .lists .now)) (made-index (a .w .domain) (a .cell) (c .before .before .before .before .before .before .before .before .before .before .before .before .new .ensures)) (seen-do (λ s. then (eachOf (scheduleCollision (c .before .before .before .before .before .before .before .before .before .before .before .before .new .result .index) (a .p)) (others (a .p) (midOf (c .before .before .before .before .before .before .before .before .before .before .before .before .before .before .before .before .before .before .before .members-of .result .from) (c .before .before .before .before .before .before .before .before .before .before .before .before .before .before .before .before .before .before .before .members-of .result .to - c .before .before .before .before .before .before .before .before .before .before .before .before .before .before .before .before .before .before .before .members-of .result .from) (a .lists .now))) s) (boundaries (c .before .before .before .before .before .before .before .before .before .before .before .before .new .result .index) (a .p))) (λ s h. queues-along (InLists (a .z) (a .lists .now)) s _ (stepped-only (c .before .before .before .before .before .before .before .before .before .before .before .before .new .result .index) (a .p) (others (a .p) (midOf (c .before .before .before .before .before .before .before .before .before .before .before .before .before .before .before .before .before .before .before .members-of .result .from) (c .before .before .before .before .before .before .before .before .before .before .before .before .before .before .before .before .before .before .before .members-of .result .to - c .before .before .before .before .before .before .before .before .before .before .before .before .before .before .before .before .before .before .before .members-of .result .from) (a .lists .now))) s) h) (c .before .before .before .before .before .before .schedule-stepped .ensures)))
+returns-2 c = let b = c .before .before .before .before .before .before .before .before .before .before .before .before .before .before .before .before .before .before .before .before .before .before .before .before .before in let a = b .args in events-on (a .p) (a .cell) (midOf (c .before .before .before .before .before .before .before .before .before .before .before .before .before .before .before .before .before .before .before .members-of .result .from) (c .before .before .before .before .before .before .before .before .before .before .before .before .before .before .before .before .before .before .before .members-of .result .to - c .before .before .before .before .before .before .before .before .before .before .before .before .before .before .before .before .before .before .before .members-of .result .from) (a .lists .now)) (λ s h. c .before .before .before .before .before .before .before .before .before .before .before .before .before .before .before .before .before .before .before .members-of .ensures .2 s (h .listed)) (c .before .before .before .before .before .before .before .before .before .before .before .before .before .if1 .left) (grains-do (eachOf stepGrain (others (a .p) (midOf (c .before .before .before .before .before .before .before .before .before .before .before .before .before .before .before .before .before .before .before .members-of .result .from) (c .before .before .before .before .before .before .before .before .before .before .before .before .before .before .before .before .before .before .before .members-of .result .to - c .before .before .before .before .before .before .before .before .before .before .before .before .before .before .before .before .before .before .before .members-of .result .from) (a .lists .now)))) (λ s. each-step-only (others (a .p) (midOf (c .before .before .before .before .before .before .before .before .before .before .before .before .before .before .before .before .before .before .before .members-of .result .from) (c .before .before .before .before .before .before .before .before .before .before .before .before .before .before .before .before .before .before .before .members-of .result .to - c .before .before .before .before .before .before .before .before .before .before .before .before .before .before .before .before .before .before .before .members-of .result .from) (a .lists .now))) s) (c .before .before .before .before .before .before .before .before .before .before .before .before .before .before .before .before .step-others .ensures)) (at-index (a .p) (midOf (c .before .before .before .before .before .before .before .before .before .before .before .before .before .before .before .before .before .before .before .members-of .result .from) (c .before .before .before .before .before .before .before .before .before .before .before .before .before .before .before .before .before .before .before .members-of .result .to - c .before .before .before .before .before .before .before .before .before .before .before .before .before .before .before .before .before .before .before .members-of .result .from) (a .lists .now)) (index-cell (a .w .domain) (a .cell) (c .before .before .before .before .before .before .before .before .before .before .before .before .new .ensures)) (seen-do (λ s. then (eachOf (scheduleCollision (c .before .before .before .before .before .before .before .before .before .before .before .before .new .result .index) (a .p)) (others (a .p) (midOf (c .before .before .before .before .before .before .before .before .before .before .before .before .before .before .before .before .before .before .before .members-of .result .from) (c .before .before .before .before .before .before .before .before .before .before .before .before .before .before .before .before .before .before .before .members-of .result .to - c .before .before .before .before .before .before .before .before .before .before .before .before .before .before .before .before .before .before .before .members-of .result .from) (a .lists .now))) s) (boundaries (c .before .before .before .before .before .before .before .before .before .before .before .before .new .result .index) (a .p))) (λ s h. queues-along (InLists (a .z) (a .lists .now)) s _ (stepped-only (c .before .before .before .before .before .before .before .before .before .before .before .before .new .result .index) (a .p) (others (a .p) (midOf (c .before .before .before .before .before .before .before .before .before .before .before .before .before .before .before .before .before .before .before .members-of .result .from) (c .before .before .before .before .before .before .before .before .before .before .before .before .before .before .before .before .before .before .before .members-of .result .to - c .before .before .before .before .before .before .before .before .before .before .before .before .before .before .before .before .before .before .before .members-of .result .from) (a .lists .now))) s) h) (c .before .before .before .before .before .before .schedule-stepped .ensures)))
 
 pub schedule-events-spec : {M : Type 1} → statement M
 schedule-events-spec =
