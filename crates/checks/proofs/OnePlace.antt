@@ -20,7 +20,8 @@ use Rattle.model.specs.State.{has}
 use Rattle.model.specs.Standing.{syncs, one-if}
 use Rattle.model.specs.Check.{all, rising, named, held, queueOk}
 use Rattle.checks.specs.Decode.{placeAt, placesOf, queueAt}
-use Rattle.checks.proofs.Cut.{tail-is, both-take, both-long}
+use Rattle.chunks.proofs.Laws.{tail-is}
+use Rattle.checks.proofs.Cut.{both-take, both-long}
 use Rattle.checks.proofs.Bools.{one, pair, last-one, to-end}
 
 -- ---- the tests of a list of places, step by step

@@ -13,7 +13,8 @@ use Rattle.model.specs.State.{Row, has, liveAt, none}
 use Rattle.model.specs.Check.{all, once, numbers}
 use Rattle.checks.specs.Decode.{rowAt, rowsOf}
 use Rattle.checks.specs.Walk.{First, housed}
-use Rattle.checks.proofs.Cut.{tail-is, cut-at, cut-long}
+use Rattle.chunks.proofs.Laws.{tail-is}
+use Rattle.checks.proofs.Cut.{cut-at, cut-long}
 
 -- its places in use are the first that follow the count
 pub live-is : (v : ℕ) (l : List ℕ) → getD l 0 0 ≤ v → (rowAt v l) .live ≡ take (getD l 0 0) (midOf 1 (length l - 1) l)

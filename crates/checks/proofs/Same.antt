@@ -27,7 +27,8 @@ use Rattle.checks.specs.Decode.{Tables, mark, decodedBy, homesPart, memb
 use Rattle.checks.specs.Check.{Sized, Legible, counted, legibleBy, standing}
 use Rattle.checks.specs.Walk.{walk, backRow, housed, linked, inOrder}
 use Rattle.checks.specs.Parts.{boxed, grainOk, settled, queueIn, queued, heaped, parts}
-use Rattle.checks.proofs.Cut.{tail-is, cut-long, both-long, both-at, counted-at}
+use Rattle.chunks.proofs.Laws.{tail-is}
+use Rattle.checks.proofs.Cut.{cut-long, both-long, both-at, counted-at}
 use Rattle.checks.proofs.OnePlace.{queue-live}
 use Rattle.checks.proofs.Order.{time-in}
 use Rattle.checks.proofs.Turns.{every-same, every-all, every-walk}

@@ -17,7 +17,7 @@ use Rattle.checks.specs.Decode.{Tables, mark, sizesOf, rowsOf}
 use Rattle.checks.specs.Check.{Legible, ranged, listsNeed, grainsNeed, queueNeed, eventsNeed, long, sizedBy, sized, Sized, legibleBy, standing, checked}
 use Rattle.checks.specs.Walk.{Rowed, linked}
 use Rattle.checks.specs.Parts.{settled, queued, heaped, parts}
-use Rattle.checks.proofs.Cut.{tail-is}
+use Rattle.chunks.proofs.Laws.{tail-is}
 use Rattle.checks.proofs.Same.{homesIn, membersIn}
 
 -- ---- 2

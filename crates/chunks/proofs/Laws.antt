@@ -1,12 +1,12 @@
--- A flat list as a row of chunks: laws of `flat`, and of a part that is lent and comes back. Assumes nothing.
+-- A flat list as a row of chunks: laws of `flat`, of a part that is lent and comes back, and of the first of a list. Assumes nothing.
 use mathlib.Core.Path.{_≡_, refl, sym, ap, _∙_, subst}
 use Prim.Native.Nat.{ℕ, zero, suc, _+_, _-_, _*_, _≤_, _<_}
 use native.Mathlib.Nat.{le-of-suc-le-suc, not-suc-le-zero, suc-ne-zero, zero-mul, suc-mul, le-refl, mul-le-mul-right, zero-add}
 use native.Mathlib.Decide.{decLt}
 use native.Mathlib.Omega.{arith}
 use mathlib.Core.List.{List, [], _∷_, _++_, map, append-assoc, append-nil}
-use lib.ListN.{length, getD, set, take, drop, length-append, take-append-drop, drop-of-length-le}
-use lib.Seq.{take-at, drop-at, take-length, drop-length, length-take-le, sets, sets-eq}
+use lib.ListN.{length, getD, set, take, drop, length-append, length-drop, take-append-drop, drop-of-length-le}
+use lib.Seq.{take-at, take-all, drop-at, take-length, drop-length, length-take-le, sets, sets-eq}
 use borrow.Rule.Slice.PartMut.{midOf, putMid}
 use Rattle.halting.specs.Every.{All}
 use Rattle.halting.proofs.All.{all-at, all-take, all-always}
@@ -34,6 +34,27 @@ module _ {B : Type 0} where
   pub put-tail : (a m : List B) {l : List B} (w : ℕ) (ys : List B) → l ≡ a ++ m → length a ≡ w → putMid w (length l - w) l ys ≡ a ++ ys
   put-tail a m {l} w ys e p =
       put-at a m [] w (length l - w) ys (e ∙ ap (λ (r : List B). a ++ r) (sym (append-nil m))) p (len-tail a m w e p) ∙ ap (λ (r : List B). a ++ r) (append-nil ys)
+
+  pub tail-is : (w : ℕ) (l : List B) → midOf w (length l - w) l ≡ drop w l
+  tail-is w l = take-all (length l - w) (drop w l) (let e = length-drop w l in omega arith)
+
+  pub tail-long : (w : ℕ) (l : List B) → length (midOf w (length l - w) l) ≡ length l - w
+  tail-long w l = ap length (tail-is w l) ∙ length-drop w l
+
+  -- ---- the first k of a list: none, or the first one and those of the rest
+  pub take-none : (k : ℕ) (l : List B) → k ≡ 0 → take k l ≡ []
+  take-none k l e = rw e
+
+  pub take-step : (k : ℕ) (l : List B) (d : B) → (k ≡ 0 → ⊥) → k ≤ length l → take k l ≡ getD l 0 d ∷ take (k - 1) (midOf 1 (length l - 1) l)
+  take-step zero l d z h = absurd (z refl)
+  take-step (suc k) [] d z h = absurd (not-suc-le-zero h)
+  take-step (suc k) (x ∷ l) d z h =
+      let e : k ≡ suc k - 1 = omega arith in
+      ap (λ (m : List B). x ∷ take k m) (sym (tail-is 1 (x ∷ l))) ∙ ap (λ (j : ℕ). x ∷ take j (midOf 1 (length (x ∷ l) - 1) (x ∷ l))) e
+
+-- a number above zero is not zero, as a loop's test says it and as the laws ask it
+pub some : {n : ℕ} → 0 < n → n ≡ 0 → ⊥
+some h e = let k = h in not-suc-le-zero (subst (λ (m : ℕ). 0 < m) e k)
 
 -- ---- a row of chunks, each as wide as `w` says: chunk c is the part [c * w .. c * w + w), and a chunk put back is a `set`
 

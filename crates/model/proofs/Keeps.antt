@@ -35,7 +35,7 @@ use Rattle.halting.proofs.Bools.{clash}
 use Rattle.model.proofs.Lists.{set-every, live-same, live-other, has-entered, has-left, lists-enter, lists-leave}
 use Rattle.model.proofs.Cases.{store-case, insert-case, enter-case, leave-case}
 use Rattle.halting.proofs.All.{all-to, all-both}
-use Rattle.model.proofs.Queue.{T-of, fine-top, fine-finite, fine-real, queue-insert, queue-cancel}
+use Rattle.model.proofs.Queue.{T-of, fine-top, fine-finite, fine-real, fine-low, queue-insert, queue-cancel}
 
 -- ---- head times
 module _ (n c : ℕ) (m : List ℕ) where
@@ -45,7 +45,7 @@ module _ (n c : ℕ) (m : List ℕ) where
 
   head-top : (l : List Place) → All (Held n c m) l → lt last (headTime l) ≡ false
   head-top [] a = lt-irrefl last
-  head-top (x ∷ xs) a = lt-asym (x .time) last (is-true _ (fine-top x (a .0 .fine)))
+  head-top (x ∷ xs) a = fine-low x (a .0 .fine)
 
 module _ (s : State) (sound : Sound s) where
   abbrev N : ℕ

@@ -10,15 +10,16 @@ use lib.Seq.{getD-take, getD-drop}
 use borrow.Rule.Slice.PartMut.{midOf, putMid}
 use Rattle.halting.specs.Every.{All}
 use Rattle.chunks.specs.Flat.{flat}
-use Rattle.halting.proofs.All.{all-at, all-set}
+use Rattle.halting.proofs.All.{all-at, all-set, all-mid, all-to}
 use Rattle.chunks.proofs.Laws.{length-flat, length-front, flat-cut, flat-set, chunk-in, mid-at, put-at}
 use Rattle.halting.specs.Out.{pick}
 use Rattle.model.specs.Sizes.{memberRoom, homeRoom}
 use Rattle.model.specs.State.{Row, row, none, liveAt, has, but, pushed, pulled}
+use Rattle.model.proofs.Lists.{length-but}
 use Rattle.tables.specs.declared.Sizes.{Sizes}
 use Rattle.tables.specs.Layout.{places, rowNums}
 use Rattle.tables.specs.Holds.{Rows, Listed}
-use Rattle.tables.proofs.RowLaws.{but-length, live-most}
+use Rattle.tables.proofs.RowLaws.{live-most}
 
 -- ---- chunk c of a region of a table: what stands before the region, the region, what stands after it
 module _ {A B : Type 0} (f : A → List B) (w : ℕ) where
@@ -51,8 +52,7 @@ abbrev pub Below : ℕ → Row ℕ → Type 0
 Below n r = All (λ (x : ℕ). x < n) (r .live)
 
 wides : (w : ℕ) (rs : List (Row ℕ)) → All (Room w) rs → All (λ (r : Row ℕ). length (rowNums r) ≡ suc w) rs
-wides w [] v = tt
-wides w (r ∷ rs) v = (ap suc (v .0), wides w rs (v .1))
+wides w rs v = all-to (Room w) (λ (r : Row ℕ). length (rowNums r) ≡ suc w) rs (λ r e. ap suc e) v
 
 module _ {m w n : ℕ} {rs : List (Row ℕ)} (R : Rows m w n rs) where
   rows-wide : All (λ (r : Row ℕ). length (rowNums r) ≡ suc w) rs
@@ -97,14 +97,10 @@ module _ {m w n : ℕ} {rs : List (Row ℕ)} (R : Rows m w n rs) where
       (length-append before (length (r .live) ∷ []) ∙ ap (λ (t : ℕ). t + 1) (region-front rowNums (suc w) pre rs i a rows-wide (rows-in i h) p)) (sym q)
 
 -- ---- rows with one more, and with one less
-every-end : (P : ℕ → Type 0) (l : List ℕ) (x : ℕ) → All P l → P x → All P (l ++ x ∷ [])
-every-end P [] x v p = (p, tt)
-every-end P (y ∷ l) x v p = (v .0, every-end P l x (v .1) p)
-
-every-but : (P : ℕ → Type 0) (x : ℕ) (l : List ℕ) → All P l → All P (but x l)
+all-but : (P : ℕ → Type 0) (x : ℕ) (l : List ℕ) → All P l → All P (but x l)
 unfolding but
-every-but P x [] v = tt
-every-but P x (y ∷ l) v = go (eqb x y) (every-but P x l (v .1))
+all-but P x [] v = tt
+all-but P x (y ∷ l) v = go (eqb x y) (all-but P x l (v .1))
   where
     go : (b : Bool) → All P (but x l) → All P (pick b l (y ∷ but x l))
     go true w = v .1
@@ -120,13 +116,13 @@ module _ {w : ℕ} (x : ℕ) (r : Row ℕ) (v : Room w r) where
 
   pub pulled-room : has x (r .live) ≡ true → Room w (pulled x r)
   pulled-room h =
-      length-append (but x (r .live)) (0 ∷ r .spare) ∙ let a = but-length x (r .live) h in let b = length-append (r .live) (r .spare) in omega (arith, v)
+      length-append (but x (r .live)) (0 ∷ r .spare) ∙ let a = length-but x (r .live) h in let b = length-append (r .live) (r .spare) in omega (arith, v)
 
 pub pushed-below : (n x : ℕ) (r : Row ℕ) → Below n r → x < n → Below n (pushed x r)
-pushed-below n x r v h = every-end (λ (y : ℕ). y < n) (r .live) x v h
+pushed-below n x r v h = all-mid (λ (y : ℕ). y < n) x (r .live) [] h (subst (All (λ (y : ℕ). y < n)) (sym (append-nil (r .live))) v)
 
 pub pulled-below : (n x : ℕ) (r : Row ℕ) → Below n r → Below n (pulled x r)
-pulled-below n x r v = every-but (λ (y : ℕ). y < n) x (r .live) v
+pulled-below n x r v = all-but (λ (y : ℕ). y < n) x (r .live) v
 
 -- ---- the two families in one table: where grain g's row and cell c's row begin
 abbrev pub homeFrom : ℕ → ℕ

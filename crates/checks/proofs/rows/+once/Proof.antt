@@ -1,6 +1,6 @@
 -- `rows::once` meets its contract. Assumes nothing.
 use mathlib.Core.Path.{sym, _∙_}
-use Rattle.checks.proofs.Cut.{tail-long, take-none, take-step}
+use Rattle.chunks.proofs.Laws.{tail-long, take-none, take-step}
 use Rattle.checks.proofs.Lists.{once-none, once-no, once-more}
 use native.Mathlib.Omega.{arith}
 use borrow.Author.Needs.{needs}

@@ -4,7 +4,7 @@ use borrow.Author.Tests.{eq-eqb, ne-eqb}
 use Prim.Native.Nat.{_≤_, _-_}
 use lib.ListN.{length, take}
 use Rattle.model.specs.State.{has}
-use Rattle.checks.proofs.Cut.{some, tail-long, take-none, take-step}
+use Rattle.chunks.proofs.Laws.{some, tail-long, take-none, take-step}
 use Rattle.checks.proofs.Lists.{has-none, has-yes, has-more}
 use native.Mathlib.Omega.{arith}
 use borrow.Author.Needs.{needs}

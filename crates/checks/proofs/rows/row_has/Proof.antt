@@ -1,6 +1,6 @@
 -- `rows::row_has` meets its contract. Assumes nothing.
 use mathlib.Core.Path.{sym, ap, _∙_}
-use Rattle.checks.proofs.Cut.{tail-long}
+use Rattle.chunks.proofs.Laws.{tail-long}
 use Rattle.checks.proofs.OneRow.{live-is}
 use Rattle.model.specs.State.{has}
 use native.Mathlib.Omega.{arith}
