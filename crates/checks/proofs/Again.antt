@@ -25,10 +25,12 @@ use Rattle.model.proofs.Reflect.{says-standing}
 use Rattle.tables.specs.declared.Sizes.{Sizes}
 use Rattle.tables.specs.Layout.{places, rowNums, queueNums}
 use Rattle.tables.specs.Holds.{Rows, Good}
+use Rattle.tables.proofs.RowLaws.{live-most}
 use Rattle.checks.specs.Decode.{Tables, mark, decoded}
 use Rattle.checks.specs.Check.{Sized, counted, legible, legibleBy, standing, checked, queueNeed}
 use Rattle.checks.specs.Held.{Hold}
-use Rattle.checks.proofs.Back.{row-wide, long-nums, lists-cut, members-cut, queue-cut, read-back}
+use Rattle.tables.proofs.Runs.{row-nums-long}
+use Rattle.checks.proofs.Back.{row-wide, lists-cut, members-cut, queue-cut, read-back}
 use Rattle.checks.proofs.Stages.{means-sized, check-0}
 
 -- ---- counts of rows that are written are within their room
@@ -43,7 +45,7 @@ module _ {A : Type 0} (enc : A → List ℕ) (v w : ℕ) (P : A → Type 0) (lon
       ∙ ap (counted v w n) (drop-at (enc x) (flat enc xs ++ y) w (long x (f .0))) ∙ counted-flat n xs y (omega arith) (f .1)
 
 live-few : {A : Type 0} (r : Row A) {k : ℕ} → length (places r) ≡ k → length (r .live) ≤ k
-live-few r e = let a = length-append (r .live) (r .spare) in omega arith
+live-few r e = let a = live-most r in omega arith
 
 rows-counted : (k : ℕ) {m n : ℕ} (rs : List (Row ℕ)) (y : List ℕ) → Rows m k n rs → counted k (k + 1) m (flat rowNums rs ++ y) ≡ true
 rows-counted k {m = m} rs y R =
@@ -59,7 +61,7 @@ module _ (z : Sizes) (t : Tables) (s : State) (H : Hold z t s) where
         ap (counted 8 9 (z .grains)) (lists-cut z t s H) ∙ rows-counted 8 (s .homes) _ (H .body .listed .homes),
         ap (counted 32 33 (z .cells)) (members-cut z t s H) ∙ rows-counted 32 (s .members) _ (H .body .listed .members),
         ap (counted room (room * 4 + 1) (z .cells)) (queue-cut z t s H)
-            ∙ counted-flat queueNums room (room * 4 + 1) (Good room) (λ r g. long-nums room r (g .full)) (λ r y g. live-few r (g .full)) (z .cells) (s .queues) (drop (queueNeed z) (t .queue)) (H .body .queued .tables .many) (H .body .queued .tables .good),
+            ∙ counted-flat queueNums room (room * 4 + 1) (Good room) (λ r g. row-nums-long room r (g .full)) (λ r y g. live-few r (g .full)) (z .cells) (s .queues) (drop (queueNeed z) (t .queue)) (H .body .queued .tables .many) (H .body .queued .tables .good),
       )
 
   standing-held : Stands s → standing t ≡ true

@@ -28,7 +28,8 @@ use Rattle.checks.specs.Check.{Sized, sized, listsNeed, grainsNeed, queueNeed, 
 use Rattle.checks.specs.Held.{Hold}
 use Rattle.checks.proofs.Holding.{side-rows}
 use Rattle.checks.proofs.Stages.{means-sized}
-use Rattle.checks.proofs.Back.{row-wide, long-nums, long-reals, read-back}
+use Rattle.tables.proofs.Runs.{row-nums-long, row-reals-long}
+use Rattle.checks.proofs.Back.{row-wide, read-back}
 use Rattle.checks.proofs.Again.{legible-held}
 use Rattle.simulator.specs.Encode.{over, flagged, listsHead, grainsHead, sizesIn, encoded}
 use Rattle.simulator.proofs.Over.{over-again}
@@ -81,11 +82,11 @@ module _ (s : State) (K : Sound s) where
 
   nums-wide : (qs : List (Row Place)) → All (Good (s .room)) qs → All (λ (r : Row Place). length (queueNums r) ≡ s .room * 4 + 1) qs
   nums-wide [] v = tt
-  nums-wide (r ∷ qs) v = (long-nums (s .room) r (v .0 .full), nums-wide qs (v .1))
+  nums-wide (r ∷ qs) v = (row-nums-long (s .room) r (v .0 .full), nums-wide qs (v .1))
 
   reals-wide : (qs : List (Row Place)) → All (Good (s .room)) qs → All (λ (r : Row Place). length (queueReals r) ≡ s .room * 10) qs
   reals-wide [] v = tt
-  reals-wide (r ∷ qs) v = (long-reals (s .room) r (v .0 .full), reals-wide qs (v .1))
+  reals-wide (r ∷ qs) v = (row-reals-long (s .room) r (v .0 .full), reals-wide qs (v .1))
 
   queue-many : length (flat queueNums (s .queues)) ≡ queueNeed (sizesIn s)
   queue-many = length-flat queueNums (s .room * 4 + 1) (s .queues) (nums-wide (s .queues) (H .queued .tables .good)) ∙ ap (λ (n : ℕ). n * (s .room * 4 + 1)) (H .queued .tables .many)

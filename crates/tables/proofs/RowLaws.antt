@@ -93,7 +93,7 @@ module _ (x : ℕ) {n : ℕ} {l : List ℕ} where
       ∙ ap (λ (k : List ℕ). k ++ 0 ∷ spare) (sym (but-later x y live (λ q. t (ap first h ∙ q))))
 
 -- ---- rows
-pub live-most : (r : Row ℕ) → length (r .live) ≤ length (places r)
+pub live-most : {A : Type 0} (r : Row A) → length (r .live) ≤ length (places r)
 live-most r = let k = length-append (r .live) (r .spare) in omega arith
 
 -- the count, and the numbers after it

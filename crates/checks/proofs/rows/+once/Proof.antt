@@ -10,7 +10,7 @@ use borrow.Fn.PlainCycle.{Measures, is, falls, and}
 use Rattle.checks.proofs.rows.once.Reads as once
 use Rattle.checks.proofs.rows.once.Kinds as once-kinds
 use Rattle.checks.proofs.rows.+once.Lts-once as once-lts
-use Rattle.checks.proofs.rows.has.Reads as has-reads
+use Rattle.tables.proofs.rows.has.Reads as has-reads
 use Rattle.checks.proofs.rows.+once.{statement}
 use Rattle.checks.proofs.rows.+once.Tie.{close}
 
