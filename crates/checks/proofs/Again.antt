@@ -1,25 +1,22 @@
 -- Tables that hold a state whose facts stand pass the check again. Assumes nothing.
 use mathlib.Core.Path.{_≡_, refl, sym, ap, _∙_, subst}
-use Prim.Native.Nat.{ℕ, zero, suc, _+_, _*_, _≤_, _<_}
+use Prim.Native.Nat.{ℕ, zero, suc, _+_, _*_, _≤_}
 use native.Mathlib.Nat.{suc-ne-zero}
-use native.Mathlib.Decide.{decLt}
 use native.Mathlib.Omega.{arith}
 use mathlib.Core.List.{List, [], _∷_, _++_, append-assoc}
 use mathlib.Core.Bool.{Bool, true, false, _&&_}
-use lib.Dec.{T}
-use lib.ListN.{length, getD, drop, length-append, List·getD-eq-default}
+use lib.ListN.{length, getD, drop}
 use lib.Seq.{drop-at}
-use lib.Ieee.{Float, binary64, fits}
+use lib.Ieee.{Float}
 use borrow.Author.Tests.{le-leb, lt-leb}
 use Rattle.halting.specs.Every.{All}
 use Rattle.chunks.specs.Flat.{flat}
-use Rattle.model.specs.declared.Place.{Place}
 use Rattle.model.specs.Grid.{cells}
 use Rattle.model.specs.Sizes.{rated}
-use Rattle.model.specs.State.{Row, none, State, queue, listed}
+use Rattle.model.specs.State.{Row, State, queue, listed}
 use Rattle.model.specs.Sound.{Stands}
 use Rattle.model.proofs.Stands.{standing as facts, sound-fitted}
-use Rattle.model.specs.Check.{halt, Fitted}
+use Rattle.model.specs.Check.{halt}
 use Rattle.model.specs.Check as model
 use Rattle.model.proofs.Reflect.{says-standing}
 use Rattle.tables.specs.declared.Sizes.{Sizes}

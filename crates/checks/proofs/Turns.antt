@@ -5,7 +5,7 @@ use native.Mathlib.Nat.{sub-self, sub-zero}
 use native.Mathlib.Numerals.{add-one}
 use native.Mathlib.Omega.{arith}
 use mathlib.Core.List.{List, [], _∷_}
-use mathlib.Core.Bool.{Bool, true, false, _&&_}
+use mathlib.Core.Bool.{Bool, false, _&&_}
 use lib.ListN.{length, getD}
 use Rattle.halting.specs.Out.{pick}
 use Rattle.halting.specs.Every.{every}

@@ -1,12 +1,12 @@
 -- A flat list as a row of chunks: laws of `flat`, of a part that is lent and comes back, and of the first of a list. Assumes nothing.
 use mathlib.Core.Path.{_≡_, refl, sym, ap, _∙_, subst}
 use Prim.Native.Nat.{ℕ, zero, suc, _+_, _-_, _*_, _≤_, _<_}
-use native.Mathlib.Nat.{le-of-suc-le-suc, not-suc-le-zero, suc-ne-zero, zero-mul, suc-mul, le-refl, mul-le-mul-right, zero-add}
+use native.Mathlib.Nat.{le-of-suc-le-suc, not-suc-le-zero, zero-mul, suc-mul, mul-le-mul-right, zero-add}
 use native.Mathlib.Decide.{decLt}
 use native.Mathlib.Omega.{arith}
-use mathlib.Core.List.{List, [], _∷_, _++_, map, append-assoc, append-nil}
-use lib.ListN.{length, getD, set, take, drop, length-append, length-drop, take-append-drop, drop-of-length-le}
-use lib.Seq.{take-at, take-all, drop-at, take-length, drop-length, length-take-le, sets, sets-eq}
+use mathlib.Core.List.{List, [], _∷_, _++_, append-assoc, append-nil}
+use lib.ListN.{length, getD, set, take, drop, length-append, length-drop, drop-of-length-le}
+use lib.Seq.{take-at, take-all, drop-at, length-take-le, sets, sets-eq}
 use borrow.Rule.Slice.PartMut.{midOf, putMid}
 use Rattle.halting.specs.Every.{All}
 use Rattle.halting.proofs.All.{all-at, all-take, all-always}
@@ -104,11 +104,6 @@ module _ {A B : Type 0} (enc : A → List B) (w : ℕ) where
 -- chunk c of n is within them
 pub chunk-in : (c n w : ℕ) → c < n → c * w + w ≤ n * w
 chunk-in c n w h = let s = suc-mul c w in let m = mul-le-mul-right w h in omega arith
-
-pub map-set : {A B : Type 0} (f : A → B) (xs : List A) (c : ℕ) (y : A) → set (map f xs) c (f y) ≡ map f (set xs c y)
-map-set f [] c y = refl
-map-set f (x ∷ xs) zero y = refl
-map-set {B = B} f (x ∷ xs) (suc c) y = ap (λ (l : List B). f x ∷ l) (map-set f xs c y)
 
 -- ---- where every chunk is w wide, whatever it holds (a record with a fixed number of fields), and the code cuts `&t[a..b]` with a = i * w and b = a + w
 

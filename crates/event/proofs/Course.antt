@@ -1,8 +1,8 @@
 -- What a course answers is what the definitions answer of the grain in the cell. Assumes nothing.
 use Prim.Native.Nat.{ℕ}
-use mathlib.Core.Path.{_≡_, refl, sym, ap, _∙_}
+use mathlib.Core.Path.{_≡_, refl, ap, _∙_}
 use mathlib.Core.Bool.{Bool, true, false, not}
-use lib.Ieee.{Float, binary64, div, lt, eq}
+use lib.Ieee.{Float, binary64, div, lt}
 use Rattle.order.specs.Numbers.{fzero, half}
 use Rattle.halting.specs.Out.{pick}
 use Rattle.halting.proofs.Bools.{itself, either}

@@ -16,7 +16,7 @@ use Rattle.model.specs.declared.Event.{Event}
 use Rattle.model.specs.declared.Event.the-variants.{InterParticleCollision, MoveToNeighbour, MoveOutOfCell, WallReflection, Synchronisation}
 use Rattle.model.specs.Sizes.{rated}
 use Rattle.model.specs.Grid.{cells}
-use Rattle.model.specs.Events.{eventOf, headTime, headPlace, names}
+use Rattle.model.specs.Events.{eventOf, headTime, names}
 use Rattle.model.specs.State.{State, home, listed, queue, has}
 use Rattle.model.specs.Acts.{first, head}
 use Rattle.model.specs.Doing.{Whole}

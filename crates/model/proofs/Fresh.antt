@@ -21,7 +21,7 @@ use Rattle.model.specs.Walls.{wall}
 use Rattle.model.specs.Grid.{cells}
 use Rattle.model.specs.FromPToC.{cellsOfGrain}
 use Rattle.model.specs.Events.{placeOf}
-use Rattle.model.specs.State.{Row, State, grain, zeroG, home, listed, liveAt, has, none, pushed}
+use Rattle.model.specs.State.{Row, State, grain, home, listed, liveAt, has, none, pushed}
 use Rattle.model.specs.Acts.{store, insert, put, enter, entered}
 use Rattle.model.specs.Doing.{Finder, scheduleCollision, scheduleBy, boundaries, syncAt}
 use Rattle.model.specs.Sizes.{boxOk, grainOk}

@@ -7,9 +7,9 @@ use native.Mathlib.Omega.{arith}
 use native.Mathlib.Decide.{decLe, ℕ-discrete}
 use lib.Dec.{T, eqb}
 use lib.ListN.{length, getD, set, drop, length-set, List·getD-eq-default}
-use lib.Ieee.{Float, binary64, ofBits, le, lt, isNan, fits}
+use lib.Ieee.{Float, binary64, le, lt, isNan, fits}
 use lib.Ieee.Scale.{finite}
-use lib.Ieee.Bits.{is-true, is-false}
+use lib.Ieee.Bits.{is-false}
 use borrow.Author.Tests.{eq-eqb, ne-eqb}
 use Rattle.model.specs.declared.Particle.{Particle}
 use Rattle.model.specs.declared.Place.{Place}
@@ -20,7 +20,7 @@ use Rattle.order.proofs.Order.{le-trans, le-refl}
 use Rattle.order.proofs.Clock.{finite-no-nan}
 use Rattle.scheduler.specs.Heap.{timeAt, updated, Fit}
 use Rattle.scheduler.specs.Standing.{Real}
-use Rattle.order.proofs.Compare.{lt-asym, lt-irrefl, le-of-not-lt}
+use Rattle.order.proofs.Compare.{lt-irrefl, le-of-not-lt}
 use Rattle.scheduler.proofs.Laws.{time-in}
 use Rattle.scheduler.proofs.Inverse.{updated-inverse, updated-cells}
 use Rattle.scheduler.proofs.Order.{last-real, updated-ordered, root-least}
@@ -35,7 +35,7 @@ use Rattle.halting.proofs.Bools.{clash}
 use Rattle.model.proofs.Lists.{set-every, live-same, live-other, has-entered, has-left, lists-enter, lists-leave}
 use Rattle.model.proofs.Cases.{store-case, insert-case, enter-case, leave-case}
 use Rattle.halting.proofs.All.{all-to, all-both}
-use Rattle.model.proofs.Queue.{T-of, fine-top, fine-finite, fine-real, fine-low, queue-insert, queue-cancel}
+use Rattle.model.proofs.Queue.{T-of, fine-finite, fine-real, fine-low, queue-insert, queue-cancel}
 
 -- ---- head times
 module _ (n c : ℕ) (m : List ℕ) where

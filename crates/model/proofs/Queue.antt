@@ -12,7 +12,7 @@ use lib.Ieee.Bits.{is-true, is-false}
 use Rattle.model.specs.declared.Place.{Place}
 use Rattle.halting.specs.Every.{All}
 use Rattle.halting.proofs.Bools.{and-l, and-r}
-use Rattle.halting.proofs.All.{all-to, all-after, all-mid, all-both}
+use Rattle.halting.proofs.All.{all-to, all-after, all-mid}
 use Rattle.order.specs.Numbers.{last}
 use Rattle.order.proofs.Order.{le-trans, lt-left, lt→le}
 use Rattle.order.proofs.Compare.{lt-asym, lt-of-not-le}

@@ -13,7 +13,6 @@ use lib.Ieee.Fits.{and-l, and-r}
 use Rattle.order.specs.Numbers.{fzero, half, one, two, nine}
 use Rattle.root.specs.Isqrt.{near, root}
 use Rattle.root.specs.Root.{rootOf, sqrtOf}
-use Rattle.myvec.specs.declared.MyVec.{MyVec}
 use Rattle.myvec.specs.Vec.{vec}
 use Rattle.model.specs.declared.Domain.{Domain}
 use Rattle.model.specs.declared.Particle.{Particle}

@@ -1,17 +1,16 @@
 -- An update puts the heap in order again, if only the head of the updated cell changed. Assumes nothing.
-use mathlib.Core.Path.{_≡_, refl, sym, ap, subst, _∙_}
-use mathlib.Core.Bool.{Bool, true, false, _&&_, cond, and-true}
-use mathlib.Core.List.{List}
-use Prim.Native.Nat.{ℕ, zero, suc, _+_, _-_, _*_, _/_, _≤_, _<_}
+use mathlib.Core.Path.{_≡_, refl, sym, ap, _∙_}
+use mathlib.Core.Bool.{Bool, true, false, _&&_, and-true}
+use Prim.Native.Nat.{ℕ, zero, suc, _+_, _-_, _*_, _≤_, _<_}
 use native.Mathlib.Omega.{arith}
 use native.Mathlib.Decide.{decLe, ℕ-discrete}
 use lib.ListN.{length, getD}
-use lib.Ieee.{Float, binary64, ofBits, lt, le, isNan}
+use lib.Ieee.{Float, ofBits, lt, le, isNan}
 use Rattle.scheduler.specs.declared.Scheduler.{Scheduler}
-use Rattle.scheduler.specs.Heap.{timeAt, swap, swapAt, childOf, down, downshifted, parent, parentOf, up, upshifted, updated, Fit}
+use Rattle.scheduler.specs.Heap.{timeAt, swapAt, childOf, down, downshifted, parent, parentOf, up, upshifted, updated, Fit}
 use Rattle.order.specs.Numbers.{last}
 use Rattle.scheduler.specs.Standing.{Inverse, Ordered, Real}
-use Rattle.scheduler.proofs.Laws.{time-in, time-out, child-in, child-out, child-elim, swap-cells, down-stays, down-goes, up-stays, up-goes, parent-elim, parent-out, parent-early, parent-late}
+use Rattle.scheduler.proofs.Laws.{time-in, time-out, child-in, child-out, child-elim, down-stays, down-goes, up-stays, up-goes, parent-elim}
 use Rattle.order.proofs.Compare.{not-later, lt-asym, lt-irrefl, le-not-lt, lt-of-not-le}
 use Rattle.scheduler.proofs.Inverse.{swap-fst, swap-snd, swap-other, swap-inverse, fit-swap}
 

@@ -1,11 +1,11 @@
 -- 01, "Heap (scheduler.rs)": the heap of cell numbers with its lookups, and what one shift and one update make of it.
 -- `h` gives each cell's head time, `last` (f64::MAX) where its list is empty. Assumes nothing: these are definitions.
 use mathlib.Core.Path.{_≡_}
-use mathlib.Core.Bool.{Bool, true, false, cond, _&&_}
+use mathlib.Core.Bool.{false, cond, _&&_}
 use mathlib.Core.List.{List}
-use Prim.Native.Nat.{ℕ, zero, suc, _+_, _-_, _*_, _/_, _≤_, _<_}
+use Prim.Native.Nat.{ℕ, zero, suc, _+_, _-_, _*_, _/_, _≤_}
 use lib.ListN.{getD, set, replicate}
-use lib.Dec.{ltb, leb, eqb}
+use lib.Dec.{ltb, eqb}
 use lib.Ieee.{Float, lt, le}
 use Rattle.order.specs.Numbers.{last}
 use Rattle.scheduler.specs.declared.Scheduler.{Scheduler}

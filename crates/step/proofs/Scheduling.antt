@@ -10,7 +10,6 @@ use Rattle.halting.specs.Out.{Out, out, pick, next, then, each, eachOf}
 use Rattle.cell.specs.declared.Cell.{Cell}
 use Rattle.cell.specs.Cell.{cellOf}
 use Rattle.cell.proofs.Laws.{index-cell}
-use Rattle.model.specs.declared.Domain.{Domain}
 use Rattle.model.specs.declared.Particle.{Particle}
 use Rattle.model.specs.declared.Plan.{Plan}
 use Rattle.model.specs.State.{State, home, listed, grain, zeroG}

@@ -1,9 +1,9 @@
 -- The table of lists: a grain's row and a cell's row in it, each with another put in its place. Assumes nothing.
-use mathlib.Core.Path.{_≡_, refl, sym, ap, _∙_, subst}
-use Prim.Native.Nat.{ℕ, zero, suc, _+_, _-_, _*_, _≤_, _<_}
+use mathlib.Core.Path.{_≡_, sym, ap, _∙_, subst}
+use Prim.Native.Nat.{ℕ, suc, _+_, _-_, _*_, _≤_, _<_}
 use native.Mathlib.Omega.{arith}
 use mathlib.Core.List.{List, [], _∷_, _++_, append-assoc, append-nil}
-use mathlib.Core.Bool.{Bool, true, false, _||_}
+use mathlib.Core.Bool.{Bool, true, false}
 use lib.Dec.{eqb}
 use lib.ListN.{length, getD, set, take, drop, length-append, length-set}
 use lib.Seq.{getD-take, getD-drop}
@@ -11,10 +11,10 @@ use borrow.Rule.Slice.PartMut.{midOf, putMid}
 use Rattle.halting.specs.Every.{All}
 use Rattle.chunks.specs.Flat.{flat}
 use Rattle.halting.proofs.All.{all-at, all-set, all-mid, all-to}
-use Rattle.chunks.proofs.Laws.{length-flat, length-front, flat-cut, flat-set, chunk-in, mid-at, put-at}
+use Rattle.chunks.proofs.Laws.{length-flat, length-front, flat-cut, flat-set, mid-at, put-at}
 use Rattle.halting.specs.Out.{pick}
 use Rattle.model.specs.Sizes.{memberRoom, homeRoom}
-use Rattle.model.specs.State.{Row, row, none, liveAt, has, but, pushed, pulled}
+use Rattle.model.specs.State.{Row, none, liveAt, has, but, pushed, pulled}
 use Rattle.model.proofs.Lists.{length-but}
 use Rattle.tables.specs.declared.Sizes.{Sizes}
 use Rattle.tables.specs.Layout.{places, rowNums}

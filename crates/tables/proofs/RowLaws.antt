@@ -1,14 +1,13 @@
--- Rows of numbers: what one step of each recursion shows, said of lists alone. Assumes nothing.
-use mathlib.Core.Path.{_≡_, refl, sym, ap, _∙_, subst}
+-- Rows of numbers: what one step of each loop and recursion shows, said of lists alone. Assumes nothing.
+use mathlib.Core.Path.{_≡_, refl, sym, ap, _∙_}
 use Prim.Native.Nat.{ℕ, zero, suc, _+_, _-_, _≤_, _<_}
 use native.Mathlib.Nat.{suc-ne-zero}
 use native.Mathlib.Numerals.{add-one}
 use native.Mathlib.Omega.{arith}
 use mathlib.Core.List.{List, [], _∷_, _++_, append-assoc, append-nil}
-use mathlib.Core.Bool.{Bool, true, false, _||_}
-use lib.ListN.{length, getD, set, take, drop, length-append}
+use mathlib.Core.Bool.{true, false}
+use lib.ListN.{length, getD, set, take, length-append}
 use lib.Seq.{take-at, set-append-seam}
-use lib.Dec.{eqb}
 use borrow.Author.Tests.{eq-eqb, ne-eqb}
 use borrow.Rule.Slice.PartMut.{midOf, putMid}
 use Rattle.chunks.proofs.Laws.{mid-tail, put-tail, take-none, take-step, some}

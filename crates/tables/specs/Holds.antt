@@ -1,8 +1,8 @@
 -- What it means that the tables, behind their headers, hold a state. Assumes nothing: these are definitions.
-use Prim.Native.Nat.{ℕ, _+_, _*_, _≤_, _<_}
+use Prim.Native.Nat.{ℕ, _+_, _≤_, _<_}
 use mathlib.Core.Path.{_≡_}
-use mathlib.Core.Bool.{Bool, true, false}
-use mathlib.Core.List.{List, [], _∷_, _++_}
+use mathlib.Core.Bool.{false}
+use mathlib.Core.List.{List, _++_}
 use lib.ListN.{length}
 use lib.Ieee.{Float, lt}
 use Rattle.halting.specs.Every.{All}

@@ -1,12 +1,10 @@
 -- `rows::lists` meets its contract. Assumes nothing.
-use mathlib.Core.Path.{_≡_}
 use lib.ListN.{getD}
 use Rattle.model.specs.State.{none}
 use Rattle.checks.specs.Decode.{rowsOf}
 use Rattle.checks.proofs.Cut.{rowed-in}
 use Rattle.checks.proofs.OneRow.{row-part, lists-out}
 use native.Mathlib.Omega.{arith}
-use borrow.Author.Needs.{needs}
 use Rattle.checks.proofs.rows.lists.Statement.{statement}
 use Rattle.checks.proofs.rows.lists.Tie as tie
 

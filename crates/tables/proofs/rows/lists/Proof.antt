@@ -1,7 +1,6 @@
 use Rattle.tables.proofs.RowLaws.{row-fits, row-live}
 use mathlib.Core.Path.{ap, _∙_}
 use Rattle.model.specs.State.{has}
-use lib.ListN.{length-take, length-drop}
 use native.Mathlib.Omega.{arith}
 use borrow.Author.Needs.{needs}
 use Rattle.tables.proofs.rows.lists.Statement.{statement}
