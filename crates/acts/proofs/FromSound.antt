@@ -2,23 +2,18 @@
 use mathlib.Core.Path.{_≡_, refl, sym, ap, _∙_, subst}
 use Prim.Native.Nat.{ℕ, zero, suc, _+_, _≤_, _<_}
 use native.Mathlib.Omega.{arith}
-use mathlib.Core.List.{List, [], _∷_, _++_}
-use lib.ListN.{length, getD, length-append}
+use mathlib.Core.List.{List, _∷_, _++_}
+use lib.ListN.{length, getD}
 use lib.Ieee.{Float}
 use Rattle.chunks.specs.Flat.{flat}
-use Rattle.chunks.proofs.Laws.{every-of}
-use Rattle.model.specs.declared.Place.{Place}
-use Rattle.model.specs.State.{Row, none, State, listed}
+use Rattle.model.specs.State.{none, State, listed}
 use Rattle.model.specs.Grid.{cells}
-use Rattle.model.specs.Sound.{Sound, Held, Queue}
-use Rattle.model.proofs.Queue.{all-to}
+use Rattle.model.specs.Sound.{Sound}
+use Rattle.halting.proofs.All.{all-of}
 use Rattle.tables.specs.declared.Sizes.{Sizes}
 use Rattle.tables.specs.Layout.{queueNums, queueReals, orderBytes}
 use Rattle.tables.specs.Holds.{Good, Ranged, Tabled, Heaped, Queued}
-use Rattle.acts.proofs.Rows.{Top, all-every, fine-low}
-
-good-of : (n c : ℕ) (m : List ℕ) {t : Float} {room : ℕ} (r : Row Place) → Queue t room n c m r → Good room r
-good-of n c m r q = record { full = length-append (r .live) (r .spare) ∙ q .full; tops = all-every (r .live) (all-to (Held n c m) Top (r .live) (λ p h. fine-low p (h .fine)) (q .held)) }
+use Rattle.tables.proofs.Runs.{good-of}
 
 module _ {z : Sizes} (s : State) (k : Sound s) (eg : length (s .grains) ≡ z .grains) (ec : cells (s .box) ≡ z .cells) (er : s .room ≡ z .room) where
   pub sound-ranged : Ranged z
@@ -37,7 +32,7 @@ module _ {z : Sizes} (s : State) (k : Sound s) (eg : length (s .grains) ≡ z .g
       queue-is = en;
       events-is = ef;
       many = k .long ∙ ec;
-      good = every-of (Good (z .room)) none (s .queues)
+      good = all-of (Good (z .room)) none (s .queues)
           (λ c h. subst (λ (n : ℕ). Good n (getD (s .queues) c none)) er (good-of (cells (s .box)) c (listed s c) (getD (s .queues) c none) (k .queues c (omega (arith, k .long)))));
     };
     heap = record { is = eo; heap-long = k .heap .inverse .heap-long; lookups-long = k .heap .inverse .lookups-long; cells-is = k .heap .cells ∙ ec };

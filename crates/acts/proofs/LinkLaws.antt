@@ -9,7 +9,7 @@ use lib.ListN.{length, getD, set, take, drop}
 use lib.Seq.{take-at}
 use borrow.Author.Tests.{le-leb, lt-leb, lt-ltb, le-ltb}
 use borrow.Rule.Slice.PartMut.{midOf}
-use Rattle.chunks.specs.Flat.{Every}
+use Rattle.halting.specs.Every.{All}
 use Rattle.halting.specs.Out.{Out, out, pick}
 use Rattle.model.specs.Sizes.{memberRoom, homeRoom}
 use Rattle.model.specs.State.{Row, none, State, withLists, home, listed, has, pushed, pulled}
@@ -128,8 +128,8 @@ module _ {z : Sizes} {g c : ℕ} {l : List ℕ} (hg : g < z .grains) (hc : c < z
       )
 
 -- ---- a part that shows a list names grains, or cells
-pub members-named : {z : Sizes} {l k : List ℕ} (c : ℕ) (s : State) → InLists z l s → c < z .cells → k ≡ listed s c → Every (λ (g : ℕ). g < z .grains) k
-members-named {z} c s S h e = subst (Every (λ (g : ℕ). g < z .grains)) (sym e) (member-below S c h)
+pub members-named : {z : Sizes} {l k : List ℕ} (c : ℕ) (s : State) → InLists z l s → c < z .cells → k ≡ listed s c → All (λ (g : ℕ). g < z .grains) k
+members-named {z} c s S h e = subst (All (λ (g : ℕ). g < z .grains)) (sym e) (member-below S c h)
 
-pub cells-named : {z : Sizes} {l k : List ℕ} (g : ℕ) (s : State) → InLists z l s → g < z .grains → k ≡ home s g → Every (λ (c : ℕ). c < z .cells) k
-cells-named {z} g s S h e = subst (Every (λ (c : ℕ). c < z .cells)) (sym e) (home-below S g h)
+pub cells-named : {z : Sizes} {l k : List ℕ} (g : ℕ) (s : State) → InLists z l s → g < z .grains → k ≡ home s g → All (λ (c : ℕ). c < z .cells) k
+cells-named {z} g s S h e = subst (All (λ (c : ℕ). c < z .cells)) (sym e) (home-below S g h)

@@ -12,8 +12,10 @@ use lib.Ieee.{Float, lt}
 use borrow.Author.Tests.{le-ltb, lt-ltb, ne-eqb}
 use borrow.Rule.Slice.PartMut.{midOf, putMid}
 use Rattle.halting.specs.Out.{Out, out, pick}
-use Rattle.chunks.specs.Flat.{flat, Every}
-use Rattle.chunks.proofs.Laws.{every-at, every-set, length-flat, chunk-mid, chunk-put, chunk-in}
+use Rattle.halting.specs.Every.{All}
+use Rattle.chunks.specs.Flat.{flat}
+use Rattle.halting.proofs.All.{all-at, all-set}
+use Rattle.chunks.proofs.Laws.{length-flat, chunk-mid, chunk-put, chunk-in}
 use Rattle.order.specs.Numbers.{last}
 use Rattle.order.proofs.Compare.{lt-irrefl}
 use Rattle.scheduler.specs.declared.Scheduler.{Scheduler}
@@ -22,7 +24,7 @@ use Rattle.model.specs.declared.Place.{Place}
 use Rattle.model.specs.Events.{headTime, headPlace, finePlace}
 use Rattle.model.specs.State.{Row, row, none, State, queue, heads, liveAt, requeued, withClock}
 use Rattle.model.specs.Acts.{insert, inserted, cancelled, first, head, taken}
-use Rattle.model.proofs.Lists.{clash}
+use Rattle.halting.proofs.Bools.{clash}
 use Rattle.tables.specs.declared.Sizes.{Sizes}
 use Rattle.tables.specs.Layout.{places, placeReals, queueNums, queueReals, orderBytes}
 use Rattle.tables.specs.Holds.{Ranged, InRow, Good, Tabled, Heaped, Queued, Told}
@@ -49,7 +51,7 @@ on-no P b x y e p = subst (λ (t : Bool). P (pick t x y)) (sym e) p
 -- ---- all rows
 
 -- the first element of chunk c; past the chunks, the default
-flat-get : {A B : Type 0} (enc : A → List B) (w : ℕ) (xs : List A) (c : ℕ) (d : B) (z : A) → 0 < w → Every (λ (x : A). length (enc x) ≡ w) xs → getD (enc z) 0 d ≡ d
+flat-get : {A B : Type 0} (enc : A → List B) (w : ℕ) (xs : List A) (c : ℕ) (d : B) (z : A) → 0 < w → All (λ (x : A). length (enc x) ≡ w) xs → getD (enc z) 0 d ≡ d
     → getD (flat enc xs) (c * w) d ≡ getD (enc (getD xs c z)) 0 d
 flat-get enc w [] c d z p v e = sym e
 flat-get enc w (x ∷ xs) zero d z p v e =
@@ -81,11 +83,11 @@ realsPut z c l ys = putMid (c * wideR z) (c * wideR z + wideR z - c * wideR z) l
 span-is : (c w : ℕ) → c * w + w - c * w ≡ w
 span-is c w = omega arith
 
-wide-nums : (room : ℕ) (qs : List (Row Place)) → Every (Good room) qs → Every (λ (r : Row Place). length (queueNums r) ≡ room * 4 + 1) qs
+wide-nums : (room : ℕ) (qs : List (Row Place)) → All (Good room) qs → All (λ (r : Row Place). length (queueNums r) ≡ room * 4 + 1) qs
 wide-nums room [] v = tt
 wide-nums room (r ∷ qs) v = ((let e = nums-long (places r) in let f = v .0 .full in omega arith), wide-nums room qs (v .1))
 
-wide-reals : (room : ℕ) (qs : List (Row Place)) → Every (Good room) qs → Every (λ (r : Row Place). length (queueReals r) ≡ room * 10) qs
+wide-reals : (room : ℕ) (qs : List (Row Place)) → All (Good room) qs → All (λ (r : Row Place). length (queueReals r) ≡ room * 10) qs
 wide-reals room [] v = tt
 wide-reals room (r ∷ qs) v = ((let e = reals-long (places r) in let f = v .0 .full in omega arith), wide-reals room qs (v .1))
 
@@ -93,11 +95,11 @@ head-first : (l s : List Place) → cond (eqb (length l) 0) last (getD (flat pla
 head-first [] s = refl
 head-first (x ∷ l) s = ap (λ (b : Bool). cond b last (x .time)) (ne-eqb (suc (length l)) 0 (suc-ne-zero (length l)))
 
-head-top : (l : List Place) → Every (λ (p : Place). lt last (p .time) ≡ false) l → lt last (headTime l) ≡ false
+head-top : (l : List Place) → All (λ (p : Place). lt last (p .time) ≡ false) l → lt last (headTime l) ≡ false
 head-top [] v = lt-irrefl last
 head-top (x ∷ l) v = v .0
 
-tops-at : (room : ℕ) (rs : List (Row Place)) → Every (Good room) rs → (c : ℕ) → lt last (headTime (liveAt rs c)) ≡ false
+tops-at : (room : ℕ) (rs : List (Row Place)) → All (Good room) rs → (c : ℕ) → lt last (headTime (liveAt rs c)) ≡ false
 tops-at room [] u c = lt-irrefl last
 tops-at room (r ∷ rs) u zero = head-top (r .live) (u .0 .tops)
 tops-at room (r ∷ rs) u (suc c) = tops-at room rs (u .1) c
@@ -121,7 +123,7 @@ module _ {z : Sizes} {nums : List ℕ} {reals : List Float} {qs : List (Row Plac
   in-reals c h = let k = chunk-in c (z .cells) (wideR z) h in let e = events-long in omega arith
 
   pub good-at : (c : ℕ) → c < z .cells → Good (z .room) (getD qs c none)
-  good-at c h = every-at (Good (z .room)) qs c none (t .good) (inside c h)
+  good-at c h = all-at (Good (z .room)) qs c none (t .good) (inside c h)
 
   -- and hold its row; with another row put there the tables hold that one
   pub row-at : (c : ℕ) → c < z .cells → InRow (numsAt z c nums) (realsAt z c reals) (getD qs c none)
@@ -136,7 +138,7 @@ module _ {z : Sizes} {nums : List ℕ} {reals : List Float} {qs : List (Row Plac
     queue-is = chunk-put queueNums (wideN z) qs c none r (c * wideN z) (c * wideN z + wideN z - c * wideN z) (wide-nums (z .room) qs (t .good)) (inside c h) (t .queue-is) refl (span-is c (wideN z)) (k .nums-is);
     events-is = chunk-put queueReals (wideR z) qs c none r (c * wideR z) (c * wideR z + wideR z - c * wideR z) (wide-reals (z .room) qs (t .good)) (inside c h) (t .events-is) refl (span-is c (wideR z)) (k .reals-is);
     many = length-set qs c r ∙ t .many;
-    good = every-set (Good (z .room)) qs c r (t .good) g;
+    good = all-set (Good (z .room)) qs c r (t .good) g;
   }
 
   -- how many events a cell holds

@@ -8,15 +8,13 @@ use mathlib.Core.Bool.{true, false}
 use lib.ListN.{length, getD, set, replicate, length-append, length-replicate}
 use lib.Ieee.{Float, lt}
 use borrow.Rule.Slice.PartMut.{midOf, putMid}
-use Rattle.chunks.specs.Flat.{flat, Every}
+use Rattle.chunks.specs.Flat.{flat}
 use Rattle.chunks.proofs.Laws.{mid-tail, put-tail}
 use Rattle.order.specs.Numbers.{last}
-use Rattle.order.proofs.Compare.{lt-asym}
 use Rattle.model.specs.declared.Place.{Place}
 use Rattle.model.specs.Events.{insertBy, keepBy, goneBy, zeroP, headPlace, finePlace}
 use Rattle.model.specs.State.{Row, row}
-use Rattle.model.specs.Standing.{All}
-use Rattle.model.proofs.Queue.{of-T, fine-top, all-insert, all-keep, length-insert, length-keep}
+use Rattle.model.proofs.Queue.{fine-low, all-insert, all-keep, length-insert, length-keep}
 use Rattle.tables.specs.Layout.{places, placeNums, placeReals}
 use Rattle.tables.specs.Holds.{Run, InRow, Good}
 use Rattle.tables.proofs.Runs.{nums-long, reals-long}
@@ -80,23 +78,11 @@ take-row n (y ∷ live) spare en got pulled h l =
 abbrev pub Top : Place → Type 0
 Top p = lt last (p .time) ≡ false
 
--- the model's `All` and the tables' `Every` say the same
-every-all : (l : List Place) → Every Top l → All Top l
-every-all [] v = tt
-every-all (x ∷ xs) v = (v .0, every-all xs (v .1))
-
-pub all-every : (l : List Place) → All Top l → Every Top l
-all-every [] a = tt
-all-every (x ∷ xs) a = (a .0, all-every xs (a .1))
-
-pub fine-low : (e : Place) → finePlace e ≡ true → Top e
-fine-low e h = lt-asym (e .time) last (of-T (lt (e .time) last) (fine-top e h))
-
 pub good-placed : {room : ℕ} (e : Place) (live spare : List Place) → Good room (row live spare) → finePlace e ≡ true → length live < room → Good room (placed e (row live spare))
 good-placed e live [] g f l = let k = ap length (append-nil live) in let m = g .full in absurd (omega arith)
 good-placed e live (x ∷ rest) g f l = record {
   full = (let p = length-append (insertBy e live) rest in let q = length-insert e live in let t = length-append live (x ∷ rest) in let m = g .full in omega arith);
-  tops = all-every (insertBy e live) (all-insert Top e live (fine-low e f) (every-all live (g .tops)));
+  tops = all-insert Top e live (fine-low e f) (g .tops);
 }
 
 pub good-without : {room : ℕ} (n : ℕ) (r : Row Place) → Good room r → Good room (without n r)
@@ -108,7 +94,7 @@ good-without n r g = record {
       let l₄ = length-keep n (r .live) in
       let l₅ = length-append (r .live) (r .spare) in
       let l₆ = g .full in omega arith);
-  tops = all-every (keepBy n (r .live)) (all-keep Top n (r .live) (every-all (r .live) (g .tops)));
+  tops = all-keep Top n (r .live) (g .tops);
 }
 
 pub good-headless : {room : ℕ} (live spare : List Place) → 0 < length live → Good room (row live spare) → Good room (headless (row live spare))

@@ -3,7 +3,7 @@ ghost use mathlib.Core.Path.{_≡_};
 ghost use Prim.Native.Nat.{ℕ, _+_, _*_, _<_, _≤_};
 ghost use lib.ListN.{length, getD};
 ghost use Rattle.halting.specs.Out.{eachOf};
-ghost use Rattle.chunks.specs.Flat.{Every};
+ghost use Rattle.halting.specs.Every.{All};
 ghost use Rattle.model.specs.declared.Place.{Place as PlaceV};
 ghost use Rattle.model.specs.Events.{headPlace};
 ghost use Rattle.model.specs.State.{State, Row};
@@ -137,7 +137,7 @@ pub fn cancel_each(
     list: &[u64],
     g: u64,
 ) -> u64
-    requires { ⌜ Ready z (now queue) (now events) (now order) × Every (λ (c : ℕ). c < z .cells) (now list) ⌝ }
+    requires { ⌜ Ready z (now queue) (now events) (now order) × All (λ (c : ℕ). c < z .cells) (now list) ⌝ }
     ensures { λ r. ⌜ ((s : State) → Queued z (now (queue .entry)) (now (events .entry)) (now (order .entry)) s
         → Told z (now (queue .exit)) (now (events .exit)) (now (order .exit)) r (eachOf (λ c. cancelAct g c) (now (list .entry)) s)) ⌝ }
 {

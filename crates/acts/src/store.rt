@@ -2,7 +2,7 @@
 ghost use mathlib.Core.Path.{_≡_};
 ghost use Prim.Native.Nat.{ℕ, _+_, _-_, _<_, _≤_};
 ghost use lib.ListN.{length};
-ghost use Rattle.chunks.specs.Flat.{Every};
+ghost use Rattle.halting.specs.Every.{All};
 ghost use Rattle.halting.specs.Out.{each, eachOf};
 ghost use Rattle.model.specs.State.{State};
 ghost use Rattle.model.specs.Acts.{store as storeAct};
@@ -43,7 +43,7 @@ pub fn step_others(
     list: &[u64],
     p: u64,
 ) -> u64
-    requires { ⌜ Grains z (now grains) × Ranged z × Every (λ (g : ℕ). g < z .grains) (now list) ⌝ }
+    requires { ⌜ Grains z (now grains) × Ranged z × All (λ (g : ℕ). g < z .grains) (now list) ⌝ }
     ensures { λ r. ⌜ ((s : State) → InGrains z (now (grains .entry)) s → At domain clock s
         → GrainsTold z (now (grains .exit)) r (eachOf stepGrain (others p (now (list .entry))) s)) ⌝ }
 {

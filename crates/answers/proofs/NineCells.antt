@@ -17,7 +17,7 @@ use Rattle.order.proofs.Compare.{yes}
 use Rattle.model.specs.declared.Domain.{Domain}
 use Rattle.model.specs.Grid.{lengthOf, cellsOf, across, cells}
 use Rattle.model.specs.Sizes.{within, boxOk}
-use Rattle.model.proofs.Queue.{and-l, and-r}
+use Rattle.halting.proofs.Bools.{and-l, and-r}
 use Rattle.model.proofs.Quarters.{facts}
 use Rattle.listing_text.specs.Size.{twelve, longLength}
 

@@ -10,13 +10,13 @@ use lib.Seq.{take-all, drop-at, drop-drop, getD-drop, length-take-le}
 use lib.Ieee.{Float, nan}
 use borrow.Rule.Slice.PartMut.{midOf, putMid}
 use Rattle.chunks.specs.Flat.{flat}
-use Rattle.chunks.proofs.Laws.{put-tail}
+use Rattle.chunks.proofs.Laws.{put-tail, tail-is}
 use Rattle.order.specs.Numbers.{fzero}
 use Rattle.myvec.specs.Vec.{vec}
 use Rattle.model.specs.declared.Particle.{Particle}
 use Rattle.model.specs.Stepping.{grainOf}
 use Rattle.checks.specs.Decode.{cut, grainAt, grainsOf, grainsPart}
-use Rattle.checks.proofs.Cut.{cut-none, cut-step, tail-is, drop-next}
+use Rattle.checks.proofs.Cut.{cut-none, cut-step, drop-next}
 use Rattle.listing_text.specs.Grammar.{Grain}
 use Rattle.starting.specs.Inputs.{inputsOf}
 use Rattle.listing_text.specs.Rows.{fiveOf, rowsOf, grainsFrom}

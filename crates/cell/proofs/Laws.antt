@@ -1,10 +1,9 @@
--- A test of two tests, a value by the direction, indices that wrap at both edges, and what a grid gives of its box. Assumes nothing.
+-- A value by the direction, indices that wrap at both edges, and what a grid gives of its box. Assumes nothing.
 use Prim.Native.Nat.{ℕ, zero, suc, _+_, _-_, _*_, _%_, _≤_, _<_}
 use mathlib.Core.Path.{_≡_, refl, sym, ap, _∙_}
-use mathlib.Core.Bool.{Bool, true, false, _&&_}
+use mathlib.Core.Bool.{true}
 use native.Mathlib.Omega.{arith}
 use native.Mathlib.Nat.{mod-lt, mod-self, mod-eq-of-lt, add-mod-right, mul-le-mul}
-use Rattle.halting.specs.Out.{pick}
 use Rattle.myvec.specs.declared.MyVec.{MyVec}
 use Rattle.myvec.specs.Vec.{vec}
 use Rattle.model.specs.declared.Domain.{Domain}
@@ -17,20 +16,6 @@ use Rattle.cell.specs.declared.Grid.{Grid}
 use Rattle.cell.specs.declared.CellAlong.{CellAlong}
 use Rattle.cell.specs.declared.Cell.{Cell}
 use Rattle.cell.specs.Cell.{gridOf, Laid, cellAlong, cellOf, IsCell, alongIn, acrossIn, indexIn, besideIn, edgeOf, positionOf}
-
--- ---- what `a && b` answers: q, which is a, passed and r, which is b, is the answer; or r, which is a, failed
-pub both : (q a b r : Bool) → q ≡ a → q ≡ true → r ≡ b → r ≡ (a && b)
-both q a b r m e f = rw (sym m ∙ e) f
-
-pub neither : (a b r : Bool) → r ≡ a → r ≡ false → r ≡ (a && b)
-neither a b r m e = rw (sym m ∙ e) e
-
--- ---- what `if t { x } else { y }` answers
-pub taken : {A : Type 0} (t : Bool) (x y r : A) → t ≡ true → r ≡ x → r ≡ pick t x y
-taken t x y r e f = rw e f
-
-pub left : {A : Type 0} (t : Bool) (x y r : A) → t ≡ false → r ≡ y → r ≡ pick t x y
-left t x y r e f = rw e f
 
 -- ---- what goes by the direction, in a direction that is not 0
 pub other : {A : Type 0} (f : ℕ → A) (v : A) (d : ℕ) → (d ≡ 0 → ⊥) → ((k : ℕ) → v ≡ f (suc k)) → v ≡ f d
@@ -110,9 +95,9 @@ pub is-cell : (b : Domain) (k : Cell) (c : ℕ) → k ≡ cellOf b c → IsCell 
 unfolding cellOf
 is-cell b k c e = rw e
 
-pub index-cell : (b : Domain) (k : Cell) (c : ℕ) → k ≡ cellOf b c → k .index ≡ c
+pub index-cell : (b : Domain) (c : ℕ) {k : Cell} → k ≡ cellOf b c → k .index ≡ c
 unfolding cellOf
-index-cell b k c e = ap (λ (k : Cell). k .index) e
+index-cell b c e = ap (λ (k : Cell). k .index) e
 
 pub along-cell : (b : Domain) (k : Cell) (d : ℕ) → IsCell b k → alongIn k d ≡ cellAlong d b (k .index)
 along-cell b k d e = ap (λ (k : Cell). alongIn k d) e ∙ by d (k .index)

@@ -2,21 +2,22 @@
 use mathlib.Core.Path.{_≡_, refl, sym, ap, _∙_, subst}
 use Prim.Native.Nat.{ℕ, zero, suc, _+_, _*_}
 use native.Mathlib.Omega.{arith}
-use mathlib.Core.List.{List, [], _∷_}
+use mathlib.Core.List.{List}
 use mathlib.Core.Bool.{Bool, true, false}
 use lib.Dec.{T, leb}
-use lib.ListN.{getD, take, drop}
+use lib.ListN.{getD, drop}
 use lib.Seq.{getD-drop}
 use lib.Ieee.{Float, nan, binary64, fits}
-use borrow.Author.Tests.{leb-true, le-leb}
+use borrow.Author.Tests.{le-leb}
 use Rattle.halting.specs.Out.{pick}
 use Rattle.model.specs.declared.Place.{Place}
 use Rattle.model.specs.Sizes.{rated}
 use Rattle.model.specs.State.{none}
-use Rattle.model.specs.Standing.{All}
+use Rattle.halting.specs.Every.{All}
+use Rattle.halting.proofs.All.{all-take}
 use Rattle.model.specs.Check.{halt, Fitted}
 use Rattle.model.specs.Check as model
-use Rattle.model.proofs.Queue.{and-l, and-r}
+use Rattle.halting.proofs.Bools.{and-l, and-r}
 use Rattle.model.proofs.Halts.{halt-range}
 use Rattle.model.proofs.Stands.{stands}
 use Rattle.model.proofs.Reflect.{says-standing}
@@ -40,15 +41,10 @@ unfolding cutBoth
 places-timed zero q e f = tt
 places-timed (suc n) q e f = (f 0, places-timed n (drop 4 q) (drop 10 e) (fits-drop 10 e f))
 
-all-take : (P : Place → Type 0) (k : ℕ) (ps : List Place) → All P ps → All P (take k ps)
-all-take P zero ps a = tt
-all-take P (suc k) [] a = tt
-all-take P (suc k) (p ∷ ps) a = (a .0, all-take P k ps (a .1))
-
 queues-timed : (room n : ℕ) (q : List ℕ) (e : List Float) (c : ℕ) → Fits e → All Timed ((getD (queuesOf room n q e) c none) .live)
 unfolding cutBoth
 queues-timed room zero q e c f = tt
-queues-timed room (suc n) q e zero f = all-take Timed (getD q 0 0) (placesOf room (drop 1 q) e) (places-timed room (drop 1 q) e f)
+queues-timed room (suc n) q e zero f = all-take Timed (placesOf room (drop 1 q) e) (getD q 0 0) (places-timed room (drop 1 q) e f)
 queues-timed room (suc n) q e (suc c) f = queues-timed room n (drop (room * 4 + 1) q) (drop (room * 10) e) c (fits-drop (room * 10) e f)
 
 pub fitted : (t : Tables) → Fits (t .grains) → Fits (t .events) → Fitted (decoded t)

@@ -8,8 +8,9 @@ use mathlib.Core.List.{List, [], _∷_, _++_, append-assoc}
 use lib.ListN.{length, take, drop, take-append-drop}
 use lib.Seq.{take-at, drop-at, drop-drop}
 use lib.Ieee.{Float}
-use Rattle.chunks.specs.Flat.{flat, Every}
-use Rattle.chunks.proofs.Laws.{length-flat}
+use Rattle.halting.specs.Every.{All}
+use Rattle.halting.proofs.All.{all-to, all-always}
+use Rattle.chunks.specs.Flat.{flat}
 use Rattle.scheduler.specs.declared.Scheduler.{Scheduler}
 use Rattle.model.specs.declared.Domain.{Domain}
 use Rattle.model.specs.declared.Particle.{Particle}
@@ -18,13 +19,15 @@ use Rattle.model.specs.State.{Row, row, State}
 use Rattle.tables.specs.declared.Sizes.{Sizes}
 use Rattle.tables.specs.Layout.{places, grainReals, rowNums, placeNums, placeReals, queueNums, queueReals}
 use Rattle.tables.specs.Holds.{Rows, Good}
+use Rattle.tables.proofs.ListLaws.{rows-long}
+use Rattle.tables.proofs.Runs.{row-nums-long, row-reals-long}
 use Rattle.checks.specs.Decode.{Tables, decoded, decodedBy, cut, cutBoth, rowOf, grainAt, grainsOf, rowAt, rowsOf, placeAt, placesOf, queueAt, queuesOf, schedulerOf}
 use Rattle.checks.specs.Check.{listsNeed, grainsNeed, queueNeed, eventsNeed}
 use Rattle.checks.specs.Held.{Hold}
 
 -- ---- records that are written are read back, whatever follows them
 module _ {A B : Type 0} (read : List B → A) (enc : A → List B) (w : ℕ) (again : (x : A) (y : List B) → length (enc x) ≡ w → read (enc x ++ y) ≡ x) where
-  cut-back : (n : ℕ) (xs : List A) (y : List B) → length xs ≡ n → Every (λ (x : A). length (enc x) ≡ w) xs → cut read w n (flat enc xs ++ y) ≡ xs
+  cut-back : (n : ℕ) (xs : List A) (y : List B) → length xs ≡ n → All (λ (x : A). length (enc x) ≡ w) xs → cut read w n (flat enc xs ++ y) ≡ xs
   unfolding cut
   cut-back zero [] y e v = refl
   cut-back zero (x ∷ xs) y e v = absurd (suc-ne-zero (length xs) e)
@@ -36,7 +39,7 @@ module _ {A B : Type 0} (read : List B → A) (enc : A → List B) (w : ℕ) (ag
 
 module _ {A B C : Type 0} (read : List B → List C → A) (enc : A → List B) (enc′ : A → List C) (w v : ℕ) (P : A → Type 0)
     (long : (x : A) → P x → length (enc x) ≡ w) (long′ : (x : A) → P x → length (enc′ x) ≡ v) (again : (x : A) (y : List B) (z : List C) → P x → read (enc x ++ y) (enc′ x ++ z) ≡ x) where
-  both-back : (n : ℕ) (xs : List A) (y : List B) (z : List C) → length xs ≡ n → Every P xs → cutBoth read w v n (flat enc xs ++ y) (flat enc′ xs ++ z) ≡ xs
+  both-back : (n : ℕ) (xs : List A) (y : List B) (z : List C) → length xs ≡ n → All P xs → cutBoth read w v n (flat enc xs ++ y) (flat enc′ xs ++ z) ≡ xs
   unfolding cutBoth
   both-back zero [] y z e f = refl
   both-back zero (x ∷ xs) y z e f = absurd (suc-ne-zero (length xs) e)
@@ -58,58 +61,25 @@ row-back {A} r =
 nums-back : (v : ℕ) (r : Row ℕ) (y : List ℕ) → length (rowNums r) ≡ v + 1 → rowAt v (rowNums r ++ y) ≡ r
 nums-back v r y e = ap (rowOf (length (r .live))) (take-at (places r) y v (let a = add-one v in omega arith)) ∙ row-back r
 
-abbrev All′ : Place → Type 0
-All′ p = Unit {0}
-
-all-units : (ps : List Place) → Every All′ ps
-all-units [] = tt
-all-units (p ∷ ps) = (tt, all-units ps)
-
 places-back : (n : ℕ) (ps : List Place) (y : List ℕ) (z : List Float) → length ps ≡ n → placesOf n (flat placeNums ps ++ y) (flat placeReals ps ++ z) ≡ ps
-places-back n ps y z e = both-back placeAt placeNums placeReals 4 10 All′ (λ x u. refl) (λ x u. refl) (λ x y z u. refl) n ps y z e (all-units ps)
+places-back n ps y z e = both-back placeAt placeNums placeReals 4 10 (λ p. Unit {0}) (λ x u. refl) (λ x u. refl) (λ x y z u. refl) n ps y z e (all-always (λ p. Unit {0}) (λ p. tt) ps)
 
-module _ (room : ℕ) (r : Row Place) (f : length (places r) ≡ room) where
-  wide-nums : (ps : List Place) → length (flat placeNums ps) ≡ length ps * 4
-  wide-nums ps = length-flat placeNums 4 ps (each ps)
-    where
-      each : (ps : List Place) → Every (λ (p : Place). length (placeNums p) ≡ 4) ps
-      each [] = tt
-      each (p ∷ ps) = (refl, each ps)
-
-  wide-reals : (ps : List Place) → length (flat placeReals ps) ≡ length ps * 10
-  wide-reals ps = length-flat placeReals 10 ps (each ps)
-    where
-      each : (ps : List Place) → Every (λ (p : Place). length (placeReals p) ≡ 10) ps
-      each [] = tt
-      each (p ∷ ps) = (refl, each ps)
-
-  pub long-nums : length (queueNums r) ≡ room * 4 + 1
-  long-nums = ap suc (wide-nums (places r) ∙ ap (λ (n : ℕ). n * 4) f) ∙ sym (add-one (room * 4))
-
-  pub long-reals : length (queueReals r) ≡ room * 10
-  long-reals = wide-reals (places r) ∙ ap (λ (n : ℕ). n * 10) f
-
-  queue-back : (y : List ℕ) (z : List Float) → queueAt room (queueNums r ++ y) (queueReals r ++ z) ≡ r
-  queue-back y z = ap (rowOf (length (r .live))) (places-back room (places r) y z f) ∙ row-back r
+queue-back : (room : ℕ) (r : Row Place) → length (places r) ≡ room → (y : List ℕ) (z : List Float) → queueAt room (queueNums r ++ y) (queueReals r ++ z) ≡ r
+queue-back room r f y z = ap (rowOf (length (r .live))) (places-back room (places r) y z f) ∙ row-back r
 
 -- ---- the parts
-pub row-wide : (k : ℕ) (rs : List (Row ℕ)) → Every (λ (r : Row ℕ). length (places r) ≡ k) rs → Every (λ (r : Row ℕ). length (rowNums r) ≡ k + 1) rs
-row-wide k [] v = tt
-row-wide k (r ∷ rs) v = (ap suc (v .0) ∙ sym (add-one k), row-wide k rs (v .1))
+pub row-wide : (k : ℕ) (rs : List (Row ℕ)) → All (λ (r : Row ℕ). length (places r) ≡ k) rs → All (λ (r : Row ℕ). length (rowNums r) ≡ k + 1) rs
+row-wide k rs v = all-to (λ (r : Row ℕ). length (places r) ≡ k) (λ (r : Row ℕ). length (rowNums r) ≡ k + 1) rs (λ r e. ap suc e ∙ sym (add-one k)) v
 
 rows-back : (k : ℕ) {m n : ℕ} (rs : List (Row ℕ)) (y : List ℕ) → Rows m k n rs → rowsOf k m (flat rowNums rs ++ y) ≡ rs
 rows-back k {m = m} rs y R = cut-back (rowAt k) rowNums (k + 1) (nums-back k) m rs y (R .many) (row-wide k rs (R .wide))
 
 grains-back : (n : ℕ) (gs : List Particle) (y : List Float) → length gs ≡ n → grainsOf n (flat grainReals gs ++ y) ≡ gs
-grains-back n gs y e = cut-back grainAt grainReals 6 (λ p y e. refl) n gs y e (each gs)
-  where
-    each : (gs : List Particle) → Every (λ (p : Particle). length (grainReals p) ≡ 6) gs
-    each [] = tt
-    each (p ∷ gs) = (refl, each gs)
+grains-back n gs y e = cut-back grainAt grainReals 6 (λ p y e. refl) n gs y e (all-always (λ (p : Particle). length (grainReals p) ≡ 6) (λ p. refl) gs)
 
-queues-back : (room n : ℕ) (qs : List (Row Place)) (y : List ℕ) (z : List Float) → length qs ≡ n → Every (Good room) qs → queuesOf room n (flat queueNums qs ++ y) (flat queueReals qs ++ z) ≡ qs
+queues-back : (room n : ℕ) (qs : List (Row Place)) (y : List ℕ) (z : List Float) → length qs ≡ n → All (Good room) qs → queuesOf room n (flat queueNums qs ++ y) (flat queueReals qs ++ z) ≡ qs
 queues-back room n qs y z e f =
-    both-back (queueAt room) queueNums queueReals (room * 4 + 1) (room * 10) (Good room) (λ r g. long-nums room r (g .full)) (λ r g. long-reals room r (g .full)) (λ r y z g. queue-back room r (g .full) y z) n qs y z e f
+    both-back (queueAt room) queueNums queueReals (room * 4 + 1) (room * 10) (Good room) (λ r g. row-nums-long room r (g .full)) (λ r g. row-reals-long room r (g .full)) (λ r y z g. queue-back room r (g .full) y z) n qs y z e f
 
 scheduler-back : (n : ℕ) (o : List ℕ) (h : Scheduler) → take 512 o ≡ h .heap ++ h .lookups → length (h .heap) ≡ 256 → length (h .lookups) ≡ 256 → h .cells ≡ n → schedulerOf n o ≡ h
 scheduler-back n o h e a b c = same first second (sym c)
@@ -148,9 +118,7 @@ module _ (z : Sizes) (t : Tables) (s : State) (H : Hold z t s) where
 
   pub members-cut : drop (6 + z .grains * 9) (t .lists) ≡ flat rowNums (s .members) ++ beyond
   members-cut =
-      let R = H .body .listed .homes in
-      let long : length (flat rowNums (s .homes)) ≡ z .grains * 9 = length-flat rowNums 9 (s .homes) (row-wide 8 (s .homes) (R .wide)) ∙ ap (λ (n : ℕ). n * 9) (R .many) in
-      sym (drop-drop (z .grains * 9) 6 (t .lists)) ∙ ap (drop (z .grains * 9)) lists-cut ∙ drop-at (flat rowNums (s .homes)) (flat rowNums (s .members) ++ beyond) (z .grains * 9) long
+      sym (drop-drop (z .grains * 9) 6 (t .lists)) ∙ ap (drop (z .grains * 9)) lists-cut ∙ drop-at (flat rowNums (s .homes)) (flat rowNums (s .members) ++ beyond) (z .grains * 9) (rows-long (H .body .listed .homes))
 
   members-back : rowsOf 32 (z .cells) (drop (6 + z .grains * 9) (t .lists)) ≡ s .members
   members-back = ap (rowsOf 32 (z .cells)) members-cut ∙ rows-back 32 (s .members) beyond (H .body .listed .members)

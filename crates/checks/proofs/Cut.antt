@@ -6,25 +6,24 @@ use native.Mathlib.Omega.{arith}
 use mathlib.Core.List.{List, [], _∷_}
 use mathlib.Core.Bool.{Bool, true, false}
 use lib.Dec.{leb}
-use lib.ListN.{length, getD, take, drop, length-drop}
-use lib.Seq.{take-all, drop-drop}
+use lib.ListN.{length, getD, take, drop}
+use lib.Seq.{drop-cons, drop-drop}
 use borrow.Author.Tests.{leb-true, le-leb, lt-leb}
 use borrow.Rule.Slice.PartMut.{midOf}
-use Rattle.model.proofs.Queue.{and-l, and-r}
+use Rattle.halting.proofs.Bools.{and-l, and-r}
+use Rattle.chunks.proofs.Laws.{tail-is, tail-long}
 use Rattle.checks.specs.Decode.{cut, cutBoth}
 use Rattle.checks.specs.Check.{counted}
 use Rattle.checks.specs.Walk.{Rowed, First}
 
--- ---- a part that goes to the end
-pub tail-is : {B : Type 0} (w : ℕ) (l : List B) → midOf w (length l - w) l ≡ drop w l
-tail-is w l = take-all (length l - w) (drop w l) (let e = length-drop w l in omega arith)
+-- ---- some places of a list, one by one
+abbrev tab : {A : Type 0} → List A → A → ℕ → ℕ → List A
+tab l d zero i = []
+tab l d (suc n) i = getD l i d ∷ tab l d n (suc i)
 
-pub tail-long : {B : Type 0} (w : ℕ) (l : List B) → length (midOf w (length l - w) l) ≡ length l - w
-tail-long w l = ap length (tail-is w l) ∙ length-drop w l
-
--- a number above zero is not zero, as a loop's test says it and as the laws ask it
-pub some : {n : ℕ} → 0 < n → n ≡ 0 → ⊥
-some h e = let k = h in not-suc-le-zero (subst (λ (m : ℕ). 0 < m) e k)
+pub take-tab : {A : Type 0} (l : List A) (d : A) (n i : ℕ) → i + n ≤ length l → take n (drop i l) ≡ tab l d n i
+take-tab l d zero i h = refl
+take-tab {A} l d (suc n) i h = ap (take (suc n)) (drop-cons l i d (omega arith)) ∙ ap (λ (x : List A). getD l i d ∷ x) (take-tab l d n (suc i) (omega arith))
 
 -- of n records the first, and the others
 pub less-rows : (n w L : ℕ) → (n ≡ 0 → ⊥) → n * w ≤ L → (w ≤ L) × ((n - 1) * w ≤ L - w)
@@ -40,15 +39,6 @@ one-off n = omega arith
 -- the record after c others
 pub drop-next : {B : Type 0} (c w : ℕ) (l : List B) → drop (c * w) (drop w l) ≡ drop (suc c * w) l
 drop-next c w l = let e : w + c * w ≡ suc c * w = (let s = suc-mul c w in omega arith) in drop-drop (c * w) w l ∙ ap (λ (k : ℕ). drop k l) e
-
--- ---- the first numbers of a list
-pub take-none : {B : Type 0} (k : ℕ) (l : List B) → k ≡ 0 → take k l ≡ []
-take-none k l e = rw e
-
-pub take-step : {B : Type 0} (k : ℕ) (l : List B) (d : B) → (k ≡ 0 → ⊥) → k ≤ length l → take k l ≡ getD l 0 d ∷ take (k - 1) (midOf 1 (length l - 1) l)
-take-step zero l d z h = absurd (z refl)
-take-step (suc k) [] d z h = absurd (not-suc-le-zero h)
-take-step {B} (suc k) (x ∷ l) d z h = ap (λ (m : List B). x ∷ take k m) (sym (tail-is 1 (x ∷ l))) ∙ ap (λ (j : ℕ). x ∷ take j (midOf 1 (length (x ∷ l) - 1) (x ∷ l))) (one-off k)
 
 -- ---- records
 module _ {A B : Type 0} (read : List B → A) (w : ℕ) where

@@ -5,38 +5,26 @@ use native.Mathlib.Nat.{zero-mul, suc-mul, mul-le-mul-right}
 use native.Mathlib.Numerals.{add-one}
 use native.Mathlib.Omega.{arith}
 use mathlib.Core.List.{List, [], _∷_, _++_}
-use mathlib.Core.Bool.{Bool, true, false, _||_}
-use lib.Dec.{eqb}
+use mathlib.Core.Bool.{true}
 use lib.ListN.{length, getD, take, drop, length-append, length-drop, take-append-drop}
-use lib.Seq.{take-add, drop-drop, drop-cons, length-take-le}
-use lib.Ieee.{Float, nan, lt}
-use borrow.Author.Tests.{eq-eqb}
-use Rattle.chunks.specs.Flat.{flat, Every}
-use Rattle.chunks.proofs.Laws.{every-of}
-use Rattle.order.specs.Numbers.{last}
-use Rattle.order.proofs.Compare.{lt-asym}
+use lib.Seq.{take-add, drop-drop, length-take-le}
+use lib.Ieee.{Float, nan}
+use Rattle.halting.specs.Every.{All}
+use Rattle.halting.proofs.All.{all-of}
+use Rattle.chunks.specs.Flat.{flat}
 use Rattle.model.specs.declared.Place.{Place}
 use Rattle.model.specs.Grid.{cells}
-use Rattle.model.specs.State.{Row, none, listed, has}
-use Rattle.model.specs.Standing.{All}
-use Rattle.model.specs.Sound.{Held, Numbers, Side, Stands}
-use Rattle.model.proofs.Queue.{of-T, fine-top}
+use Rattle.model.specs.State.{Row, none, listed}
+use Rattle.model.specs.Sound.{Numbers, Side, Stands}
+use Rattle.model.proofs.Lists.{has-all}
 use Rattle.tables.specs.declared.Sizes.{Sizes}
 use Rattle.tables.specs.Layout.{places, grainReals, rowNums, placeNums, placeReals, queueNums, queueReals}
 use Rattle.tables.specs.Holds.{Grained, Rows, Listed, Good, Tabled, Heaped, Holds}
+use Rattle.tables.proofs.Runs.{good-of}
 use Rattle.checks.specs.Decode.{Tables, decodedBy, cut, cutBoth, grainsPart, grainAt, rowAt, rowsOf, placeAt, placesOf, queueAt}
 use Rattle.checks.specs.Check.{Legible, Sized, counted, listsNeed, grainsNeed, listsBody, grainsBody, queueBody, eventsBody, orderBody}
-use Rattle.checks.proofs.Cut.{drop-next, cut-long, both-long, counted-at}
-use Rattle.checks.proofs.OneRow.{live-long}
-
--- ---- some places of a list, one by one
-abbrev tab : {A : Type 0} → List A → A → ℕ → ℕ → List A
-tab l d zero i = []
-tab l d (suc n) i = getD l i d ∷ tab l d n (suc i)
-
-take-tab : {A : Type 0} (l : List A) (d : A) (n i : ℕ) → i + n ≤ length l → take n (drop i l) ≡ tab l d n i
-take-tab l d zero i h = refl
-take-tab {A} l d (suc n) i h = ap (take (suc n)) (drop-cons l i d (omega arith)) ∙ ap (λ (x : List A). getD l i d ∷ x) (take-tab l d n (suc i) (omega arith))
+use Rattle.checks.proofs.Cut.{take-tab, drop-next, cut-long, both-long, counted-at}
+use Rattle.checks.proofs.OneRow.{row-read}
 
 -- ---- records that are read are those that were written
 module _ {A B : Type 0} (read : List B → A) (enc : A → List B) (w : ℕ) where
@@ -87,12 +75,6 @@ inside n w i l h g = let s = suc-mul i w in let m = mul-le-mul-right w g in let 
 grain-read : (l : List Float) → 6 ≤ length l → grainReals (grainAt l) ≡ take 6 l
 grain-read l h = sym (take-tab l nan 6 0 h)
 
-row-read : (v : ℕ) (l : List ℕ) → getD l 0 0 ≤ v → v + 1 ≤ length l → rowNums (rowAt v l) ≡ take (v + 1) l
-row-read v [] h k = absurd (omega arith)
-row-read v (x ∷ l) h k =
-    ap (λ (n : ℕ). n ∷ ((rowAt v (x ∷ l)) .live ++ (rowAt v (x ∷ l)) .spare)) (live-long v (x ∷ l) h k)
-    ∙ ap (λ (y : List ℕ). x ∷ y) (take-append-drop x (take v l)) ∙ ap (λ (n : ℕ). take n (x ∷ l)) (sym (add-one v))
-
 places-nums : (n : ℕ) (q : List ℕ) (e : List Float) → n * 4 ≤ length q → flat placeNums (placesOf n q e) ≡ take (n * 4) q
 places-nums n q e h = both-first placeAt 4 10 placeNums n q e (λ i g. sym (take-tab (drop (i * 4) q) 0 4 0 (inside n 4 i q h g)))
 
@@ -117,19 +99,6 @@ module _ (room : ℕ) (q : List ℕ) (e : List Float) (h : getD q 0 0 ≤ room) 
   queue-reals : room * 10 ≤ length e → queueReals (queueAt room q e) ≡ take (room * 10) e
   queue-reals k = ap (flat placeReals) all-places ∙ places-reals room (drop 1 q) e k
 
-has-every : (P : ℕ → Type 0) (l : List ℕ) → ((x : ℕ) → has x l ≡ true → P x) → Every P l
-unfolding has
-has-every P [] f = tt
-has-every P (y ∷ ys) f = (f y (rw (eq-eqb y y refl)), has-every P ys (λ x h. f x (more (eqb x y) (has x ys) h)))
-  where
-    more : (a b : Bool) → b ≡ true → (a || b) ≡ true
-    more true b e = refl
-    more false b e = e
-
-held-tops : (n c : ℕ) (l : List ℕ) (ps : List Place) → All (Held n c l) ps → Every (λ (p : Place). lt last (p .time) ≡ false) ps
-held-tops n c l [] a = tt
-held-tops n c l (p ∷ ps) a = (lt-asym (p .time) last (of-T (lt (p .time) last) (fine-top p (a .0 .fine))), held-tops n c l ps (a .1))
-
 -- a side of the lists
 pub side-rows : (k : ℕ) (rs : List (Row ℕ)) {a b m n : ℕ} → a ≡ m → b ≡ n → Side a b k rs → Rows m k n rs
 side-rows k rs {m = m} {n = n} p q u = rows (rw (p, q) at u)
@@ -140,9 +109,9 @@ side-rows k rs {m = m} {n = n} p q u = rows (rw (p, q) at u)
     rows : Side m n k rs → Rows m k n rs
     rows s = record {
       many = s .long;
-      wide = every-of (λ (r : Row ℕ). length (places r) ≡ k) none rs (λ i h. wide (getD rs i none) (s .each i (let e = s .long in omega arith)));
-      below = every-of (λ (r : Row ℕ). Every (λ (x : ℕ). x < n) (r .live)) none rs
-          (λ i h. has-every (λ (x : ℕ). x < n) ((getD rs i none) .live) (s .each i (let e = s .long in omega arith) .below));
+      wide = all-of (λ (r : Row ℕ). length (places r) ≡ k) none rs (λ i h. wide (getD rs i none) (s .each i (let e = s .long in omega arith)));
+      below = all-of (λ (r : Row ℕ). All (λ (x : ℕ). x < n) (r .live)) none rs
+          (λ i h. has-all (λ (x : ℕ). x < n) ((getD rs i none) .live) (s .each i (let e = s .long in omega arith) .below));
     }
 
 -- ---- what the tables hold
@@ -198,14 +167,12 @@ module _ (z : Sizes) (t : Tables) (S : Sized z t) (L : Legible z (t .lists) (t .
         events-is = sym (both-second (queueAt (z .room)) w v queueReals (z .cells) (t .queue) (t .events)
             (λ i h. queue-reals (z .room) (drop (i * w) (t .queue)) (drop (i * v) (t .events)) (counted-at (z .room) w (z .cells) (t .queue) i (L .events) h) (inside (z .cells) v i (t .events) (S .events-long) h)));
         many = many;
-        good = every-of (Good (z .room)) none qs (λ i h. good i (let e = cells-agree in omega arith));
+        good = all-of (Good (z .room)) none qs (λ i h. good i (let e = cells-agree in omega arith));
       }
     where
       good : (i : ℕ) → i < cells ((decodedBy z t) .box) → Good (z .room) (getD ((decodedBy z t) .queues) i none)
       good i h =
-          let q = F .sound .queues i h in
-          let r = getD ((decodedBy z t) .queues) i none in
-          record { full = length-append (r .live) (r .spare) ∙ q .full; tops = held-tops (cells ((decodedBy z t) .box)) i (listed (decodedBy z t) i) (r .live) (q .held) }
+          good-of (cells ((decodedBy z t) .box)) i (listed (decodedBy z t) i) (getD ((decodedBy z t) .queues) i none) (F .sound .queues i h)
 
   heap-held : Heaped z (orderBody (t .order)) ((decodedBy z t) .sched)
   heap-held = record {

@@ -1,5 +1,4 @@
 -- The laws of the tables' reading and of the tests.
-pub mod Bools
 pub mod Cut
 pub mod Lists
 pub mod OneRow

@@ -3,7 +3,6 @@ use mathlib.Core.Path.{_≡_}
 use Prim.Native.Nat.{ℕ, _+_}
 use mathlib.Core.List.{List, [], _∷_}
 use mathlib.Core.Bool.{Bool, true, false}
-use lib.Dec.{eqb}
 use Rattle.model.specs.State.{has}
 use Rattle.model.specs.Check.{all, once}
 use Rattle.checks.specs.Walk.{walk}
@@ -30,19 +29,6 @@ module _ {A : Type 0} (p : ℕ → A → Bool) (i : ℕ) {xs : List A} where
   pub walk-more : (x : A) (ys : List A) {r : Bool} → xs ≡ x ∷ ys → p i x ≡ true → r ≡ walk p (i + 1) ys → r ≡ walk p i xs
   unfolding walk
   walk-more x ys e f g = rw (e, f) g
-
-module _ (x : ℕ) {xs : List ℕ} where
-  pub has-none : xs ≡ [] → false ≡ has x xs
-  unfolding has
-  has-none e = rw e
-
-  pub has-yes : (y : ℕ) (ys : List ℕ) → xs ≡ y ∷ ys → eqb x y ≡ true → true ≡ has x xs
-  unfolding has
-  has-yes y ys e f = rw (e, f)
-
-  pub has-more : (y : ℕ) (ys : List ℕ) {r : Bool} → xs ≡ y ∷ ys → eqb x y ≡ false → r ≡ has x ys → r ≡ has x xs
-  unfolding has
-  has-more y ys e f g = rw (e, f) g
 
 module _ {xs : List ℕ} where
   pub once-none : xs ≡ [] → true ≡ once xs

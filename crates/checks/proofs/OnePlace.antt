@@ -6,22 +6,20 @@ use mathlib.Core.List.{List, [], _∷_}
 use mathlib.Core.Bool.{Bool, true, false, not, _&&_}
 use lib.Dec.{eqb, ltb}
 use lib.ListN.{length, getD, take, drop, take-append-drop, length-append}
-use lib.Ieee.{Float, nan, le, lt}
-use lib.Ieee.Scale.{finite}
+use lib.Ieee.{Float, nan, le}
 use borrow.Author.Tests.{eq-eqb}
 use borrow.Rule.Slice.PartMut.{midOf}
-use Rattle.halting.specs.Every.{every}
-use Rattle.order.specs.Numbers.{last}
 use Rattle.model.specs.declared.Place.{Place}
 use Rattle.model.specs.declared.Event.{Event}
 use Rattle.model.specs.declared.Event.the-variants.{InterParticleCollision, MoveToNeighbour, MoveOutOfCell, WallReflection, Synchronisation}
-use Rattle.model.specs.Events.{eventOf, finePlace}
+use Rattle.model.specs.Events.{eventOf}
 use Rattle.model.specs.State.{has}
 use Rattle.model.specs.Standing.{syncs, one-if}
 use Rattle.model.specs.Check.{all, rising, named, held, queueOk}
+use Rattle.chunks.proofs.Laws.{tail-is}
+use Rattle.tables.specs.Holds.{Run}
 use Rattle.checks.specs.Decode.{placeAt, placesOf, queueAt}
-use Rattle.checks.proofs.Cut.{tail-is, both-take, both-long}
-use Rattle.checks.proofs.Bools.{one, pair, last-one, to-end}
+use Rattle.checks.proofs.Cut.{take-tab, both-take, both-long}
 
 -- ---- the tests of a list of places, step by step
 module _ (t : Float) {xs : List Place} where
@@ -109,13 +107,9 @@ module _ (n c : ℕ) (l : List ℕ) (s : Place) where
   pub named-wall : (k : ℕ) → 1 ≤ k → k ≤ 4 → (k ≡ 1 → ⊥) → (k ≡ 2 → ⊥) → (k ≡ 3 → ⊥) → has (s .p) l ≡ true → true ≡ named n c l (eventOf k s)
   named-wall k h g x y z e = let f : k ≡ 4 = omega arith in rw (f, e)
 
--- ---- the floats of a place
-pub fine-is : (q : List ℕ) (e : List Float) → finePlace (placeAt q e) ≡ (every (λ i. finite (getD e i nan)) 10 0 && lt (getD e 0 nan) last)
-unfolding finePlace every
-fine-is q e =
-    let f : ℕ → Bool = λ i. finite (getD e i nan) in
-    to-end (f 0) (lt (getD e 0 nan) last) _
-    ∙ ap (λ (b : Bool). b && lt (getD e 0 nan) last) (one (f 0) (pair (f 1) (f 2) (pair (f 3) (f 4) (pair (f 5) (f 6) (pair (f 7) (f 8) (last-one (f 9)))))))
+-- ---- the place that two parts hold
+pub place-run : (q : List ℕ) (e : List Float) → 4 ≤ length q → 10 ≤ length e → Run (midOf 0 4 q) (midOf 0 10 e) (placeAt q e ∷ [])
+place-run q e h k = record { nums-is = take-tab q 0 4 0 h; reals-is = take-tab e nan 10 0 k }
 
 -- ---- a row of places: those in use are the first that follow the count
 module _ (room : ℕ) (q : List ℕ) (e : List Float) (h : getD q 0 0 ≤ room) where

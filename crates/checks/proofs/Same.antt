@@ -21,15 +21,14 @@ use Rattle.model.specs.declared.Place.{Place}
 use Rattle.model.specs.Standing.{syncs}
 use Rattle.model.specs.Check.{all, numbers, side, back, inverse, sound}
 use Rattle.model.specs.Check as model
-use Rattle.model.proofs.Lists.{clash}
-use Rattle.model.proofs.Queue.{and-l, and-r}
-use Rattle.model.proofs.Reflect.{both-ways}
+use Rattle.halting.proofs.Bools.{clash, and-l, and-r, both-ways}
 use Rattle.tables.specs.declared.Sizes.{Sizes}
 use Rattle.checks.specs.Decode.{Tables, mark, decodedBy, homesPart, membersPart, grainsPart, grainAt, grainsOf, rowAt, rowsOf, placesOf, queueAt, queuesOf}
 use Rattle.checks.specs.Check.{Sized, Legible, counted, legibleBy, standing}
 use Rattle.checks.specs.Walk.{walk, backRow, housed, linked, inOrder}
 use Rattle.checks.specs.Parts.{boxed, grainOk, settled, queueIn, queued, heaped, parts}
-use Rattle.checks.proofs.Cut.{tail-is, cut-long, both-long, both-at, counted-at}
+use Rattle.chunks.proofs.Laws.{tail-is}
+use Rattle.checks.proofs.Cut.{cut-long, both-long, both-at, counted-at}
 use Rattle.checks.proofs.OnePlace.{queue-live}
 use Rattle.checks.proofs.Order.{time-in}
 use Rattle.checks.proofs.Turns.{every-same, every-all, every-walk}

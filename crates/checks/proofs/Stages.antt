@@ -11,13 +11,13 @@ use borrow.Author.Tests.{leb-true, le-leb}
 use borrow.Rule.Slice.PartMut.{midOf}
 use Rattle.model.specs.Sizes.{rated}
 use Rattle.model.specs.Check.{halt}
-use Rattle.model.proofs.Queue.{and-l, and-r}
+use Rattle.halting.proofs.Bools.{and-l, and-r}
 use Rattle.tables.specs.declared.Sizes.{Sizes}
 use Rattle.checks.specs.Decode.{Tables, mark, sizesOf, rowsOf}
 use Rattle.checks.specs.Check.{Legible, ranged, listsNeed, grainsNeed, queueNeed, eventsNeed, long, sizedBy, sized, Sized, legibleBy, standing, checked}
 use Rattle.checks.specs.Walk.{Rowed, linked}
 use Rattle.checks.specs.Parts.{settled, queued, heaped, parts}
-use Rattle.checks.proofs.Cut.{tail-is}
+use Rattle.chunks.proofs.Laws.{tail-is}
 use Rattle.checks.proofs.Same.{homesIn, membersIn}
 
 -- ---- 2

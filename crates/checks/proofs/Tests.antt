@@ -1,4 +1,4 @@
--- The tests that join others, as the code answers them; and the floats of a grain. Assumes nothing.
+-- The tests that join others, as the code answers them. Assumes nothing.
 use mathlib.Core.Path.{_≡_, sym, ap, _∙_}
 use Prim.Native.Nat.{ℕ, _*_, _≤_}
 use native.Mathlib.Nat.{mul-le-mul}
@@ -7,29 +7,23 @@ use mathlib.Core.List.{List, [], _∷_}
 use mathlib.Core.Bool.{Bool, true, false, _&&_}
 use lib.Dec.{eqb}
 use lib.ListN.{length, getD, take, drop}
-use lib.Ieee.{Float, nan, le, fits}
-use lib.Ieee.Scale.{finite}
+use lib.Ieee.{Float, le, fits}
 use Rattle.halting.specs.Every.{every}
 use Rattle.order.specs.Numbers.{nine, fortyeight}
 use Rattle.scheduler.specs.Heap.{headIn}
 use Rattle.model.specs.Grid.{cellsOf}
 use Rattle.model.specs.Sizes.{within}
-use Rattle.model.specs.Acts.{fineGrain}
 use Rattle.model.specs.State.{Row}
 use Rattle.model.specs.Standing.{syncs}
 use Rattle.model.specs.Check.{inverse}
-use Rattle.model.proofs.Queue.{T-of, and-l, and-r}
+use Rattle.halting.proofs.Bools.{and-l, and-r}
+use Rattle.model.proofs.Queue.{T-of}
 use Rattle.model.proofs.Grid.{cells-range}
 use Rattle.tables.specs.declared.Sizes.{Sizes}
-use Rattle.checks.specs.Decode.{grainAt, placesOf, queuesOf}
+use Rattle.checks.specs.Decode.{placesOf, queuesOf}
 use Rattle.checks.specs.Walk.{walk, inOrder}
 use Rattle.checks.specs.Held.{Fits}
 use Rattle.checks.specs.Parts.{queueIn, queued, heaped}
-use Rattle.checks.proofs.Bools.{pair, last-pair}
-
-pub grain-is : (g : List Float) → fineGrain (grainAt g) ≡ every (λ i. finite (getD g i nan)) 6 0
-unfolding fineGrain every
-grain-is g = let f : ℕ → Bool = λ i. finite (getD g i nan) in pair (f 0) (f 1) (pair (f 2) (f 3) (last-pair (f 4) (f 5)))
 
 pub cells-fit : (x y : Float) → within nine fortyeight x ≡ true → within nine fortyeight y ≡ true → cellsOf x * cellsOf y ≤ 256
 cells-fit x y a b = mul-le-mul {m₁ = cellsOf y} {n₂ = 16} {m₂ = 16} (most x a) (most y b)

@@ -5,7 +5,6 @@ ghost use lib.ListN.{length};
 ghost use Rattle.model.specs.Check.{all};
 ghost use Rattle.checks.specs.Decode.{grainsOf};
 ghost use Rattle.checks.specs.Parts.{grainOk};
-use crate::floats;
 
 // Are the numbers of n grains finite, and their times at most t?
 pub fn settled(reals: &[f64], n: usize, t: f64) -> bool
@@ -15,10 +14,11 @@ pub fn settled(reals: &[f64], n: usize, t: f64) -> bool
     if n == 0 {
         return true;
     }
-    if !floats::all_finite(reals, 6) {
+    let p = tables::grains::read_grain(&reals[0..6]);
+    if !particle::fine_grain(p) {
         return false;
     }
-    if reals[4] <= t {
+    if p.time <= t {
         return settled(&reals[6..], n - 1, t);
     }
     false

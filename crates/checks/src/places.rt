@@ -4,14 +4,12 @@ ghost use Prim.Native.Nat.{ℕ, _+_, _*_, _≤_};
 ghost use mathlib.Core.List.{List};
 ghost use lib.ListN.{length, getD, take};
 ghost use lib.Ieee.{Float};
-ghost use Rattle.model.specs.Events.{eventOf, finePlace};
+ghost use Rattle.model.specs.Events.{eventOf};
 ghost use Rattle.model.specs.State.{liveAt};
 ghost use Rattle.model.specs.Standing.{syncs};
 ghost use Rattle.model.specs.Check.{all, rising, named, held, queueOk};
 ghost use Rattle.checks.specs.Decode.{rowAt, rowsOf, placeAt, placesOf, queueAt, queuesOf};
 ghost use Rattle.checks.specs.Walk.{First, Rowed, walk};
-use crate::floats;
-use crate::rows;
 
 // Are the times of the first k places in order, from t on?
 fn rising(reals: &[f64], k: usize, t: f64) -> bool
@@ -34,17 +32,6 @@ fn rising(reals: &[f64], k: usize, t: f64) -> bool
     true
 }
 
-// The first place: are its floats finite, and its time below f64::MAX?
-fn fine_place(reals: &[f64]) -> bool
-    requires { ⌜ 10 ≤ length (now reals) ⌝ }
-    ensures { λ r. ⌜ ((q : List ℕ) → r ≡ finePlace (placeAt q (now (reals .entry)))) ⌝ }
-{
-    if !floats::all_finite(reals, 10) {
-        return false;
-    }
-    reals[0] < 1.7976931348623157e308
-}
-
 // The first place, of cell c of n, which lists the first k of `members`: does its event name only grains and cells that it may?
 fn named(nums: &[u64], members: &[u64], k: usize, n: u64, c: u64) -> bool
     requires { ⌜ (4 ≤ length (now nums)) × (k ≤ length (now members)) ⌝ }
@@ -58,12 +45,12 @@ fn named(nums: &[u64], members: &[u64], k: usize, n: u64, c: u64) -> bool
         return c == 0;
     }
     let p = nums[1];
-    if !rows::has(members, k, p) {
+    if !tables::rows::has(members, k, p) {
         return false;
     }
     if kind == 1 {
         let q = nums[2];
-        if !rows::has(members, k, q) {
+        if !tables::rows::has(members, k, q) {
             return false;
         }
         return p != q;
@@ -89,7 +76,8 @@ fn held(nums: &[u64], reals: &[f64], members: &[u64], k: usize, n: u64, c: u64) 
     if 5 < kind {
         return false;
     }
-    if !fine_place(reals) {
+    let s = tables::places::get_head(&nums[0..4], &reals[0..10]);
+    if !tables::places::fine_place(s) {
         return false;
     }
     named(nums, members, k, n, c)

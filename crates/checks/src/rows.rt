@@ -9,24 +9,7 @@ ghost use Rattle.checks.specs.Decode.{rowAt, rowsOf};
 ghost use Rattle.checks.specs.Check.{counted};
 ghost use Rattle.checks.specs.Walk.{First, Rowed, walk, backRow, housed, linked};
 
-// Is x one of the first k numbers?
-pub fn has(nums: &[u64], k: usize, x: u64) -> bool
-    requires { ⌜ k ≤ length (now nums) ⌝ }
-    ensures { λ r. ⌜ r ≡ has x (take k (now (nums .entry))) ⌝ }
-{
-    let mut rest = nums;
-    let mut left = k;
-    while 0 < left {
-        if x == rest[0] {
-            return true;
-        }
-        rest = &rest[1..];
-        left -= 1;
-    }
-    false
-}
-
-// Is each of them below n?
+// Is each of the first k numbers below n?
 fn below(nums: &[u64], k: usize, n: u64) -> bool
     requires { ⌜ k ≤ length (now nums) ⌝ }
     ensures { λ r. ⌜ r ≡ all (λ x. ltb x n) (take k (now (nums .entry))) ⌝ }
@@ -51,7 +34,7 @@ fn once(nums: &[u64], k: usize) -> bool
     if k == 0 {
         return true;
     }
-    if has(&nums[1..], k - 1, nums[0]) {
+    if tables::rows::has(&nums[1..], k - 1, nums[0]) {
         return false;
     }
     once(&nums[1..], k - 1)
@@ -122,15 +105,6 @@ fn housed(rows: &[u64], v: usize, m: usize) -> bool
     true
 }
 
-// Does the first row list x?
-fn row_has(row: &[u64], v: usize, x: u64) -> bool
-    requires { ⌜ First v (now row) ⌝ }
-    ensures { λ r. ⌜ r ≡ has x ((rowAt v (now (row .entry))) .live) ⌝ }
-{
-    let k = row[0] as usize;
-    has(&row[1..], k, x)
-}
-
 // Does row c of n list x?
 fn lists(rows: &[u64], v: usize, n: usize, c: u64, x: u64) -> bool
     requires { ⌜ Rowed v (v + 1) n (now rows) × (v ≤ 256) × (n ≤ 256) ⌝ }
@@ -140,7 +114,8 @@ fn lists(rows: &[u64], v: usize, n: usize, c: u64, x: u64) -> bool
         return false;
     }
     let a = (c as usize) * (v + 1);
-    row_has(&rows[a..], v, x)
+    let b = a + v + 1;
+    tables::rows::lists(&rows[a..b], x)
 }
 
 // Do the rows that the first k numbers name list x?

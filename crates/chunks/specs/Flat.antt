@@ -4,8 +4,3 @@ use mathlib.Core.List.{List, [], _∷_, _++_}
 abbrev pub flat : {A B : Type 0} → (A → List B) → List A → List B
 flat enc [] = []
 flat enc (x ∷ xs) = enc x ++ flat enc xs
-
--- every element of a list
-abbrev pub Every : {A : Type 0} → (A → Type 0) → List A → Type 0
-Every P [] = Unit {0}
-Every P (x ∷ xs) = P x × Every P xs

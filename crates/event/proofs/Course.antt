@@ -1,10 +1,11 @@
 -- What a course answers is what the definitions answer of the grain in the cell. Assumes nothing.
 use Prim.Native.Nat.{ℕ}
-use mathlib.Core.Path.{_≡_, refl, sym, ap, _∙_}
+use mathlib.Core.Path.{_≡_, refl, ap, _∙_}
 use mathlib.Core.Bool.{Bool, true, false, not}
-use lib.Ieee.{Float, binary64, div, lt, eq}
+use lib.Ieee.{Float, binary64, div, lt}
 use Rattle.order.specs.Numbers.{fzero, half}
 use Rattle.halting.specs.Out.{pick}
+use Rattle.halting.proofs.Bools.{itself, either}
 use Rattle.myvec.specs.Vec.{along}
 use Rattle.model.specs.declared.Domain.{Domain}
 use Rattle.model.specs.declared.Particle.{Particle}
@@ -31,18 +32,10 @@ course-by b k d p per l x v a h e f g i j =
 -- ---- its answers
 module _ (m : Course) where
   pub edge-low : m .cell .position ≡ NegativeEdge → lt (m .vel) fzero ≡ edgeIn m
-  edge-low e = rw e (by (lowIn m))
-    where
-      by : (t : Bool) → t ≡ pick t true false
-      by true = refl
-      by false = refl
+  edge-low e = rw e (itself (lowIn m))
 
   pub edge-none : m .cell .position ≡ Centre → false ≡ edgeIn m
-  edge-none e = rw e (by (lowIn m))
-    where
-      by : (t : Bool) → false ≡ pick t false false
-      by true = refl
-      by false = refl
+  edge-none e = rw e (either (lowIn m) false)
 
   pub edge-high : m .cell .position ≡ PositiveEdge → not (lt (m .vel) fzero) ≡ edgeIn m
   edge-high e = rw e (by (lowIn m))

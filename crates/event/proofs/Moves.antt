@@ -16,7 +16,7 @@ use Rattle.model.specs.declared.Plan.the-variants.{Nothing}
 use Rattle.model.specs.Stepping.{newPos, due}
 use Rattle.model.specs.Moves.{later, shut, moveDt, aside, gap, toNeighbour, outOfCell}
 use Rattle.model.specs.Walls.{noWall, wallVal, wall}
-use Rattle.cell.proofs.Laws.{taken, left}
+use Rattle.halting.proofs.Bools.{taken, left}
 use Rattle.event.specs.declared.util.Course.{Course}
 use Rattle.event.specs.Course.{courseOf, shutIn, gapIn, dtIn, asideIn, noWallIn, wallValIn}
 use Rattle.event.proofs.Course.{shut-is, dt-is, aside-is, no-wall-is, vel-is, wall-dt-is, wall-val-is}

@@ -1,7 +1,8 @@
 -- An outcome is a number, 0 for done and the refusal's otherwise, beside the state. An act is a function to outcomes.
 use Prim.Native.Nat.{ℕ, zero, suc}
-use mathlib.Core.Bool.{Bool, true, false}
 use mathlib.Core.List.{List, [], _∷_}
+-- `pick t a b`: what `if t { a } else { b }` gives
+pub use mathlib.Core.Bool.{cond as pick}
 
 pub record Out (S : Type 0) : Type 0 where
   pub num : ℕ
@@ -27,8 +28,3 @@ each act (suc m) c s = then (act c s) (each act m (suc c))
 unfoldable pub eachOf : {S : Type 0} → (ℕ → S → Out S) → List ℕ → S → Out S
 eachOf act [] s = out 0 s
 eachOf act (x ∷ xs) s = then (act x s) (eachOf act xs)
-
--- what `if t { a } else { b }` gives
-abbrev pub pick {ℓ} : {A : Type ℓ} → Bool → A → A → A
-pick true a b = a
-pick false a b = b

@@ -26,7 +26,8 @@ use Rattle.model.specs.declared.Domain.{Domain}
 use Rattle.model.specs.declared.Particle.{Particle}
 use Rattle.model.specs.Check.{Fits}
 use Rattle.model.specs.Sizes.{within, boxOk, placeOk, grainOk}
-use Rattle.model.proofs.Queue.{T-of, and-l, and-r}
+use Rattle.halting.proofs.Bools.{and-l, and-r}
+use Rattle.model.proofs.Queue.{T-of}
 use Rattle.model.proofs.Placed.{Placed, alone, joined, product}
 use Rattle.order.proofs.Order as O
 

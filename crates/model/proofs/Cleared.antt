@@ -25,7 +25,7 @@ use Rattle.model.specs.Acts.{fineGrain}
 use Rattle.model.specs.Sizes.{boxOk}
 use Rattle.model.specs.Start.{empty, clear}
 use Rattle.model.specs.Sound.{Numbers, Side, Sound}
-use Rattle.model.proofs.Lists.{clash}
+use Rattle.halting.proofs.Bools.{clash}
 use Rattle.model.proofs.Grid.{cells-max}
 
 abbrev emptyN : ℕ → Row ℕ

@@ -16,17 +16,18 @@ use Rattle.model.specs.declared.Event.{Event}
 use Rattle.model.specs.declared.Event.the-variants.{InterParticleCollision, MoveToNeighbour, MoveOutOfCell, WallReflection, Synchronisation}
 use Rattle.model.specs.Sizes.{rated}
 use Rattle.model.specs.Grid.{cells}
-use Rattle.model.specs.Events.{eventOf, headTime, headPlace, names}
+use Rattle.model.specs.Events.{eventOf, headTime, names}
 use Rattle.model.specs.State.{State, home, listed, queue, has}
 use Rattle.model.specs.Acts.{first, head}
 use Rattle.model.specs.Doing.{Whole}
 use Rattle.model.specs.Run.{How, synchronised, spent, refused}
-use Rattle.model.specs.Standing.{All, Rising, Once, EachCell, EachGrain, EachEvent, Standing}
+use Rattle.halting.specs.Every.{All}
+use Rattle.model.specs.Standing.{Rising, Once, EachCell, EachGrain, EachEvent, Standing}
 use Rattle.model.specs.Sound.{Named, Held, Stands}
 use Rattle.model.specs.Check.{runAll}
 use Rattle.model.specs.Reached.{most, Reached, StepOf, steps}
-use Rattle.model.proofs.Lists.{clash}
-use Rattle.model.proofs.Queue.{all-to}
+use Rattle.halting.proofs.Bools.{clash}
+use Rattle.halting.proofs.All.{all-to}
 use Rattle.model.proofs.Keeps.{head-is, root-first}
 use Rattle.model.proofs.Plans.{cells-some}
 use Rattle.model.proofs.Steps.{first-some, step-clock}

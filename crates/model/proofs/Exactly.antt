@@ -1,6 +1,6 @@
 -- EACH HALT'S NUMBER IS GIVEN EXACTLY IF: what an act that refuses by 5 to 9 says of its state. Assumes nothing.
 use Prim.Native.Nat.{ℕ, _≤_, _<_}
-use mathlib.Core.Path.{_≡_, refl, sym, _∙_}
+use mathlib.Core.Path.{_≡_, refl}
 use mathlib.Core.Logic.{_⊎_, inl, inr}
 use mathlib.Core.Bool.{Bool, true, false}
 use native.Mathlib.Omega.{arith}
@@ -13,16 +13,12 @@ use Rattle.model.specs.declared.Place.{Place}
 use Rattle.model.specs.Events.{finePlace}
 use Rattle.model.specs.State.{State, home, listed, queue, has, withGrains}
 use Rattle.model.specs.Acts.{fineGrain, store, inserted, insert, entered, enter, gone, leave}
-use Rattle.model.proofs.Lists.{clash}
+use Rattle.halting.proofs.Bools.{differ}
 
 -- A exactly if B
 pub record Exactly (A B : Type 0) : Type 0 where
   pub only : A → B
   pub so : B → A
-
--- a test does not pass and fail
-pub differ : {A : Type 0} {b : Bool} → b ≡ true → b ≡ false → A
-differ e f = clash (sym f ∙ e)
 
 pub store-gives-5 : (g : ℕ) (p : Particle) (s : State) → Exactly ((store g p s) .num ≡ 5) (fineGrain p ≡ false)
 unfolding store

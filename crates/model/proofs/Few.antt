@@ -17,7 +17,7 @@ use Rattle.order.specs.Numbers.{one, half, two, fortyeight}
 use Rattle.model.specs.FromPToC.{width, firstCell, endCell}
 use Rattle.order.proofs.Mono.{plain, positive-plain, le→fr, div-is, add-mono, sub-mono, div-mono, num-pos}
 use Rattle.root.proofs.Cases.{no-nan}
-use Rattle.model.proofs.Quarters.{cnt, Facts, passed, tested, nth, quarter, half-plain}
+use Rattle.model.proofs.Quarters.{cnt, Facts, passed, tested, nth, quarter, high-end, half-plain}
 use Rattle.model.proofs.Kernels.{cut, half-self, two-positive, max-cut-ge, min-cut-le, cut-count, cnt-is, quotient-plain, one-plain, fortyeight-plain}
 
 -- ---- fractions: A/P ≤ (i+5)/4, i/4 ≤ a/p, a/p < (k+1) c/d, 2 ≤ c/d: then A/P ≤ (k + 15/8) c/d
@@ -181,12 +181,8 @@ half-quarter : quarter 2 ≡ half
 unfolding round ofBits
 half-quarter = refl
 
-top-quarter : quarter 192 ≡ fortyeight
-unfolding round ofBits
-top-quarter = refl
-
 pub near : (x : Float) → T (plain x) → T (le half x) → T (le x fortyeight) → T (plain (add binary64 x half)) → T (plain (sub binary64 x half)) → Near x
-near x px hx x48 M N = walk2 x px hx M N (subst (λ (z : Float). T (le x z)) (sym top-quarter) x48) 189 2 refl checked2 (subst (λ (z : Float). T (le z x)) (sym half-quarter) hx)
+near x px hx x48 M N = walk2 x px hx M N (subst (λ (z : Float). T (le x z)) (sym high-end) x48) 189 2 refl checked2 (subst (λ (z : Float). T (le z x)) (sym half-quarter) hx)
 
 -- inside the box: at most two cells
 pub few-inside : (l : Float) (n : ℕ) (F : Facts l n) (x : Float) → T (plain x) → T (le half x) → T (le x fortyeight) → T (plain (add binary64 x half)) → T (plain (sub binary64 x half))

@@ -20,9 +20,11 @@ use Rattle.model.specs.State.{State, Row, row, home, listed, queue, has,
 use Rattle.model.specs.Acts.{store, cancelled, cancel, queueRow}
 use Rattle.model.specs.Doing.{forget, again, doCollision, doWall}
 use Rattle.model.specs.Sound.{Sound, Named, Held}
-use Rattle.model.specs.Standing.{All}
-use Rattle.model.proofs.Lists.{clash, live-same, live-other}
-use Rattle.model.proofs.Queue.{all-to, all-keep}
+use Rattle.halting.specs.Every.{All}
+use Rattle.halting.proofs.Bools.{clash}
+use Rattle.model.proofs.Lists.{live-same, live-other}
+use Rattle.halting.proofs.All.{all-to}
+use Rattle.model.proofs.Queue.{all-keep}
 use Rattle.model.proofs.Frame.{store-keeps, same-clock, Keeps, keeps-refl, keeps-on, cancelled-keeps, cancelled-free, in-frame, in-home, of-sound}
 
 -- no event of cell c names p

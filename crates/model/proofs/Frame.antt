@@ -23,9 +23,11 @@ use Rattle.model.specs.Grid.{cells}
 use Rattle.model.specs.Events.{insertBy, keepBy, goneBy, names, eventOf, placeOf, zeroP}
 use Rattle.model.specs.State.{Row, row, none, State, grain, home, listed, queue, liveAt, has, pushed, pulled, requeued, withGrains}
 use Rattle.model.specs.Acts.{store, insert, inserted, put, cancelled, enter, entered, leave, gone, queueRow}
-use Rattle.model.specs.Standing.{All, syncs, one-if}
+use Rattle.halting.specs.Every.{All}
+use Rattle.model.specs.Standing.{syncs, one-if}
 use Rattle.model.specs.Sound.{Sound}
-use Rattle.model.proofs.Lists.{clash, live-same, live-other, length-snoc, length-but, has-entered}
+use Rattle.halting.proofs.Bools.{clash}
+use Rattle.model.proofs.Lists.{live-same, live-other, length-snoc, length-but, has-entered}
 use Rattle.model.proofs.Inserts.{inserted-at}
 use Rattle.model.proofs.Queue.{kept-names}
 use Rattle.model.proofs.Cases.{store-case, insert-case, enter-case, leave-case}

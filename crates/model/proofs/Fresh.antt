@@ -21,7 +21,7 @@ use Rattle.model.specs.Walls.{wall}
 use Rattle.model.specs.Grid.{cells}
 use Rattle.model.specs.FromPToC.{cellsOfGrain}
 use Rattle.model.specs.Events.{placeOf}
-use Rattle.model.specs.State.{Row, State, grain, zeroG, home, listed, liveAt, has, none, pushed}
+use Rattle.model.specs.State.{Row, State, grain, home, listed, liveAt, has, none, pushed}
 use Rattle.model.specs.Acts.{store, insert, put, enter, entered}
 use Rattle.model.specs.Doing.{Finder, scheduleCollision, scheduleBy, boundaries, syncAt}
 use Rattle.model.specs.Sizes.{boxOk, grainOk}
@@ -29,14 +29,15 @@ use Rattle.model.specs.Start.{clear, goesIn, pairs, syncIn, initCell, be
 use Rattle.model.specs.Standing.{Once}
 use Rattle.model.specs.Sound.{Sound}
 use Rattle.model.specs.Check.{Fits}
-use Rattle.model.proofs.Lists.{clash, eqb-sym, live-other, has-entered}
+use Rattle.halting.proofs.Bools.{clash}
+use Rattle.model.proofs.Lists.{eqb-sym, live-other, has-entered}
 use Rattle.model.proofs.Cases.{store-case, insert-case, enter-case}
 use Rattle.model.proofs.Frame.{Goes, near-refl, goes-on, keeps-goes, enter-goes, of-sound}
 use Rattle.halting.proofs.Laws.{then-sound}
 use Rattle.model.proofs.Placed.{Placed}
 use Rattle.model.proofs.Born.{born}
 use Rattle.model.proofs.Cleared.{empty-live, clear-sound}
-use Rattle.model.proofs.Starts.{clear-box, clear-few, stored, goesIn-goes, different}
+use Rattle.model.proofs.Starts.{bare, given, clear-box, clear-few, stored, goesIn-goes, different}
 
 -- a number that is neither 8 nor 9
 pub record Fair (r : ℕ) : Type 0 where
@@ -127,13 +128,7 @@ store-homes g p u = store-case (λ o. (o .st) .homes ≡ u .homes) u g p refl (�
 
 -- ---- a grain goes in
 module _ (b : Domain) (room : ℕ) (gs : List Particle) (box : boxOk b ≡ true) where
-  abbrev bare : State
-  bare = clear b room (length gs)
-
-  abbrev at : ℕ → Particle
-  at i = getD gs i zeroG
-
-  entries-fair : (i : ℕ) → i < length gs → (cs : List ℕ) (u : State) → Goes bare u → Once cs → ((c : ℕ) → has c cs ≡ true → c < cells b) → ((c : ℕ) → has c cs ≡ true → has c (home u i) ≡ false)
+  entries-fair : (i : ℕ) → i < length gs → (cs : List ℕ) (u : State) → Goes (bare b room gs) u → Once cs → ((c : ℕ) → has c cs ≡ true → c < cells b) → ((c : ℕ) → has c cs ≡ true → has c (home u i) ≡ false)
       → Fair ((eachOf (λ c. enter i c) cs u) .num)
   unfolding eachOf has
   entries-fair i I [] u g o C new = fair 0 (omega arith)
@@ -143,35 +138,35 @@ module _ (b : Domain) (room : ℕ) (gs : List Particle) (box : boxOk b ≡ true)
       let I′ : i < length (u .grains) = rw l I in
       let K : c < cells (u .box) = rw e (C c (rw (eq-eqb c c refl))) in
       then-fair (enter i c u) (eachOf (λ c. enter i c) cs) (enter-fair i c u (sym (g .sound .lists .mutual′ i c I′ K) ∙ new c (rw (eq-eqb c c refl))))
-      (λ z. entries-fair i I cs ((enter i c u) .st) (goes-on bare u _ g (enter-goes u i c (g .sound) I′ K)) (o .1) (λ d h. C d (rw h (or-true (eqb d c))))
+      (λ z. entries-fair i I cs ((enter i c u) .st) (goes-on (bare b room gs) u _ g (enter-goes u i c (g .sound) I′ K)) (o .1) (λ d h. C d (rw h (or-true (eqb d c))))
       (λ d h. enter-home i c u (g .sound) I′ z d ∙ (rw (new d (rw h (or-true (eqb d c))))) ∙ eqb-flip d c (different c d cs (o .0) h)))
     where
       eqb-flip : (d c : ℕ) → eqb c d ≡ false → eqb d c ≡ false
       eqb-flip d c e = eqb-sym d c ∙ e
 
   abbrev Accepted : Type 0
-  Accepted = (i : ℕ) → i < length gs → Placed 4 (cells b) (cellsOfGrain b (at i .pos))
+  Accepted = (i : ℕ) → i < length gs → Placed 4 (cells b) (cellsOfGrain b (given gs i .pos))
 
-  goesIn-fair : Accepted → (i : ℕ) (u : State) → i < length gs → Goes bare u → home u i ≡ [] → Fair ((goesIn gs i u) .num)
+  goesIn-fair : Accepted → (i : ℕ) (u : State) → i < length gs → Goes (bare b room gs) u → home u i ≡ [] → Fair ((goesIn gs i u) .num)
   unfolding goesIn has
   goesIn-fair placed i u I g none′ =
-      then-fair (store i (grainOf (at i .pos) (at i .vel) fzero (at i .val)) u) _ (store-fair i (grainOf (at i .pos) (at i .vel) fzero (at i .val)) u)
+      then-fair (store i (grainOf (given gs i .pos) (given gs i .vel) fzero (given gs i .val)) u) _ (store-fair i (grainOf (given gs i .pos) (given gs i .vel) fzero (given gs i .val)) u)
       (λ z.
-      let w = (store i (grainOf (at i .pos) (at i .vel) fzero (at i .val)) u) .st in
-      let k = goes-on bare u w g (keeps-goes u w (stored b room gs box i u g I)) in
+      let w = (store i (grainOf (given gs i .pos) (given gs i .vel) fzero (given gs i .val)) u) .st in
+      let k = goes-on (bare b room gs) u w g (keeps-goes u w (stored b room gs box i u g I)) in
       let e : w .box ≡ b = k .near .box ∙ clear-box b room gs box in
-      let h : home w i ≡ [] = ap (λ (r : List (Row ℕ)). liveAt r i) (store-homes i (grainOf (at i .pos) (at i .vel) fzero (at i .val)) u) ∙ none′ in
-      entries-fair i I (cellsOfGrain (w .box) (at i .pos)) w k (subst (λ (d : Domain). Once (cellsOfGrain d (at i .pos))) (sym e) (placed i I .once))
-      (λ c t. placed i I .below c (subst (λ (d : Domain). has c (cellsOfGrain d (at i .pos)) ≡ true) e t)) (λ c t. ap (has c) h))
+      let h : home w i ≡ [] = ap (λ (r : List (Row ℕ)). liveAt r i) (store-homes i (grainOf (given gs i .pos) (given gs i .vel) fzero (given gs i .val)) u) ∙ none′ in
+      entries-fair i I (cellsOfGrain (w .box) (given gs i .pos)) w k (subst (λ (d : Domain). Once (cellsOfGrain d (given gs i .pos))) (sym e) (placed i I .once))
+      (λ c t. placed i I .below c (subst (λ (d : Domain). has c (cellsOfGrain d (given gs i .pos)) ≡ true) e t)) (λ c t. ap (has c) h))
 
   goesIn-other : (i : ℕ) (u : State) (j : ℕ) → (j ≡ i → ⊥) → home ((goesIn gs i u) .st) j ≡ home u j
   unfolding goesIn
   goesIn-other i u j d =
-      then-sound (λ v. home v j ≡ home u j) (store i (grainOf (at i .pos) (at i .vel) fzero (at i .val)) u) _
-      (ap (λ (r : List (Row ℕ)). liveAt r j) (store-homes i (grainOf (at i .pos) (at i .vel) fzero (at i .val)) u))
-      (λ v e. of-sound (λ w. home w j ≡ home u j) (λ c. enter i c) (cellsOfGrain (v .box) (at i .pos)) (λ c w h k. enter-other i c w j d ∙ k) v e)
+      then-sound (λ v. home v j ≡ home u j) (store i (grainOf (given gs i .pos) (given gs i .vel) fzero (given gs i .val)) u) _
+      (ap (λ (r : List (Row ℕ)). liveAt r j) (store-homes i (grainOf (given gs i .pos) (given gs i .vel) fzero (given gs i .val)) u))
+      (λ v e. of-sound (λ w. home w j ≡ home u j) (λ c. enter i c) (cellsOfGrain (v .box) (given gs i .pos)) (λ c w h k. enter-other i c w j d ∙ k) v e)
 
-  all-fair : Accepted → (m i : ℕ) (u : State) → i + m ≤ length gs → Goes bare u → ((j : ℕ) → i ≤ j → home u j ≡ []) → Fair ((each (goesIn gs) m i u) .num)
+  all-fair : Accepted → (m i : ℕ) (u : State) → i + m ≤ length gs → Goes (bare b room gs) u → ((j : ℕ) → i ≤ j → home u j ≡ []) → Fair ((each (goesIn gs) m i u) .num)
   unfolding each
   all-fair placed zero i u h g empty = fair 0 (omega arith)
   all-fair placed (suc m) i u h g empty =
@@ -179,13 +174,13 @@ module _ (b : Domain) (room : ℕ) (gs : List Particle) (box : boxOk b ≡ true)
       then-fair (goesIn gs i u) (each (goesIn gs) m (suc i)) (goesIn-fair placed i u I g (empty i (omega arith)))
       (λ z. all-fair placed m (suc i) ((goesIn gs i u) .st) (omega arith) (goesIn-goes b room gs box i u I g) (λ j J. goesIn-other i u j (λ e. omega (arith, e)) ∙ empty j (omega arith)))
 
-  clear-homes : (j : ℕ) → home bare j ≡ []
+  clear-homes : (j : ℕ) → home (bare b room gs) j ≡ []
   unfolding clear
   clear-homes j = empty-live (length gs) {A = ℕ} 8 0 j
 
-  pub begin-fair : Fits b → 16 ≤ room → room ≤ 256 → length gs ≤ 256 → ((i : ℕ) → i < length gs → grainOk b (at i) ≡ true) → Fair ((begin b room gs) .num)
+  pub begin-fair : Fits b → 16 ≤ room → room ≤ 256 → length gs ≤ 256 → ((i : ℕ) → i < length gs → grainOk b (given gs i) ≡ true) → Fair ((begin b room gs) .num)
   unfolding begin
   begin-fair f lo hi few ok =
-      then-fair (each (goesIn gs) (length gs) 0 bare) _
-      (all-fair (λ i I. born b (at i) f box (ok i I)) (length gs) 0 bare (omega arith) (record { sound = clear-sound b room (length gs) box lo hi few; near = near-refl bare }) (λ j J. clear-homes j))
+      then-fair (each (goesIn gs) (length gs) 0 (bare b room gs)) _
+      (all-fair (λ i I. born b (given gs i) f box (ok i I)) (length gs) 0 (bare b room gs) (omega arith) (record { sound = clear-sound b room (length gs) box lo hi few; near = near-refl (bare b room gs) }) (λ j J. clear-homes j))
       (λ z. each-fair initCell init-fair (cells b) 0 _)

@@ -16,8 +16,8 @@ use Rattle.order.proofs.Cut.{cut-capped}
 use Rattle.model.specs.FromPToC.{upFrom, firstCell, endCell, kernel, reached, rows, cellsOfGrain}
 use Rattle.model.specs.State.{has}
 use Rattle.model.specs.Sizes.{boxOk, within}
-use Rattle.model.proofs.Lists.{clash, or-case}
-use Rattle.model.proofs.Queue.{T-of, and-l, and-r}
+use Rattle.halting.proofs.Bools.{clash, or-case, and-l, and-r}
+use Rattle.model.proofs.Queue.{T-of}
 use Rattle.model.proofs.Cases.{on-test}
 use Rattle.model.proofs.Quarters.{facts}
 use Rattle.model.proofs.Plans.{grid-in}

@@ -25,7 +25,7 @@ use Rattle.model.specs.Start as begun
 use Rattle.model.specs.Check.{halt, refusal, runAll}
 use Rattle.model.specs.Reached.{Call, after, Reached, steps}
 use Rattle.model.specs.Sound.{Stands}
-use Rattle.model.proofs.Lists.{clash}
+use Rattle.halting.proofs.Bools.{clash}
 use Rattle.model.proofs.Counts.{Ended, counts}
 use Rattle.model.proofs.Performs.{Act, perform, Does, Refuses, Acted, act-same, execute-acted, begin-acted}
 use Rattle.model.proofs.Runs.{run-stands}

@@ -8,7 +8,8 @@ use Rattle.order.proofs.Order.{le-trans}
 use Rattle.order.proofs.Compare.{fails}
 use Rattle.model.specs.declared.Place.{Place}
 use Rattle.model.specs.Events.{insertBy}
-use Rattle.model.specs.Standing.{All, Rising}
+use Rattle.halting.specs.Every.{All}
+use Rattle.model.specs.Standing.{Rising}
 
 -- there is none, or the first is later than e
 abbrev pub Later : Place → List Place → Type 0

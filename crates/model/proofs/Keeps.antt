@@ -7,8 +7,9 @@ use native.Mathlib.Omega.{arith}
 use native.Mathlib.Decide.{decLe, ℕ-discrete}
 use lib.Dec.{T, eqb}
 use lib.ListN.{length, getD, set, drop, length-set, List·getD-eq-default}
-use lib.Ieee.{Float, binary64, ofBits, le, lt, isNan, fits}
+use lib.Ieee.{Float, binary64, le, lt, isNan, fits}
 use lib.Ieee.Scale.{finite}
+use lib.Ieee.Bits.{is-false}
 use borrow.Author.Tests.{eq-eqb, ne-eqb}
 use Rattle.model.specs.declared.Particle.{Particle}
 use Rattle.model.specs.declared.Place.{Place}
@@ -19,33 +20,32 @@ use Rattle.order.proofs.Order.{le-trans, le-refl}
 use Rattle.order.proofs.Clock.{finite-no-nan}
 use Rattle.scheduler.specs.Heap.{timeAt, updated, Fit}
 use Rattle.scheduler.specs.Standing.{Real}
-use Rattle.order.proofs.Compare.{lt-asym, lt-irrefl, le-of-not-lt}
+use Rattle.order.proofs.Compare.{lt-irrefl, le-of-not-lt}
 use Rattle.scheduler.proofs.Laws.{time-in}
 use Rattle.scheduler.proofs.Inverse.{updated-inverse, updated-cells}
-use Rattle.scheduler.proofs.Order.{updated-ordered, root-least}
+use Rattle.scheduler.proofs.Order.{last-real, updated-ordered, root-least}
 use Rattle.model.specs.Grid.{cells}
 use Rattle.model.specs.Events.{names, eventOf, headTime, headPlace, zeroP}
 use Rattle.model.specs.State.{Row, row, none, State, zeroG, grain, home, listed, queue, heads, has, requeued, withClock, withGrains}
 use Rattle.model.specs.Acts.{fineGrain, store, insert, cancelled, enter, entered, leave, gone, first, head, taken, queueRow}
-use Rattle.model.specs.Standing.{Rising, All}
+use Rattle.halting.specs.Every.{All}
+use Rattle.model.specs.Standing.{Rising}
 use Rattle.model.specs.Sound.{Named, Held, Queue, Heap, Grain, Sound}
-use Rattle.model.proofs.Lists.{clash, set-every, live-same, live-other, has-entered, has-left, lists-enter, lists-leave}
+use Rattle.halting.proofs.Bools.{clash}
+use Rattle.model.proofs.Lists.{set-every, live-same, live-other, has-entered, has-left, lists-enter, lists-leave}
 use Rattle.model.proofs.Cases.{store-case, insert-case, enter-case, leave-case}
-use Rattle.model.proofs.Queue.{T-of, of-T, not-of-T, fine-top, fine-finite, fine-real, all-to, all-both, queue-insert, queue-cancel}
+use Rattle.halting.proofs.All.{all-to, all-both}
+use Rattle.model.proofs.Queue.{T-of, fine-finite, fine-real, fine-low, queue-insert, queue-cancel}
 
 -- ---- head times
-fmax-real : isNan last ≡ false
-unfolding isNan ofBits
-fmax-real = refl
-
 module _ (n c : ℕ) (m : List ℕ) where
   head-real : (l : List Place) → All (Held n c m) l → isNan (headTime l) ≡ false
-  head-real [] a = fmax-real
-  head-real (x ∷ xs) a = not-of-T _ (fine-real x (a .0 .fine))
+  head-real [] a = last-real
+  head-real (x ∷ xs) a = is-false _ (fine-real x (a .0 .fine))
 
   head-top : (l : List Place) → All (Held n c m) l → lt last (headTime l) ≡ false
   head-top [] a = lt-irrefl last
-  head-top (x ∷ xs) a = lt-asym (x .time) last (of-T _ (fine-top x (a .0 .fine)))
+  head-top (x ∷ xs) a = fine-low x (a .0 .fine)
 
 module _ (s : State) (sound : Sound s) where
   abbrev N : ℕ
@@ -60,7 +60,7 @@ module _ (s : State) (sound : Sound s) where
 
   pub heads-real : Real (heads (s .queues))
   unfolding Real
-  heads-real = heads-all (λ t. isNan t ≡ false) fmax-real (λ c h. head-real N c (listed s c) (queue s c) (sound .queues c h .held))
+  heads-real = heads-all (λ t. isNan t ≡ false) last-real (λ c h. head-real N c (listed s c) (queue s c) (sound .queues c h .held))
 
   pub heads-top : (c : ℕ) → lt last (heads (s .queues) c) ≡ false
   heads-top = heads-all (λ t. lt last t ≡ false) (lt-irrefl last) (λ c h. head-top N c (listed s c) (queue s c) (sound .queues c h .held))

@@ -1,7 +1,7 @@
 -- The ends of a kernel, the cells that reach from one position to another in a direction: bounds from either side. Assumes nothing.
 use mathlib.Core.Path.{_≡_, refl, sym, ap, _∙_, subst}
-use Prim.Native.Nat.{ℕ, suc, _+_, _-_, _*_, _/_, _^_, _≤_, _<_, min, zero-le}
-use native.Mathlib.Nat.{le-refl, le-of-eq, le-trans, mul-pos, mul-one, one-mul, zero-mul, suc-mul, le-div-iff-mul-le, lt-of-lt-of-le, lt-of-le-of-lt}
+use Prim.Native.Nat.{ℕ, suc, _+_, _-_, _*_, _/_, _^_, _≤_, _<_, zero-le}
+use native.Mathlib.Nat.{le-refl, le-of-eq, le-trans, mul-pos, mul-one, one-mul, zero-mul, suc-mul, le-div-iff-mul-le, lt-of-lt-of-le, lt-of-le-of-lt, min-le-left}
 use native.Mathlib.Omega.{arith}
 use mathlib.Core.Bool.{Bool, true, false, not, cond}
 use lib.IntN.{pos}
@@ -68,16 +68,13 @@ pub cnt-is : (n : ℕ) → cnt n ≡ round binary64 false n 1
 unfolding ofInt
 cnt-is n = refl
 
-pub least : (a b : ℕ) → min a b ≤ a
-least a b = omega arith
-
 -- a number at most the cut of a plain value is at most that value
 pub below-cut : (k : ℕ) (z : Float) → T (plain z) → k ≤ cut z → k * den z ≤ num z
 unfolding toUnsigned
 below-cut k nan p h = absurd p
 below-cut k (inf s) p h = absurd p
 below-cut k (fin true m e) p h = absurd p
-below-cut k (fin false m e) p h = le-div-iff-mul-le (down-pos e) .0 (le-trans h (least (m * up e / down e) (2 ^ 64 - 1)))
+below-cut k (fin false m e) p h = le-div-iff-mul-le (down-pos e) .0 (le-trans h (min-le-left (m * up e / down e) (2 ^ 64 - 1)))
 
 pub one-plain : T (plain one)
 unfolding ofBits

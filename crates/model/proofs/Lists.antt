@@ -2,19 +2,18 @@
 use Prim.Native.Nat.{ℕ, suc, _+_, _<_}
 use mathlib.Core.Path.{_≡_, refl, sym, ap, _∙_}
 use mathlib.Core.List.{List, [], _∷_, _++_}
-use mathlib.Core.Bool.{Bool, true, false, not, _&&_, _||_, or-false, or-assoc, and-comm, and-true, true≢false}
+use mathlib.Core.Bool.{Bool, true, false, not, _&&_, _||_, or-false, or-assoc, and-comm, and-true, or-true}
 use native.Mathlib.Omega.{arith}
 use native.Mathlib.Decide.{ℕ-discrete}
 use lib.Dec.{eqb}
 use lib.ListN.{length, getD, set, drop, length-set}
 use lib.Seq.{getD-set-same, getD-set-other}
 use borrow.Author.Tests.{eqb-true, eq-eqb, ne-eqb}
+use Rattle.halting.specs.Every.{All}
+use Rattle.halting.proofs.Bools.{clash, and-l, or-case, or-false-l, or-false-r}
 use Rattle.model.specs.State.{Row, none, liveAt, has, but, pushed, pulled}
 use Rattle.model.specs.Standing.{Once}
 use Rattle.model.specs.Sound.{Numbers, Side, Lists}
-
-pub clash {ℓ} : {A : Type ℓ} → false ≡ true → A
-clash e = absurd (true≢false (sym e))
 
 -- ---- rows: one is replaced
 pub set-every : {A : Type 0} (P : ℕ → A → Type 0) (d : A) (l : List A) (m i : ℕ) (a : A) → length l ≡ m
@@ -41,14 +40,6 @@ pub has-snoc : (x : ℕ) (l : List ℕ) (y : ℕ) → has x (l ++ y ∷ []) ≡ 
 unfolding has
 has-snoc x [] y = or-false (eqb x y)
 has-snoc x (z ∷ zs) y = ap (λ b. eqb x z || b) (has-snoc x zs y) ∙ sym (or-assoc (eqb x z) (has x zs) (eqb x y))
-
-or-false-l : (a b : Bool) → (a || b) ≡ false → a ≡ false
-or-false-l true b e = e
-or-false-l false b e = refl
-
-or-false-r : (a b : Bool) → (a || b) ≡ false → b ≡ false
-or-false-r true b e = clash (sym e)
-or-false-r false b e = e
 
 pub once-snoc : (l : List ℕ) (x : ℕ) → Once l → has x l ≡ false → Once (l ++ x ∷ [])
 unfolding has
@@ -94,17 +85,16 @@ length-but y (z ∷ zs) h = by (eqb y z) refl (length-but y zs)
     by false e ih = rw e (ap suc (ih (rw e at h)))
 
 -- ---- a row of numbers
-pub or-case : (a b : Bool) (P : Type 0) → (a || b) ≡ true → (a ≡ true → P) → (b ≡ true → P) → P
-or-case true b P e f g = f refl
-or-case false b P e f g = g e
+-- who is listed, and a fact of all that are
+pub all-has : (P : ℕ → Type 0) (l : List ℕ) → All P l → (x : ℕ) → has x l ≡ true → P x
+unfolding has
+all-has P [] a x h = clash h
+all-has P (y ∷ ys) a x h = or-case (eqb x y) (has x ys) (P x) h (λ e. rw (eqb-true x y e) (a .0)) (λ e. all-has P ys (a .1) x e)
 
-pub and-l : (a b : Bool) → (a && b) ≡ true → a ≡ true
-and-l true b e = refl
-and-l false b e = e
-
-pub and-r : (a b : Bool) → (a && b) ≡ true → b ≡ true
-and-r true b e = e
-and-r false b e = clash e
+pub has-all : (P : ℕ → Type 0) (l : List ℕ) → ((x : ℕ) → has x l ≡ true → P x) → All P l
+unfolding has
+has-all P [] f = tt
+has-all P (y ∷ ys) f = (f y (rw (eq-eqb y y refl)), has-all P ys (λ x h. f x (rw h (or-true (eqb x y)))))
 
 pub drop-one : {A : Type 0} (l : List A) (a k : ℕ) → a + length l ≡ k → a < k → suc a + length (drop 1 l) ≡ k
 drop-one [] a k e h = absurd (omega (arith, e))

@@ -31,8 +31,8 @@ use Rattle.model.specs.Start.{clear, goesIn, initCell, begin, started, s
 use Rattle.model.specs.Standing.{Standing}
 use Rattle.model.specs.Sound.{Named, Stands}
 use Rattle.model.specs.Check.{Fits, Fitted, runAll}
-use Rattle.model.proofs.Lists.{clash, live-same, live-other}
-use Rattle.model.proofs.Queue.{and-l, and-r}
+use Rattle.halting.proofs.Bools.{clash, and-l, and-r}
+use Rattle.model.proofs.Lists.{live-same, live-other}
 use Rattle.model.proofs.Frame.{of-sound}
 use Rattle.model.proofs.Cases.{store-case, insert-case, enter-case}
 use Rattle.model.proofs.Plans.{cells-some}

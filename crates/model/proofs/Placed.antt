@@ -14,7 +14,7 @@ use Rattle.model.specs.Grid.{across, cells, cellAt}
 use Rattle.model.specs.FromPToC.{upFrom, between, rows}
 use Rattle.model.specs.State.{has}
 use Rattle.model.specs.Standing.{Once}
-use Rattle.model.proofs.Lists.{clash, or-case}
+use Rattle.halting.proofs.Bools.{clash, or-case}
 use Rattle.model.proofs.Plans.{across-min}
 use Rattle.model.proofs.Grid.{Under, up-in, under-append, rows-under}
 

@@ -9,6 +9,7 @@ use lib.Dec.{T, eqb}
 use lib.Ieee.{Float, binary64, ofBits, add, neg, le, lt, isNan, fits}
 use lib.Ieee.Fits.{add-fits}
 use lib.Ieee.Scale.{finite}
+use lib.Ieee.Bits.{is-true}
 use Rattle.root.specs.Root.{rootOf}
 use Rattle.root.specs.declared.Root.{Root}
 use Rattle.root.specs.declared.Root.the-variants as root
@@ -36,8 +37,8 @@ use Rattle.model.specs.Moves.{later, toNeighbour, outOfCell, shut, sideL
 use Rattle.model.specs.Walls.{wall, noWall}
 use Rattle.model.specs.Standing.{one-if}
 use Rattle.model.specs.Sound.{Named}
-use Rattle.model.proofs.Lists.{clash}
-use Rattle.model.proofs.Queue.{T-of, of-T}
+use Rattle.halting.proofs.Bools.{clash}
+use Rattle.model.proofs.Queue.{T-of}
 use Rattle.model.proofs.Cases.{on-test}
 use Rattle.model.proofs.Keeps.{Apt}
 
@@ -69,7 +70,7 @@ pub not-below : (dt : Float) → le dt fzero ≡ false → lt dt fzero ≡ false
 not-below dt h = by (lt dt fzero) refl
   where
     by : (b : Bool) → lt dt fzero ≡ b → lt dt fzero ≡ false
-    by true e = clash (sym h ∙ of-T (le dt fzero) (lt→le dt fzero (T-of (lt dt fzero) e)))
+    by true e = clash (sym h ∙ is-true (le dt fzero) (lt→le dt fzero (T-of (lt dt fzero) e)))
     by false e = e
 
 -- ---- a collision's dt is not below 0

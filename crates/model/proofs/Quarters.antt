@@ -9,7 +9,7 @@ use native.Mathlib.Omega.{arith}
 use mathlib.Core.Bool.{Bool, true, false, not, _&&_}
 use lib.IntN.{pos}
 use lib.Dec.{T, leb, leb→le}
-use lib.Ieee.{Float, nan, inf, fin, binary64, round, add, sub, div, lt, le, isNan, ofInt, ofBits, toUnsigned}
+use lib.Ieee.{Float, binary64, round, add, sub, div, lt, le, isNan, ofInt, ofBits, toUnsigned}
 use lib.Ieee.Fits.{and-l, and-r}
 use lib.Ieee.Positive.{positive, between}
 use Rattle.order.proofs.Order as O
@@ -213,7 +213,7 @@ low-end : quarter 36 ≡ nine
 unfolding round ofBits
 low-end = refl
 
-high-end : quarter 192 ≡ fortyeight
+pub high-end : quarter 192 ≡ fortyeight
 unfolding round ofBits
 high-end = refl
 

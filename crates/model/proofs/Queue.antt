@@ -8,26 +8,22 @@ use lib.Dec.{T}
 use lib.ListN.{length, drop, replicate, length-replicate, length-append}
 use lib.Ieee.{Float, le, lt, isNan}
 use lib.Ieee.Scale.{finite}
+use lib.Ieee.Bits.{is-true, is-false}
 use Rattle.model.specs.declared.Place.{Place}
+use Rattle.halting.specs.Every.{All}
+use Rattle.halting.proofs.Bools.{and-l, and-r}
+use Rattle.halting.proofs.All.{all-to, all-after, all-mid}
 use Rattle.order.specs.Numbers.{last}
 use Rattle.order.proofs.Order.{le-trans, lt-left, lt→le}
-use Rattle.order.proofs.Compare.{lt-of-not-le}
+use Rattle.order.proofs.Compare.{lt-asym, lt-of-not-le}
 use Rattle.model.specs.Events.{insertBy, keepBy, goneBy, names, eventOf, finePlace, zeroP}
 use Rattle.model.specs.State.{Row, row}
-use Rattle.model.specs.Standing.{Rising, All}
+use Rattle.halting.specs.Every.{All}
+use Rattle.model.specs.Standing.{Rising}
 use Rattle.model.specs.Sound.{Held, Queue}
 pub use Rattle.order.proofs.Compare.{yes as T-of}
-pub use Rattle.model.proofs.Lists.{and-l, and-r}
 use Rattle.model.proofs.Lists.{drop-one}
 use Rattle.model.proofs.Inserts.{Later, inserted-at}
-
-pub of-T : (b : Bool) → T b → b ≡ true
-of-T true t = refl
-of-T false t = absurd t
-
-pub not-of-T : (b : Bool) → T (not b) → b ≡ false
-not-of-T true t = absurd t
-not-of-T false t = refl
 
 -- ---- a fine event's time
 pub fine-top : (e : Place) → finePlace e ≡ true → T (lt (e .time) last)
@@ -41,21 +37,16 @@ fine-finite e h = T-of (finite (e .time)) (and-l (finite (e .time)) (lt (e .time
 pub fine-real : (e : Place) → finePlace e ≡ true → T (not (isNan (e .time)))
 fine-real e h = lt-left (e .time) last (fine-top e h)
 
+pub fine-low : (e : Place) → finePlace e ≡ true → lt last (e .time) ≡ false
+fine-low e h = lt-asym (e .time) last (is-true (lt (e .time) last) (fine-top e h))
+
 -- ---- time order
 pub rising-from : (t u : Float) (l : List Place) → T (le t u) → Rising u l → Rising t l
 rising-from t u [] h r = tt
 rising-from t u (x ∷ xs) h r = (le-trans t u (x .time) h (r .0), r .1)
 
 late : (x e : Place) → finePlace x ≡ true → finePlace e ≡ true → le (x .time) (e .time) ≡ false → T (le (e .time) (x .time))
-late x e f g h = lt→le (e .time) (x .time) (T-of (lt (e .time) (x .time)) (lt-of-not-le (x .time) (e .time) (not-of-T _ (fine-real x f)) (not-of-T _ (fine-real e g)) h))
-
-pub all-to : (P Q : Place → Type 0) (l : List Place) → ((x : Place) → P x → Q x) → All P l → All Q l
-all-to P Q [] f a = tt
-all-to P Q (x ∷ xs) f a = (f x (a .0), all-to P Q xs f (a .1))
-
-all-after : (P : Place → Type 0) (bs xs : List Place) → All P (bs ++ xs) → All P xs
-all-after P [] xs a = a
-all-after P (b ∷ bs) xs a = all-after P bs xs (a .1)
+late x e f g h = lt→le (e .time) (x .time) (T-of (lt (e .time) (x .time)) (lt-of-not-le (x .time) (e .time) (is-false _ (fine-real x f)) (is-false _ (fine-real e g)) h))
 
 -- e between those that are not later and those that are
 rising-mid : (t : Float) (e : Place) (bs xs : List Place) → finePlace e ≡ true → T (le t (e .time)) → All (λ x. finePlace x ≡ true) xs → All (λ x. le (x .time) (e .time) ≡ true) bs → Later e xs → Rising t (bs ++ xs) → Rising t (bs ++ e ∷ xs)
@@ -80,12 +71,8 @@ rising-keep g t (x ∷ xs) r = by (names (eventOf (x .kind) x) g) refl (rising-k
 
 -- ---- every event
 module _ (P : Place → Type 0) where
-  all-mid : (e : Place) (bs xs : List Place) → P e → All P (bs ++ xs) → All P (bs ++ e ∷ xs)
-  all-mid e [] xs p a = (p, a)
-  all-mid e (b ∷ bs) xs p a = (a .0, all-mid e bs xs p (a .1))
-
   pub all-insert : (e : Place) (l : List Place) → P e → All P l → All P (insertBy e l)
-  all-insert e l p a = let i = inserted-at e l in subst (All P) (sym (i .is)) (all-mid e (i .before) (i .after) p (subst (All P) (i .was) a))
+  all-insert e l p a = let i = inserted-at e l in subst (All P) (sym (i .is)) (all-mid P e (i .before) (i .after) p (subst (All P) (i .was) a))
 
   pub all-keep : (g : ℕ) (l : List Place) → All P l → All P (keepBy g l)
   unfolding keepBy
@@ -95,10 +82,6 @@ module _ (P : Place → Type 0) where
       by : (b : Bool) → names (eventOf (x .kind) x) g ≡ b → All P (keepBy g xs) → All P (keepBy g (x ∷ xs))
       by true q ih = rw q ih
       by false q ih = rw q (a .0, ih)
-
-pub all-both : (P Q : Place → Type 0) (l : List Place) → All P l → All Q l → All (λ x. P x × Q x) l
-all-both P Q [] a b = tt
-all-both P Q (x ∷ xs) a b = ((a .0, b .0), all-both P Q xs (a .1) (b .1))
 
 -- what is kept does not name the grain
 pub kept-names : (g : ℕ) (l : List Place) → All (λ x. names (eventOf (x .kind) x) g ≡ false) (keepBy g l)

@@ -2,20 +2,21 @@
 use Prim.Native.Nat.{ℕ, _+_, _≤_, _<_}
 use mathlib.Core.Path.{_≡_, refl, sym, _∙_}
 use mathlib.Core.List.{List, [], _∷_}
-use mathlib.Core.Bool.{Bool, true, false, not, _&&_, _||_, or-true}
+use mathlib.Core.Bool.{Bool, true, false, not, _&&_, _||_}
 use native.Mathlib.Omega.{arith}
 use native.Mathlib.Decide.{ℕ-discrete}
 use lib.Dec.{T, eqb, leb, ltb}
 use lib.ListN.{length, getD}
 use lib.Ieee.{Float, binary64, le, lt, fits}
 use lib.Ieee.Scale.{finite}
+use lib.Ieee.Bits.{is-true}
 use borrow.Author.Tests.{ltb-true, leb-true, eqb-true, lt-ltb, le-leb, eq-eqb, ne-eqb, not-true}
 use Rattle.scheduler.specs.declared.Scheduler.{Scheduler}
 use Rattle.model.specs.declared.Place.{Place}
 use Rattle.model.specs.declared.Event.{Event}
 use Rattle.model.specs.declared.Event.the-variants.{InterParticleCollision, MoveToNeighbour, MoveOutOfCell, WallReflection, Synchronisation}
 use Rattle.model.specs.Check as check
-use Rattle.halting.specs.Every.{every}
+use Rattle.halting.specs.Every.{every, All}
 use Rattle.halting.proofs.Tests.{every-true, true-every}
 use Rattle.scheduler.specs.Heap.{timeAt, parent}
 use Rattle.scheduler.specs.Standing.{Ordered}
@@ -25,11 +26,12 @@ use Rattle.model.specs.State.{Row, none, State, grain, home, listed, que
 use Rattle.model.specs.Acts.{fineGrain}
 use Rattle.model.specs.Sizes.{boxOk}
 use Rattle.model.proofs.Stands as stands
-use Rattle.model.specs.Standing.{Standing, Rising, All, Once, syncs}
+use Rattle.model.specs.Standing.{Standing, Rising, Once, syncs}
 use Rattle.model.specs.Sound.{Named, Held, Queue, Numbers, Side, Lists, Heap, Grain, Sound, Stands}
 use Rattle.model.specs.Check.{Fitted, standing, sound}
-use Rattle.model.proofs.Lists.{clash, or-case}
-use Rattle.model.proofs.Queue.{T-of, of-T, and-l, and-r}
+use Rattle.halting.proofs.Bools.{differ, both-ways, and-l, and-r, or-case}
+use Rattle.model.proofs.Lists.{all-has, has-all}
+use Rattle.model.proofs.Queue.{T-of}
 
 -- ---- a test that says whether P
 pub record Says (b : Bool) (P : Type 0) : Type 0 where
@@ -49,7 +51,7 @@ says-it : (b : Bool) → Says b (b ≡ true)
 says-it b = says b (b ≡ true) (λ e. e) (λ e. e)
 
 says-T : (b : Bool) → Says b (T b)
-says-T b = says b (T b) (T-of b) (of-T b)
+says-T b = says b (T b) (T-of b) (is-true b)
 
 says-not : (b : Bool) → Says (not b) (b ≡ false)
 says-not b = says (not b) (b ≡ false) (not-true b) (λ e. rw e)
@@ -111,16 +113,6 @@ says-once : (l : List ℕ) → Says (check.once l) (Once l)
 says-once [] = says true (Unit {0}) (λ e. tt) (λ e. refl)
 says-once (x ∷ xs) = says-and (says-not (has x xs)) (says-once xs)
 
-all-has : (P : ℕ → Type 0) (l : List ℕ) → All P l → (x : ℕ) → has x l ≡ true → P x
-unfolding has
-all-has P [] a x h = clash h
-all-has P (y ∷ ys) a x h = or-case (eqb x y) (has x ys) (P x) h (λ e. rw (eqb-true x y e) (a .0)) (λ e. all-has P ys (a .1) x e)
-
-has-all : (P : ℕ → Type 0) (l : List ℕ) → ((x : ℕ) → has x l ≡ true → P x) → All P l
-unfolding has
-has-all P [] f = tt
-has-all P (y ∷ ys) f = (f y (rw (eq-eqb y y refl)), has-all P ys (λ x h. f x (rw h (or-true (eqb x y)))))
-
 says-numbers : (n k : ℕ) (r : Row ℕ) → Says (check.numbers n k r) (Numbers n k r)
 says-numbers n k r =
     says-to (says-and (says-eq (length (r .live) + length (r .spare)) k) (says-and (says-all (λ x. ltb x n) (λ x. x < n) (r .live) (λ x. says-lt x n)) (says-once (r .live))))
@@ -134,11 +126,6 @@ says-side m n k rs =
 
 says-back : (m : ℕ) (f g : ℕ → List ℕ) → Says (check.back m f g) ((i : ℕ) → i < m → All (λ c. has i (g c) ≡ true) (f i))
 says-back m f g = says-every (λ i. check.all (λ c. has i (g c)) (f i)) (λ i. All (λ c. has i (g c) ≡ true) (f i)) m (λ i h. says-all (λ c. has i (g c)) (λ c. has i (g c) ≡ true) (f i) (λ c. says-it (has i (g c))))
-
-pub both-ways : (a b : Bool) → (a ≡ true → b ≡ true) → (b ≡ true → a ≡ true) → a ≡ b
-both-ways true b f g = sym (f refl)
-both-ways false true f g = g refl
-both-ways false false f g = refl
 
 says-lists : (s : State) → Says (check.lists s) (Lists (length (s .grains)) (cells (s .box)) (s .homes) (s .members))
 says-lists s =
@@ -169,13 +156,9 @@ unfolding Ordered
 says-ordered h s =
     says-to (says-every (λ i. eqb i 0 || not (lt (timeAt h s i) (timeAt h s (parent i)))) (λ i. 0 < i → lt (timeAt h s i) (timeAt h s (parent i)) ≡ false) (s .cells)
     (λ i H. says (eqb i 0 || not (lt (timeAt h s i) (timeAt h s (parent i)))) (0 < i → lt (timeAt h s i) (timeAt h s (parent i)) ≡ false)
-    (λ e p. not-true _ (or-second (eqb i 0) _ e (ne-eqb i 0 (λ z. omega arith)))) (λ f. into i f)))
+    (λ e p. or-case (eqb i 0) (not (lt (timeAt h s i) (timeAt h s (parent i)))) (lt (timeAt h s i) (timeAt h s (parent i)) ≡ false) e (λ t. differ t (ne-eqb i 0 (λ z. omega arith))) (not-true _)) (λ f. into i f)))
     (λ f i p H. f i H p) (λ f i H p. f i p H)
   where
-    or-second : (a b : Bool) → (a || b) ≡ true → a ≡ false → b ≡ true
-    or-second true b e z = clash (sym z)
-    or-second false b e z = e
-
     into : (i : ℕ) → (0 < i → lt (timeAt h s i) (timeAt h s (parent i)) ≡ false) → (eqb i 0 || not (lt (timeAt h s i) (timeAt h s (parent i)))) ≡ true
     into i f = elim (ℕ-discrete i 0) [ yes e ↦ rw (eq-eqb i 0 e) | no d ↦ rw (ne-eqb i 0 d, f (omega arith)) ]
 

@@ -10,6 +10,7 @@ use lib.Dec.{T, eqb, ltb}
 use lib.ListN.{length, getD, set, drop, length-set}
 use lib.Seq.{getD-set-other}
 use lib.Ieee.{Float, binary64, ofBits, add, neg, le, lt, isNan}
+use lib.Ieee.Bits.{is-true, is-false}
 use borrow.Author.Tests.{ltb-true, eq-eqb}
 use Rattle.scheduler.specs.declared.Scheduler.{Scheduler}
 use Rattle.scheduler.specs.Heap.{swap, swapAt, timeAt, parent, parentIn, parentOf, up, upshifted, updated}
@@ -41,8 +42,9 @@ use Rattle.model.specs.State.{Row, row, State, grain, listed, queue, hea
 use Rattle.model.specs.Acts.{queueRow, insert, inserted, put, first}
 use Rattle.model.specs.Doing.{Finder, scheduleCollision, scheduleBy, boundaries, syncAt}
 use Rattle.model.specs.Start.{pairs}
-use Rattle.model.proofs.Lists.{clash, live-same, live-other}
-use Rattle.model.proofs.Queue.{of-T, not-of-T, and-l, and-r, fine-top, fine-real}
+use Rattle.halting.proofs.Bools.{clash, and-l, and-r}
+use Rattle.model.proofs.Lists.{live-same, live-other}
+use Rattle.model.proofs.Queue.{fine-top, fine-real}
 use Rattle.model.proofs.Frame.{of-sound}
 use Rattle.model.proofs.Cases.{on-test, insert-case}
 use Rattle.model.proofs.Cleared.{zero-fits, zero-finite}
@@ -91,12 +93,12 @@ module _ (h : ℕ → Float) (late : (k : ℕ) → lt (h k) (h 0) ≡ false) whe
 -- ---- an insertion does not make a head later
 pub head-later : (e : Place) (l : List Place) → finePlace e ≡ true → lt (headTime l) (headTime (insertBy e l)) ≡ false
 unfolding insertBy
-head-later e [] f = lt-asym (e .time) last (of-T _ (fine-top e f))
+head-later e [] f = lt-asym (e .time) last (is-true _ (fine-top e f))
 head-later e (x ∷ xs) f = by (le (x .time) (e .time)) refl
   where
     by : (b : Bool) → le (x .time) (e .time) ≡ b → lt (x .time) (headTime (pick b (x ∷ insertBy e xs) (e ∷ x ∷ xs))) ≡ false
     by true q = lt-irrefl (x .time)
-    by false q = fails (lt (x .time) (e .time)) (λ t. clash (sym q ∙ of-T _ (lt→le (x .time) (e .time) t)))
+    by false q = fails (lt (x .time) (e .time)) (λ t. clash (sym q ∙ is-true _ (lt→le (x .time) (e .time) t)))
 
 -- what is not before 0, and the synchronisation at 0 in front of it
 head-from : (e : Place) (l : List Place) → lt (e .time) fzero ≡ false → lt (headTime l) fzero ≡ false → lt (headTime (insertBy e l)) fzero ≡ false
@@ -113,7 +115,7 @@ unfolding insertBy
 head-stays e [] f h z = absurd (let k : _≡_ {A = ℕ} 0 5 = ap (λ (p : Place). p .kind) z in omega (arith, k))
 head-stays e (x ∷ xs) f h z =
     let t : x .time ≡ fzero = ap (λ (p : Place). p .time) z in
-    let q : le (x .time) (e .time) ≡ true = rw t (le-of-not-lt fzero (e .time) zero-real (not-of-T _ (fine-real e f)) h) in
+    let q : le (x .time) (e .time) ≡ true = rw t (le-of-not-lt fzero (e .time) zero-real (is-false _ (fine-real e f)) h) in
     rw q z
 
 -- ---- a state whose first event of all is that synchronisation

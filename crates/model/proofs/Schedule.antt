@@ -21,9 +21,9 @@ use Rattle.model.specs.Walls.{wall}
 use Rattle.model.specs.Doing.{others, stepGrain, scheduleCollision, Finder, scheduleBy, boundaries, scheduleWith, scheduleEvents, landed, again, forget, doCollision, doNeighbour, doOut, doWall}
 use Rattle.model.specs.Stepping.{stepped}
 use Rattle.model.specs.Sound.{Sound}
-use Rattle.model.proofs.Lists.{clash, or-case}
+use Rattle.halting.proofs.Bools.{clash, or-case}
 use Rattle.model.proofs.Plans.{AptPlan, collision-apt, toNeighbour-apt, outOfCell-apt, wall-apt}
-use Rattle.model.specs.Standing.{All}
+use Rattle.halting.specs.Every.{All}
 use Rattle.model.proofs.Cases.{store-case, leave-case}
 use Rattle.model.proofs.Frame.{same-clock, Keeps, Goes, keeps-refl, keeps-on, goes-on, keeps-goes, store-keeps, put-keeps, cancelled-keeps, cancelled-free, In, in-frame, in-home, in-cell, enter-goes, enter-in, leave-goes, of-sound}
 use Rattle.model.proofs.Forgets.{forget-keeps}

@@ -8,6 +8,7 @@ use lib.Dec.{T, eqb, lit≤}
 use borrow.Author.Tests.{eqb-true}
 use lib.Count.{leadingZeros}
 use lib.Ieee.{Float, binary64, ofBits, round, add, sub, mul, div, neg, lt, le, eq, ofInt, toUnsigned, fits}
+use lib.Ieee.Bits.{is-true}
 use Rattle.root.specs.Isqrt.{near, root}
 use Rattle.root.specs.Root.{rootOf, sqrtOf}
 use Rattle.halting.specs.Out.{each, eachOf}
@@ -34,8 +35,8 @@ use Rattle.model.specs.Start.{Begun, refused as turned, started, clear, 
 use Rattle.model.specs.Standing.{syncs}
 use Rattle.model.specs.Check.{Fits, sound, standing, runAll}
 use Rattle.model.specs.Reached.{most, Call, after, Reached}
-use Rattle.model.proofs.Lists.{clash}
-use Rattle.model.proofs.Queue.{T-of, of-T, and-l, and-r}
+use Rattle.halting.proofs.Bools.{clash, and-l, and-r}
+use Rattle.model.proofs.Queue.{T-of}
 use Rattle.model.proofs.Starred.{sameList, same-list}
 
 abbrev box : Domain
@@ -99,7 +100,7 @@ call b h = record { rate = rate; budget = b; small = h }
 exhibit-of : (o : Begun) → start box 16 grains ≡ o → T (tested o) → Exhibit
 exhibit-of (turned r i) e t = absurd t
 exhibit-of (started s) e t =
-    let all : tested (started s) ≡ true = of-T (tested (started s)) t in
+    let all : tested (started s) ≡ true = is-true (tested (started s)) t in
     let rest : (syncedAfter 1 (runAll rate 1 s) && syncedAfter 11 (runAll rate 65536 ((runAll rate 1 s) .state))) ≡ true = and-r (sameList (kinds 12 s) expected) _ all in
     record {
       begun = s;

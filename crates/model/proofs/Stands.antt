@@ -15,10 +15,12 @@ use Rattle.model.specs.declared.Event.the-variants.{InterParticleCollisi
 use Rattle.model.specs.Grid.{cells}
 use Rattle.model.specs.Events.{eventOf, finePlace}
 use Rattle.model.specs.State.{Row, none, State, listed, queue}
-use Rattle.model.specs.Standing.{All, syncs, one-if, InRange, OfCell, Standing}
+use Rattle.halting.specs.Every.{All}
+use Rattle.model.specs.Standing.{syncs, one-if, InRange, OfCell, Standing}
 use Rattle.model.specs.Sound.{Named, Held, Sound, Stands}
 use Rattle.model.specs.Check.{Fitted}
-use Rattle.model.proofs.Queue.{all-to, fine-top}
+use Rattle.halting.proofs.All.{all-to}
+use Rattle.model.proofs.Queue.{fine-top}
 
 -- ---- one event
 to-named : (n c : ℕ) (l : List ℕ) (e : Event) → InRange n e → OfCell c l e → (0 < c → one-if e ≡ 0) → Named n c l e

@@ -13,7 +13,6 @@ use lib.Ieee.Fits.{and-l, and-r}
 use Rattle.order.specs.Numbers.{fzero, half, one, two, nine}
 use Rattle.root.specs.Isqrt.{near, root}
 use Rattle.root.specs.Root.{rootOf, sqrtOf}
-use Rattle.myvec.specs.declared.MyVec.{MyVec}
 use Rattle.myvec.specs.Vec.{vec}
 use Rattle.model.specs.declared.Domain.{Domain}
 use Rattle.model.specs.declared.Particle.{Particle}
@@ -31,7 +30,7 @@ use Rattle.model.specs.Moves.{later, toNeighbour, outOfCell}
 use Rattle.model.specs.Walls.{wall}
 use Rattle.model.specs.Events.{zeroV, placeOf, insertBy}
 use Rattle.model.specs.Start.{Begun, refused, started, start}
-use Rattle.model.specs.Standing.{All}
+use Rattle.halting.specs.Every.{All}
 use Rattle.model.specs.Check.{all}
 
 -- ---- what an example says: one or more equations, between numbers, lists of them, floats, tests, or times

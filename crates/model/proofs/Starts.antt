@@ -25,8 +25,7 @@ use Rattle.model.specs.Sizes.{boxOk, countsOk, grainOk, firstBad}
 use Rattle.model.specs.Start.{Begun, clear, goesIn, pairs, initCell, begin, refused, started, startedAt, start}
 use Rattle.model.specs.Standing.{Once, syncs}
 use Rattle.model.specs.Sound.{Sound, Stands}
-use Rattle.model.proofs.Lists.{clash}
-use Rattle.model.proofs.Queue.{and-l, and-r}
+use Rattle.halting.proofs.Bools.{clash, and-l, and-r}
 use Rattle.model.proofs.Cases.{on-test}
 use Rattle.model.proofs.Keeps.{Apt}
 use Rattle.model.proofs.Plans.{cells-some}
@@ -48,26 +47,27 @@ each-upto {S} act P top k (suc m) c s h p z =
     subst (λ (n : ℕ). P n ((each act (suc m) c s) .st)) (suc-add c m ∙ sym (add-suc c m))
     (then-keeps (P (suc c)) (P (suc c + m)) (act c s) (each act m (suc c)) (k c s (omega arith) p) (λ (u : S) (q : P (suc c) u). each-upto act P top k m (suc c) u (omega arith) q) z)
 
+-- the state that they go into, and one of them
+abbrev pub bare : Domain → ℕ → List Particle → State
+bare b room gs = clear b room (length gs)
+
+abbrev pub given : List Particle → ℕ → Particle
+given gs i = getD gs i zeroG
+
 module _ (b : Domain) (room : ℕ) (gs : List Particle) (box : boxOk b ≡ true) where
-  abbrev s₀ : State
-  s₀ = clear b room (length gs)
-
-  abbrev at : ℕ → Particle
-  at i = getD gs i zeroG
-
-  pub clear-box : s₀ .box ≡ b
+  pub clear-box : (bare b room gs) .box ≡ b
   unfolding clear
   clear-box = refl
 
-  pub clear-clock : s₀ .clock ≡ fzero
+  pub clear-clock : (bare b room gs) .clock ≡ fzero
   unfolding clear
   clear-clock = refl
 
-  pub clear-few : length (s₀ .grains) ≡ length gs
+  pub clear-few : length ((bare b room gs) .grains) ≡ length gs
   unfolding clear
   clear-few = length-replicate (length gs) zeroG
 
-  entries : (i : ℕ) (u : State) → Goes s₀ u → i < length gs → (cs : List ℕ) → ((c : ℕ) → has c cs ≡ true → c < cells b) → Goes u ((eachOf (λ c. enter i c) cs u) .st)
+  entries : (i : ℕ) (u : State) → Goes (bare b room gs) u → i < length gs → (cs : List ℕ) → ((c : ℕ) → has c cs ≡ true → c < cells b) → Goes u ((eachOf (λ c. enter i c) cs u) .st)
   entries i u g I cs C =
       of-sound (Goes u) (λ c. enter i c) cs
       (λ c w h k.
@@ -76,16 +76,16 @@ module _ (b : Domain) (room : ℕ) (gs : List Particle) (box : boxOk b ≡ true)
       goes-on u w _ k (enter-goes w i c (k .sound) (rw l I) (rw e (C c h))))
       u (record { sound = g .sound; near = near-refl u })
 
-  pub stored : (i : ℕ) (u : State) → Goes s₀ u → i < length gs → Keeps u ((store i (grainOf (at i .pos) (at i .vel) fzero (at i .val)) u) .st)
+  pub stored : (i : ℕ) (u : State) → Goes (bare b room gs) u → i < length gs → Keeps u ((store i (grainOf (given gs i .pos) (given gs i .vel) fzero (given gs i .val)) u) .st)
   stored i u g I =
       let l : length (u .grains) ≡ length gs = g .near .few ∙ clear-few in
-      store-keeps u i (grainOf (at i .pos) (at i .vel) fzero (at i .val)) (g .sound) (rw l I) (rw (g .near .clock ∙ clear-clock) zero-le)
+      store-keeps u i (grainOf (given gs i .pos) (given gs i .vel) fzero (given gs i .val)) (g .sound) (rw l I) (rw (g .near .clock ∙ clear-clock) zero-le)
 
-  pub goesIn-goes : (i : ℕ) (u : State) → i < length gs → Goes s₀ u → Goes s₀ ((goesIn gs i u) .st)
+  pub goesIn-goes : (i : ℕ) (u : State) → i < length gs → Goes (bare b room gs) u → Goes (bare b room gs) ((goesIn gs i u) .st)
   unfolding goesIn
   goesIn-goes i u I g =
-      then-sound (Goes s₀) (store i (grainOf (at i .pos) (at i .vel) fzero (at i .val)) u) _ (goes-on s₀ u _ g (keeps-goes u _ (stored i u g I)))
-      (λ w k. goes-on s₀ w _ k (entries i w k I (cellsOfGrain (w .box) (at i .pos)) (λ c h. cells-under b (at i .pos) box c (subst (λ (d : Domain). has c (cellsOfGrain d (at i .pos)) ≡ true) (k .near .box ∙ clear-box) h))))
+      then-sound (Goes (bare b room gs)) (store i (grainOf (given gs i .pos) (given gs i .vel) fzero (given gs i .val)) u) _ (goes-on (bare b room gs) u _ g (keeps-goes u _ (stored i u g I)))
+      (λ w k. goes-on (bare b room gs) w _ k (entries i w k I (cellsOfGrain (w .box) (given gs i .pos)) (λ c h. cells-under b (given gs i .pos) box c (subst (λ (d : Domain). has c (cellsOfGrain d (given gs i .pos)) ≡ true) (k .near .box ∙ clear-box) h))))
 
   -- a grain that went in has a cell, where from_p_to_c gives one
   has-some : (c : ℕ) (l : List ℕ) → has c l ≡ true → 1 ≤ length l
@@ -93,7 +93,7 @@ module _ (b : Domain) (room : ℕ) (gs : List Particle) (box : boxOk b ≡ true)
   has-some c [] h = clash h
   has-some c (x ∷ xs) h = omega arith
 
-  entered-some : (i : ℕ) (u : State) → Goes s₀ u → i < length gs → (cs : List ℕ) → ((c : ℕ) → has c cs ≡ true → c < cells b) → 1 ≤ length cs
+  entered-some : (i : ℕ) (u : State) → Goes (bare b room gs) u → i < length gs → (cs : List ℕ) → ((c : ℕ) → has c cs ≡ true → c < cells b) → 1 ≤ length cs
       → (eachOf (λ c. enter i c) cs u) .num ≡ 0 → 1 ≤ length (home ((eachOf (λ c. enter i c) cs u) .st) i)
   unfolding eachOf has
   entered-some i u g I [] C some z = absurd (omega arith)
@@ -107,35 +107,35 @@ module _ (b : Domain) (room : ℕ) (gs : List Particle) (box : boxOk b ≡ true)
       (λ v p y.
       let h = p .1 in
       let q : has c (home v i) ≡ true = p .0 .sound .lists .mutual′ i c (h .grain) (h .cell) ∙ h .there in
-      (entries i v (goes-on s₀ u v g (p .0)) I cs (λ d x. C d (rw x (or-true (eqb d c))))) .near .housed i (has-some c (home v i) q))
+      (entries i v (goes-on (bare b room gs) u v g (p .0)) I cs (λ d x. C d (rw x (or-true (eqb d c))))) .near .housed i (has-some c (home v i) q))
       z
 
   abbrev pub Reaches : Type 0
-  Reaches = (i : ℕ) → i < length gs → 1 ≤ length (cellsOfGrain b (at i .pos))
+  Reaches = (i : ℕ) → i < length gs → 1 ≤ length (cellsOfGrain b (given gs i .pos))
 
-  goesIn-some : Reaches → (i : ℕ) (u : State) → i < length gs → Goes s₀ u → (goesIn gs i u) .num ≡ 0 → 1 ≤ length (home ((goesIn gs i u) .st) i)
+  goesIn-some : Reaches → (i : ℕ) (u : State) → i < length gs → Goes (bare b room gs) u → (goesIn gs i u) .num ≡ 0 → 1 ≤ length (home ((goesIn gs i u) .st) i)
   unfolding goesIn
   goesIn-some some i u I g =
-      then-keeps (Goes s₀) (λ v. 1 ≤ length (home v i)) (store i (grainOf (at i .pos) (at i .vel) fzero (at i .val)) u) _
-      (λ z. goes-on s₀ u _ g (keeps-goes u _ (stored i u g I)))
+      then-keeps (Goes (bare b room gs)) (λ v. 1 ≤ length (home v i)) (store i (grainOf (given gs i .pos) (given gs i .vel) fzero (given gs i .val)) u) _
+      (λ z. goes-on (bare b room gs) u _ g (keeps-goes u _ (stored i u g I)))
       (λ w k. let e : w .box ≡ b = k .near .box ∙ clear-box in
-      entered-some i w k I (cellsOfGrain (w .box) (at i .pos)) (λ c h. cells-under b (at i .pos) box c (subst (λ (d : Domain). has c (cellsOfGrain d (at i .pos)) ≡ true) e h)) (rw e (some i I)))
+      entered-some i w k I (cellsOfGrain (w .box) (given gs i .pos)) (λ c h. cells-under b (given gs i .pos) box c (subst (λ (d : Domain). has c (cellsOfGrain d (given gs i .pos)) ≡ true) e h)) (rw e (some i I)))
 
   -- as each went in, so far
   pub record Inside (i : ℕ) (u : State) : Type 0 where
-    pub goes : Goes s₀ u
+    pub goes : Goes (bare b room gs) u
     pub some : (g : ℕ) → g < i → 1 ≤ length (home u g)
 
-  goesIn-near : (i : ℕ) (u : State) → i < length gs → Goes s₀ u → Near u ((goesIn gs i u) .st)
+  goesIn-near : (i : ℕ) (u : State) → i < length gs → Goes (bare b room gs) u → Near u ((goesIn gs i u) .st)
   unfolding goesIn
   goesIn-near i u I g =
-      then-both (λ v. Near u v) (λ v. Goes u v) (store i (grainOf (at i .pos) (at i .vel) fzero (at i .val)) u) _ ((stored i u g I) .frame .near) (λ z. keeps-goes u _ (stored i u g I))
-      (λ w n k. near-trans u w _ n ((entries i w (goes-on s₀ u w g k) I (cellsOfGrain (w .box) (at i .pos))
-      (λ c h. cells-under b (at i .pos) box c (subst (λ (d : Domain). has c (cellsOfGrain d (at i .pos)) ≡ true) (k .near .box ∙ g .near .box ∙ clear-box) h))) .near))
+      then-both (λ v. Near u v) (λ v. Goes u v) (store i (grainOf (given gs i .pos) (given gs i .vel) fzero (given gs i .val)) u) _ ((stored i u g I) .frame .near) (λ z. keeps-goes u _ (stored i u g I))
+      (λ w n k. near-trans u w _ n ((entries i w (goes-on (bare b room gs) u w g k) I (cellsOfGrain (w .box) (given gs i .pos))
+      (λ c h. cells-under b (given gs i .pos) box c (subst (λ (d : Domain). has c (cellsOfGrain d (given gs i .pos)) ≡ true) (k .near .box ∙ g .near .box ∙ clear-box) h))) .near))
 
-  pub all-inside : Reaches → Sound s₀ → (each (goesIn gs) (length gs) 0 s₀) .num ≡ 0 → Inside (length gs) ((each (goesIn gs) (length gs) 0 s₀) .st)
+  pub all-inside : Reaches → Sound (bare b room gs) → (each (goesIn gs) (length gs) 0 (bare b room gs)) .num ≡ 0 → Inside (length gs) ((each (goesIn gs) (length gs) 0 (bare b room gs)) .st)
   all-inside some sound z =
-      subst (λ (k : ℕ). Inside k ((each (goesIn gs) (length gs) 0 s₀) .st)) (omega arith)
+      subst (λ (k : ℕ). Inside k ((each (goesIn gs) (length gs) 0 (bare b room gs)) .st)) (omega arith)
       (each-upto (goesIn gs) Inside (length gs)
       (λ i u I p y. record {
         goes = goesIn-goes i u I (p .goes);
@@ -144,7 +144,7 @@ module _ (b : Domain) (room : ℕ) (gs : List Particle) (box : boxOk b ≡ true)
           | no d ↦ (goesIn-near i u I (p .goes)) .housed g (p .some g (omega arith))
         ];
       })
-      (length gs) 0 s₀ (omega arith) (record { goes = record { sound = sound; near = near-refl s₀ }; some = λ g G. absurd (omega arith) }) z)
+      (length gs) 0 (bare b room gs) (omega arith) (record { goes = record { sound = sound; near = near-refl (bare b room gs) }; some = λ g G. absurd (omega arith) }) z)
 
 -- ---- init_events
 pub different : (p q : ℕ) (l : List ℕ) → has p l ≡ false → has q l ≡ true → eqb p q ≡ false

@@ -23,7 +23,8 @@ use Rattle.model.specs.State.{State, Row, row, grain, home, listed, queu
 use Rattle.model.specs.Acts.{insert, inserted, first, head, taken, queueRow}
 use Rattle.model.specs.Doing.{stepGrain, doSync, syncAt, execute, finish, headEvent, event, step, Whole}
 use Rattle.model.specs.Stepping.{grainOf}
-use Rattle.model.specs.Standing.{All, syncs, one-if}
+use Rattle.halting.specs.Every.{All}
+use Rattle.model.specs.Standing.{syncs, one-if}
 use Rattle.model.specs.Sound.{Sound, Stands, Named, Held}
 use Rattle.model.proofs.Lists.{live-same, live-other}
 use Rattle.model.proofs.Queue.{fine-top}

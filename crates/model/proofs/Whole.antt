@@ -16,7 +16,8 @@ use Rattle.model.specs.Run.{How, spent, Ran, runFrom, refused}
 use Rattle.model.specs.Sound.{Sound, Stands}
 use Rattle.model.specs.Check.{standing, Fitted, sized, halt, runAll}
 use Rattle.model.specs.Sizes.{rated}
-use Rattle.model.proofs.Queue.{T-of, and-l}
+use Rattle.halting.proofs.Bools.{and-l}
+use Rattle.model.proofs.Queue.{T-of}
 use Rattle.model.proofs.Plans.{across-min}
 use Rattle.model.proofs.Refusals.{run-goes, run-case}
 use Rattle.model.proofs.Reflect.{says-stands}

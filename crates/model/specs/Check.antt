@@ -8,7 +8,7 @@ use lib.ListN.{length, getD}
 use lib.Ieee.{Float, binary64, le, lt, fits}
 use lib.Ieee.Scale.{finite}
 use Rattle.halting.specs.Out.{pick}
-use Rattle.halting.specs.Every.{every}
+use Rattle.halting.specs.Every.{every, All}
 use Rattle.order.specs.Numbers.{fzero}
 use Rattle.scheduler.specs.declared.Scheduler.{Scheduler}
 use Rattle.scheduler.specs.Heap.{timeAt, parent}
@@ -22,7 +22,7 @@ use Rattle.model.specs.Events.{eventOf, finePlace}
 use Rattle.model.specs.State.{Row, none, State, grain, home, listed, queue, heads, has}
 use Rattle.model.specs.Acts.{fineGrain}
 use Rattle.model.specs.Run.{refused, Ran, runFrom}
-use Rattle.model.specs.Standing.{All, syncs}
+use Rattle.model.specs.Standing.{syncs}
 
 abbrev pub all : {A : Type 0} → (A → Bool) → List A → Bool
 all p [] = true

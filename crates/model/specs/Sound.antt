@@ -19,7 +19,8 @@ use Rattle.model.specs.Grid.{cells}
 use Rattle.model.specs.Events.{eventOf, finePlace}
 use Rattle.model.specs.State.{Row, none, State, grain, home, listed, queue, heads, liveAt, has}
 use Rattle.model.specs.Acts.{fineGrain}
-use Rattle.model.specs.Standing.{Rising, All, Once, syncs}
+use Rattle.halting.specs.Every.{All}
+use Rattle.model.specs.Standing.{Rising, Once, syncs}
 
 -- of n cells, in cell c, which lists the grains l: an event names only grains that its cell lists, two different ones in a collision,
 -- a cell in range, its own cell in a leaving; a synchronisation is in cell 0

@@ -7,6 +7,7 @@ use lib.Dec.{T, eqb}
 use lib.ListN.{length, getD}
 use lib.Ieee.{Float, le}
 use lib.Ieee.Scale.{finite}
+use Rattle.halting.specs.Every.{All}
 use Rattle.scheduler.specs.Standing.{Inverse, Ordered}
 use Rattle.model.specs.declared.Place.{Place}
 use Rattle.model.specs.declared.Event.{Event}
@@ -20,10 +21,6 @@ use lib.Ieee.{lt}
 use Rattle.order.specs.Numbers.{last}
 
 -- ---- lists
-abbrev pub All : {A : Type 0} → (A → Type 0) → List A → Type 0
-All P [] = Unit {0}
-All P (x ∷ xs) = P x × All P xs
-
 -- no number twice
 abbrev pub Once : List ℕ → Type 0
 Once [] = Unit {0}

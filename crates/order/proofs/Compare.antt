@@ -1,9 +1,8 @@
 -- The order laws as equations of tests, as a branch of the code has them. Assumes nothing.
-use mathlib.Core.Path.{_≡_, refl, sym, subst, _∙_}
+use mathlib.Core.Path.{_≡_, sym, subst}
 use mathlib.Core.Bool.{Bool, true, false, not}
-use mathlib.Core.Logic.{inl, inr}
 use lib.Dec.{T, T-not, not-T}
-use lib.Ieee.{Float, nan, inf, fin, lt, le, isNan}
+use lib.Ieee.{Float, lt, le, isNan}
 use lib.Ieee.Bits.{is-true, is-false}
 use Rattle.order.proofs.Order as order
 
@@ -17,9 +16,6 @@ no b e = subst (λ (b : Bool). T (not b)) (sym e) tt
 -- a test that has no way to pass
 pub fails : (b : Bool) → (T b → ⊥) → b ≡ false
 fails b h = is-false b (not-T b h)
-
-pub lt-nan : (x : Float) → lt x nan ≡ false
-lt-nan x = fails (lt x nan) (λ (h : T (lt x nan)). T-not (isNan nan) (order.lt-right x nan h) (unfold isNan in tt))
 
 pub le-not-lt : (x y : Float) → le x y ≡ true → lt y x ≡ false
 le-not-lt x y e = fails (lt y x) (λ (h : T (lt y x)). order.lt-not-le y x h (yes (le x y) e))

@@ -1,15 +1,15 @@
--- Two tests that a value is finite: `x - x == 0`, and `-inf < x < inf`. Assumes nothing.
-use mathlib.Core.Path.{_≡_, refl, sym, ap, _∙_, subst}
-use Prim.Native.Nat.{ℕ, zero, suc, _+_, _-_, _*_, _^_, _≤_, _<_}
+-- The test that a value is finite: `x - x == 0`. Assumes nothing.
+use mathlib.Core.Path.{_≡_, refl, sym, ap, _∙_}
+use Prim.Native.Nat.{ℕ, suc, _+_, _-_, _*_, _^_, _<_}
 use native.Mathlib.Nat.{mul-pos, zero-mul, sub-self, lt-irrefl}
-use mathlib.Core.Bool.{Bool, true, false, not, _&&_, cond, Bool·beq}
+use mathlib.Core.Bool.{Bool, true, false, not, cond}
 use lib.IntN.{ℤ, pos}
 use lib.Dec.{T, ltb, ltb→lt, not-T}
 use lib.Pow.{pow-pos}
 use lib.Ieee.{Float, nan, inf, fin, Format, prec, emax, low, up, down, round, sum, sub, eq, lt, fits}
 use lib.Ieee.Bits.{is-false}
 use lib.Ieee.Fits.{round-fits, down-pos}
-use lib.Ieee.Exact.{HasValue, round-exact}
+use lib.Ieee.Exact.{round-exact}
 use lib.Ieee.Scale.{finite}
 use Rattle.order.proofs.Value.{value-unique}
 
@@ -40,10 +40,3 @@ finite-sub f nan = unfold sub eq in refl
 finite-sub f (inf true) = unfold sub eq in refl
 finite-sub f (inf false) = unfold sub eq in refl
 finite-sub f (fin s m e) = ap (λ (z : Float). eq z (fin false 0 (pos 0))) (opened f s m e ∙ less-self f s (m * up e * down e) (down e * down e) (mul-pos (down-pos e) (down-pos e))) ∙ zero-is
-
-pub finite-inside : (x : Float) → (lt (inf true) x && lt x (inf false)) ≡ finite x
-unfolding lt
-finite-inside nan = refl
-finite-inside (inf true) = refl
-finite-inside (inf false) = refl
-finite-inside (fin s m e) = refl

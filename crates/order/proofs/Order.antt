@@ -1,16 +1,16 @@
 -- `le` and `lt` of lib.Ieee on values that are not NaN are a total preorder and its strict part.
 -- Where a premise is a passed comparison, no NaN stands in it, so most laws ask nothing else. Assumes nothing.
-use mathlib.Core.Path.{_≡_, refl, sym, ap, subst}
+use mathlib.Core.Path.{_≡_, refl, sym, subst}
 use mathlib.Core.Logic.{_⊎_, inl, inr}
 use Prim.Native.Nat.{ℕ, _+_, _*_, _≤_, _<_}
-use native.Mathlib.Nat.{le-of-eq, le-of-lt, zero-lt-suc, eq-or-lt-of-le, mul-comm, mul-assoc, mul-right-comm, mul-left-comm, mul-le-mul-right, le-of-mul-le-mul-right, mul-pos, add-mul, zero-mul}
+use native.Mathlib.Nat.{le-of-eq, le-of-lt, eq-or-lt-of-le, mul-right-comm, mul-le-mul-right, le-of-mul-le-mul-right, add-mul, zero-mul}
 use native.Mathlib.Nat as N
 use native.Mathlib.Omega.{arith}
-use mathlib.Core.Bool.{Bool, true, false, not, _&&_, _||_, Bool·beq}
-use lib.IntN.{ℤ, pos}
-use lib.Dec.{T, leb, ltb, eqb, leb→le, le→leb, ltb→lt, lt→ltb, nltb→le, nleb→lt, eqb→eq, eqb-refl, T-not, not-T}
+use mathlib.Core.Bool.{Bool, true, false, not, _&&_, _||_}
+use lib.IntN.{ℤ}
+use lib.Dec.{T, ltb, eqb, ltb→lt, lt→ltb, nltb→le, eqb→eq, T-not, not-T}
 use lib.Ieee.{Float, nan, inf, fin, up, down, below, level, lt, eq, le, isNan}
-use lib.Ieee.Fits.{up-pos, down-pos, eq→eqb}
+use lib.Ieee.Fits.{down-pos, and-i, and-l, and-r, eq→eqb}
 use lib.Ieee.Bits.{is-true, is-false}
 
 -- ---- signed magnitudes: ±a ≤ ±b, where -0 equals +0
@@ -67,42 +67,27 @@ pub or-r : (a b : Bool) → T b → T (a || b)
 or-r true b t = tt
 or-r false b t = t
 
-and-1 : (a b : Bool) → T (a && b) → T a
-and-1 true b t = tt
-and-1 false b t = t
-
-and-2 : (a b : Bool) → T (a && b) → T b
-and-2 true b t = t
-and-2 false b t = absurd t
-
-and-12 : (a b : Bool) → T a → T b → T (a && b)
-and-12 true b t u = u
-and-12 false b t u = t
-
 test→leq : (s : Bool) (a : ℕ) (t : Bool) (b : ℕ) → T (below s a t b || level s a t b) → Leq s a t b
-test→leq false a false b h = elim (or-case (ltb a b) (eqb a b && true) h) [ inl p ↦ le-of-lt (ltb→lt a b p) | inr q ↦ le-of-eq (eqb→eq a b (and-1 (eqb a b) true q)) ]
+test→leq false a false b h = elim (or-case (ltb a b) (eqb a b && true) h) [ inl p ↦ le-of-lt (ltb→lt a b p) | inr q ↦ le-of-eq (eqb→eq a b (and-l (eqb a b) true q)) ]
 test→leq false a true b h =
-    let p : a ≡ b = eqb→eq a b (and-1 (eqb a b) (eqb a 0) h) in
-    let q : a ≡ 0 = eqb→eq a 0 (and-2 (eqb a b) (eqb a 0) h) in
+    let p : a ≡ b = eqb→eq a b (and-l (eqb a b) (eqb a 0) h) in
+    let q : a ≡ 0 = eqb→eq a 0 (and-r (eqb a b) (eqb a 0) h) in
     omega arith
 test→leq true a false b h = tt
-test→leq true a true b h = elim (or-case (ltb b a) (eqb a b && true) h) [ inl p ↦ le-of-lt (ltb→lt b a p) | inr q ↦ le-of-eq (sym (eqb→eq a b (and-1 (eqb a b) true q))) ]
+test→leq true a true b h = elim (or-case (ltb b a) (eqb a b && true) h) [ inl p ↦ le-of-lt (ltb→lt b a p) | inr q ↦ le-of-eq (sym (eqb→eq a b (and-l (eqb a b) true q))) ]
 
 zero-both : (a b : ℕ) → a + b ≤ 0 → (a ≡ b) × (a ≡ 0)
 zero-both a b h = (omega arith, omega arith)
 
-nothing-below : (a b : ℕ) → b + a ≤ 0 → (a ≡ b) × (a ≡ 0)
-nothing-below a b h = (omega arith, omega arith)
-
 leq→test : (s : Bool) (a : ℕ) (t : Bool) (b : ℕ) → Leq s a t b → T (below s a t b || level s a t b)
-leq→test false a false b h = elim (eq-or-lt-of-le h) [ inl p ↦ or-r (ltb a b) (eqb a b && true) (and-12 (eqb a b) true (eq→eqb p) tt) | inr q ↦ or-l (ltb a b) (eqb a b && true) (lt→ltb a b q) ]
-leq→test false a true b h = let z = zero-both a b h in and-12 (eqb a b) (eqb a 0) (eq→eqb (z .0)) (eq→eqb (z .1))
+leq→test false a false b h = elim (eq-or-lt-of-le h) [ inl p ↦ or-r (ltb a b) (eqb a b && true) (and-i (eqb a b) true (eq→eqb p) tt) | inr q ↦ or-l (ltb a b) (eqb a b && true) (lt→ltb a b q) ]
+leq→test false a true b h = let z = zero-both a b h in and-i (eqb a b) (eqb a 0) (eq→eqb (z .0)) (eq→eqb (z .1))
 leq→test true a false b h = go (ltb 0 (a + b)) (nltb→le 0 (a + b))
   where
     go : (c : Bool) → (T (not c) → a + b ≤ 0) → T (c || (eqb a b && (false || eqb a 0)))
     go true k = tt
-    go false k = let z = zero-both a b (k tt) in and-12 (eqb a b) (eqb a 0) (eq→eqb (z .0)) (eq→eqb (z .1))
-leq→test true a true b h = elim (eq-or-lt-of-le h) [ inl p ↦ or-r (ltb b a) (eqb a b && true) (and-12 (eqb a b) true (eq→eqb (sym p)) tt) | inr q ↦ or-l (ltb b a) (eqb a b && true) (lt→ltb b a q) ]
+    go false k = let z = zero-both a b (k tt) in and-i (eqb a b) (eqb a 0) (eq→eqb (z .0)) (eq→eqb (z .1))
+leq→test true a true b h = elim (eq-or-lt-of-le h) [ inl p ↦ or-r (ltb b a) (eqb a b && true) (and-i (eqb a b) true (eq→eqb (sym p)) tt) | inr q ↦ or-l (ltb b a) (eqb a b && true) (lt→ltb b a q) ]
 
 -- ---- le
 pub le→leq : (s : Bool) (m : ℕ) (e : ℤ) (t : Bool) (n : ℕ) (d : ℤ) → T (le (fin s m e) (fin t n d)) → Leq s (m * up e * down d) t (n * up d * down e)
@@ -289,8 +274,3 @@ lt-trans x y z h k = lt-le-trans x y z h (lt→le y z k)
 
 pub lt-irrefl : (x : Float) → T (lt x x) → ⊥
 lt-irrefl x h = lt-not-le x x h (lt→le x x h)
-
--- `a >= b` is `le b a`: what `==` says
-pub eq→le : (x y : Float) → T (eq x y) → T (le x y)
-unfolding le
-eq→le x y h = or-r (lt x y) (eq x y) h

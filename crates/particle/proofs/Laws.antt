@@ -1,24 +1,21 @@
 -- A position after a step, and spans of cells: the list that they stand for is the list of the rule. Assumes nothing.
-use Prim.Native.Nat.{ℕ, _-_, _≤_}
+use Prim.Native.Nat.{ℕ, _-_}
 use mathlib.Core.Path.{_≡_, refl, sym, ap, _∙_}
 use mathlib.Core.Bool.{Bool, true, false}
 use mathlib.Core.List.{List, [], _∷_, _++_, map, append-nil, append-assoc}
-use native.Mathlib.Nat.{sub-self, le-trans, lt-of-le-of-lt}
-use lib.Dec.{le→leb, lit≤, lit<}
-use lib.Ieee.{Float, binary64, add, sub, lt, inFloat}
+use native.Mathlib.Nat.{sub-self}
+use lib.Ieee.{Float, binary64, add, sub, lt}
 use Rattle.order.specs.Numbers.{fzero, half}
-use Rattle.order.proofs.Cut.{cut-capped}
 use Rattle.halting.specs.Out.{pick}
 use Rattle.myvec.specs.declared.MyVec.{MyVec}
 use Rattle.myvec.specs.Vec.{vec, vadd, vscale}
 use Rattle.model.specs.declared.Domain.{Domain}
 use Rattle.model.specs.Grid.{lengthOf, across, cellAt}
 use Rattle.model.specs.Stepping.{wrapped, newPos}
-use Rattle.model.specs.FromPToC.{upFrom, between, endCell, reached, rows, cellsOfGrain}
-use Rattle.model.proofs.Cases.{on-test}
+use Rattle.model.specs.FromPToC.{upFrom, between, reached, rows, cellsOfGrain}
 use Rattle.particle.specs.declared.Span.{Span}
 use Rattle.particle.specs.declared.Spans.{Spans}
-use Rattle.particle.specs.Spans.{cellsIn, spanOf, joined, alone, spansOf}
+use Rattle.particle.specs.Spans.{cellsIn, joined, alone, spansOf}
 
 -- ---- stepping, by the values on the way
 pub stepped-by : (b : Domain) (x v : MyVec) (dt : Float) (s y : MyVec) (a c : Float) (r : MyVec) → s ≡ vscale v dt → y ≡ vadd x s
@@ -45,19 +42,6 @@ by-tests false false p q r s t = alone-list t
 pub spans-list : (l : Float) (n : ℕ) (x : Float) → cellsIn (spansOf l n x) ≡ reached l n x
 unfolding spansOf reached
 spans-list l n x = by-tests (lt (sub binary64 x half) fzero) (lt l (add binary64 x half)) _ _ _ _ _
-
--- no span ends above n
-end-under : (l : Float) (n : ℕ) (max : Float) → n ≤ 256 → endCell l n max ≤ n
-end-under l n max h = cut-capped binary64 64 (add binary64 _ _) n (unfold inFloat in le→leb n 9007199254740992 (le-trans h (lit≤ tt))) (lt-of-le-of-lt h (lit< tt))
-
-abbrev pub Under : ℕ → Spans → Type 0
-Under n s = (s .b0 ≤ n) × (s .b1 ≤ n)
-
-pub spans-under : (l : Float) (n : ℕ) (x : Float) → n ≤ 256 → Under n (spansOf l n x)
-unfolding spansOf
-spans-under l n x h =
-    on-test (Under n) (lt (sub binary64 x half) fzero) _ _ (λ e. (end-under l n _ h, end-under l n _ h))
-    (λ e. on-test (Under n) (lt l (add binary64 x half)) _ _ (λ e. (end-under l n _ h, end-under l n _ h)) (λ e. (end-under l n _ h, end-under l n _ h)))
 
 -- each span of direction 1, and in it each span of direction 0
 pub grain-list : (b : Domain) (x : MyVec)

@@ -20,7 +20,7 @@ use Rattle.model.specs.Doing as doing
 use Rattle.model.specs.Run.{spent, refused, onward, runFrom}
 use Rattle.model.specs.Run as run
 use Rattle.model.specs.Reports.{ranOf}
-use Rattle.model.proofs.Lists.{clash}
+use Rattle.halting.proofs.Bools.{clash}
 use Rattle.model.proofs.Steps.{step-stands}
 use Rattle.model.proofs.Whole.{rated-later}
 use Rattle.tables.specs.declared.Sizes.{Sizes}

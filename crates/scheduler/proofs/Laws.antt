@@ -1,17 +1,17 @@
 -- Laws of the definitions of `specs/Heap.antt` that the functions' proofs cite. Assumes nothing.
-use mathlib.Core.Path.{_≡_, refl, sym, ap, subst, _∙_}
+use mathlib.Core.Path.{_≡_, refl, sym, ap, _∙_}
 use mathlib.Core.Bool.{Bool, true, false, cond, _&&_}
-use mathlib.Core.Logic.{inl, inr}
 use mathlib.Core.List.{List, [], _∷_}
-use Prim.Native.Nat.{ℕ, zero, suc, _+_, _-_, _*_, _/_, _≤_, _<_}
+use Prim.Native.Nat.{ℕ, zero, suc, _+_, _-_, _*_, _≤_, _<_}
 use native.Mathlib.Omega.{arith}
 use native.Mathlib.Decide.{decLe, ℕ-discrete}
-use lib.ListN.{length, getD, set}
-use lib.Dec.{ltb, leb, eqb}
-use lib.Ieee.{Float, binary64, ofBits, lt, le}
-use borrow.Author.Tests.{lt-ltb, le-ltb, eq-eqb, ne-eqb, eqb-true, eqb-false}
+use lib.ListN.{length, getD}
+use lib.Dec.{ltb}
+use lib.Ieee.{Float, ofBits, lt, le}
+use borrow.Author.Tests.{lt-ltb, le-ltb, eq-eqb, ne-eqb}
 use Rattle.scheduler.specs.declared.Scheduler.{Scheduler}
-use Rattle.scheduler.specs.Heap.{timeIn, timeAt, swapAt, pick, childIn, childOf, down, downshifted, parent, parentIn, parentOf, up, upshifted, Fit}
+use Rattle.scheduler.specs.Heap.{timeIn, timeAt, swapAt, childIn, childOf, down, downshifted, parent, parentIn, parentOf, up, upshifted, Fit}
+use Rattle.halting.proofs.Bools.{differ}
 use Rattle.order.specs.Numbers.{last}
 
 -- below the length the default is not read
@@ -30,18 +30,18 @@ unfolding timeIn
 time-out h s i le′ = simp (le-ltb i (s .cells) le′)
 
 -- ---- the choice of a child
-pub pick-elim : (x y z w : Bool) (l r p : ℕ) (P : ℕ → Type 0)
+pub chosen-elim : (x y z w : Bool) (l r p : ℕ) (P : ℕ → Type 0)
     → (x ≡ true → y ≡ true → P l)
     → (x && y ≡ false → z ≡ true → w ≡ true → P r)
     → (x && y ≡ false → z && w ≡ false → P p)
     → P (cond (x && y) l (cond (z && w) r p))
-pick-elim true true z w l r p P a b c = a refl refl
-pick-elim true false true true l r p P a b c = b refl refl refl
-pick-elim true false true false l r p P a b c = c refl refl
-pick-elim true false false w l r p P a b c = c refl refl
-pick-elim false y true true l r p P a b c = b refl refl refl
-pick-elim false y true false l r p P a b c = c refl refl
-pick-elim false y false w l r p P a b c = c refl refl
+chosen-elim true true z w l r p P a b c = a refl refl
+chosen-elim true false true true l r p P a b c = b refl refl refl
+chosen-elim true false true false l r p P a b c = c refl refl
+chosen-elim true false false w l r p P a b c = c refl refl
+chosen-elim false y true true l r p P a b c = b refl refl refl
+chosen-elim false y true false l r p P a b c = c refl refl
+chosen-elim false y false w l r p P a b c = c refl refl
 
 module _ (h : ℕ → Float) (s : Scheduler) (p : ℕ) where
   abbrev tp : Float
@@ -59,7 +59,7 @@ module _ (h : ℕ → Float) (s : Scheduler) (p : ℕ) where
       → (lt tl tp && le tl tr ≡ false → lt tr tp && lt tr tl ≡ false → P p)
       → P (childOf h s p)
   unfolding childIn
-  child-elim P = pick-elim (lt tl tp) (le tl tr) (lt tr tp) (lt tr tl) (2 * p + 1) (2 * p + 2) p P
+  child-elim P = chosen-elim (lt tl tp) (le tl tr) (lt tr tp) (lt tr tl) (2 * p + 1) (2 * p + 2) p P
 
   -- where the child is another index, it is further on
   pub child-after : p ≤ childOf h s p
@@ -72,12 +72,9 @@ module _ (h : ℕ → Float) (s : Scheduler) (p : ℕ) where
       (λ a b c n. below (2 * p + 2) b)
       (λ a b n. absurd (n refl))
     where
-      never : true ≡ false → ⊥
-      never e = let z : _≡_ {A = ℕ} 0 1 = cc in omega arith
-
       below : (i : ℕ) → lt (timeAt h s i) tp ≡ true → i < s .cells
       below i a = elim (decLe (s .cells) i) [
-        | yes o ↦ absurd (never (sym a ∙ ap (λ (x : Float). lt x tp) (time-out h s i o) ∙ ap (λ (x : Float). lt last x) (time-in h s p in′) ∙ f .top (getD (s .heap) p 0)))
+        | yes o ↦ differ a (ap (λ (x : Float). lt x tp) (time-out h s i o) ∙ ap (λ (x : Float). lt last x) (time-in h s p in′) ∙ f .top (getD (s .heap) p 0))
         | no n ↦ omega arith
       ]
 

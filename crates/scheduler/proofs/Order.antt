@@ -1,22 +1,18 @@
 -- An update puts the heap in order again, if only the head of the updated cell changed. Assumes nothing.
-use mathlib.Core.Path.{_≡_, refl, sym, ap, subst, _∙_}
-use mathlib.Core.Bool.{Bool, true, false, _&&_, cond, true≢false}
-use mathlib.Core.List.{List}
-use Prim.Native.Nat.{ℕ, zero, suc, _+_, _-_, _*_, _/_, _≤_, _<_}
+use mathlib.Core.Path.{_≡_, refl, sym, ap, _∙_}
+use mathlib.Core.Bool.{Bool, true, false, _&&_, and-true}
+use Prim.Native.Nat.{ℕ, zero, suc, _+_, _-_, _*_, _≤_, _<_}
 use native.Mathlib.Omega.{arith}
 use native.Mathlib.Decide.{decLe, ℕ-discrete}
 use lib.ListN.{length, getD}
-use lib.Ieee.{Float, binary64, ofBits, lt, le, isNan}
+use lib.Ieee.{Float, ofBits, lt, le, isNan}
 use Rattle.scheduler.specs.declared.Scheduler.{Scheduler}
-use Rattle.scheduler.specs.Heap.{timeAt, swap, swapAt, childOf, down, downshifted, parent, parentOf, up, upshifted, updated, Fit}
+use Rattle.scheduler.specs.Heap.{timeAt, swapAt, childOf, down, downshifted, parent, parentOf, up, upshifted, updated, Fit}
 use Rattle.order.specs.Numbers.{last}
 use Rattle.scheduler.specs.Standing.{Inverse, Ordered, Real}
-use Rattle.scheduler.proofs.Laws.{time-in, time-out, child-in, child-out, child-elim, swap-cells, down-stays, down-goes, up-stays, up-goes, parent-elim, parent-out, parent-early, parent-late}
+use Rattle.scheduler.proofs.Laws.{time-in, time-out, child-in, child-out, child-elim, down-stays, down-goes, up-stays, up-goes, parent-elim}
 use Rattle.order.proofs.Compare.{not-later, lt-asym, lt-irrefl, le-not-lt, lt-of-not-le}
 use Rattle.scheduler.proofs.Inverse.{swap-fst, swap-snd, swap-other, swap-inverse, fit-swap}
-
-clash : {A : Type 0} → false ≡ true → A
-clash e = absurd (true≢false (sym e))
 
 -- ---- times at the indices of a tree, before and after two of them changed places
 pub record Swapped (t t′ : ℕ → Float) (a b : ℕ) : Type 0 where
@@ -77,7 +73,7 @@ module _ (n : ℕ) (t t′ : ℕ → Float) (real : (i : ℕ) → isNan (t i) �
   }
 
 -- ---- the times of a scheduler's indices
-last-real : isNan last ≡ false
+pub last-real : isNan last ≡ false
 unfolding isNan ofBits
 last-real = refl
 
@@ -136,10 +132,6 @@ module _ (h : ℕ → Float) (real : Real h) where
           (λ i e n. (i, e, refl)) (λ e n. absurd (n refl))
 
 -- ---- the downshift
-and-true : (x y : Bool) → y ≡ true → x && y ≡ false → x ≡ false
-and-true true y e f = clash (sym f ∙ e)
-and-true false y e f = refl
-
 -- a parent that stays is no later than its children
 module _ (p l r : Float) (L : isNan l ≡ false) (R : isNan r ≡ false) (a : lt l p && le l r ≡ false) (b : lt r p && lt r l ≡ false) where
   stay-left : lt l p ≡ false
@@ -148,7 +140,7 @@ module _ (p l r : Float) (L : isNan l ≡ false) (R : isNan r ≡ false) (a : lt
       by : (x : Bool) → lt l p ≡ x → lt l p ≡ false
       by true e =
           let g : lt r l ≡ true = lt-of-not-le l r L R (rw e at a) in
-          not-later p r l R (and-true (lt r p) (lt r l) g b) (lt-asym r l g)
+          not-later p r l R (sym (and-true (lt r p)) ∙ (rw g at b)) (lt-asym r l g)
       by false e = e
 
   stay-right : lt r p ≡ false

@@ -1,11 +1,11 @@
 -- 01, "Heap (scheduler.rs)": the heap of cell numbers with its lookups, and what one shift and one update make of it.
 -- `h` gives each cell's head time, `last` (f64::MAX) where its list is empty. Assumes nothing: these are definitions.
 use mathlib.Core.Path.{_≡_}
-use mathlib.Core.Bool.{Bool, true, false, cond, _&&_}
+use mathlib.Core.Bool.{false, cond, _&&_}
 use mathlib.Core.List.{List}
-use Prim.Native.Nat.{ℕ, zero, suc, _+_, _-_, _*_, _/_, _≤_, _<_}
+use Prim.Native.Nat.{ℕ, zero, suc, _+_, _-_, _*_, _/_, _≤_}
 use lib.ListN.{getD, set, replicate}
-use lib.Dec.{ltb, leb, eqb}
+use lib.Dec.{ltb, eqb}
 use lib.Ieee.{Float, lt, le}
 use Rattle.order.specs.Numbers.{last}
 use Rattle.scheduler.specs.declared.Scheduler.{Scheduler}
@@ -30,12 +30,12 @@ unfoldable pub swapAt : Scheduler → ℕ → ℕ → Scheduler
 swapAt s a b = record { heap = swap (s .heap) a b; lookups = swap (s .lookups) (getD (s .heap) a 0) (getD (s .heap) b 0); cells = s .cells }
 
 -- of a parent p and its children l and r: l if left < parent and left ≤ right, else r if right < parent and right < left, else p itself
-abbrev pub pick : Float → Float → Float → ℕ → ℕ → ℕ → ℕ
-pick tp tl tr p l r = cond (lt tl tp && le tl tr) l (cond (lt tr tp && lt tr tl) r p)
+abbrev pub chosen : Float → Float → Float → ℕ → ℕ → ℕ → ℕ
+chosen tp tl tr p l r = cond (lt tl tp && le tl tr) l (cond (lt tr tp && lt tr tl) r p)
 
 -- the child that p changes places with, or p itself
 unfoldable pub childIn : (ℕ → Float) → List ℕ → ℕ → ℕ → ℕ
-childIn h heap n p = pick (timeIn h heap n p) (timeIn h heap n (2 * p + 1)) (timeIn h heap n (2 * p + 2)) p (2 * p + 1) (2 * p + 2)
+childIn h heap n p = chosen (timeIn h heap n p) (timeIn h heap n (2 * p + 1)) (timeIn h heap n (2 * p + 2)) p (2 * p + 1) (2 * p + 2)
 
 abbrev pub childOf : (ℕ → Float) → Scheduler → ℕ → ℕ
 childOf h s p = childIn h (s .heap) (s .cells) p

@@ -2,7 +2,7 @@
 ghost use mathlib.Core.Path.{_≡_};
 ghost use Prim.Native.Nat.{ℕ, _≤_, _<_};
 ghost use lib.ListN.{length};
-ghost use Rattle.scheduler.specs.Heap.{headIn, timeIn, swapAt, pick, childIn, downshifted, parentIn, upshifted, updated, start, made, Fit};
+ghost use Rattle.scheduler.specs.Heap.{headIn, timeIn, swapAt, chosen, childIn, downshifted, parentIn, upshifted, updated, start, made, Fit};
 
 const LAST: f64 = 1.7976931348623157e308;
 
@@ -65,7 +65,7 @@ pub fn child(heap: &[u8], cells: usize, times: &[f64], held: &[u64], room: usize
 
 // Of a parent p and its children l and r, by their times: the child to change places with, or p.
 fn pick_child(tp: f64, tl: f64, tr: f64, p: usize, l: usize, r: usize) -> usize
-    ensures { λ x. ⌜ x ≡ pick tp tl tr p l r ⌝ }
+    ensures { λ x. ⌜ x ≡ chosen tp tl tr p l r ⌝ }
 {
     if tl < tp && tl <= tr {
         l

@@ -2,32 +2,32 @@
 use Prim.Native.Nat.{ℕ, _+_, _-_, _*_, _≤_}
 use mathlib.Core.Path.{_≡_, refl, sym, ap, _∙_}
 use mathlib.Core.Bool.{Bool, true, false, _&&_}
-use mathlib.Core.List.{List, [], _∷_, _++_}
+use mathlib.Core.List.{List, _++_}
 use native.Mathlib.Omega.{arith}
 use lib.ListN.{length, getD, drop, length-append, length-drop}
 use lib.Seq.{take-at}
 use lib.Ieee.{Float}
-use Rattle.chunks.specs.Flat.{flat, Every}
-use Rattle.chunks.proofs.Laws.{length-flat, every-wide}
-use Rattle.model.specs.declared.Place.{Place}
+use Rattle.chunks.specs.Flat.{flat}
+use Rattle.chunks.proofs.Laws.{length-flat, row-long}
 use Rattle.model.specs.Grid.{cells, boxOf}
-use Rattle.model.specs.State.{Row, State}
+use Rattle.model.specs.State.{State}
 use Rattle.model.specs.Sound.{Sound}
 use Rattle.model.specs.Check as model
-use Rattle.model.proofs.Queue.{and-l, and-r}
+use Rattle.halting.proofs.Bools.{and-l, and-r}
 use Rattle.model.proofs.Whole.{sound-sized}
 use borrow.Author.Tests.{leb-true}
 use lib.Dec.{leb}
 use Rattle.tables.specs.declared.Sizes.{Sizes}
 use Rattle.tables.specs.Layout.{grainReals, rowNums, queueNums, queueReals, orderBytes}
-use Rattle.tables.specs.Holds.{Holds, Good}
+use Rattle.tables.specs.Holds.{Holds}
 use Rattle.acts.proofs.FromSound.{sound-held}
 use Rattle.checks.specs.Decode.{Tables, flag, sizesOf, decoded}
 use Rattle.checks.specs.Check.{Sized, sized, listsNeed, grainsNeed, queueNeed, eventsNeed, legible, standing}
 use Rattle.checks.specs.Held.{Hold}
 use Rattle.checks.proofs.Holding.{side-rows}
 use Rattle.checks.proofs.Stages.{means-sized}
-use Rattle.checks.proofs.Back.{row-wide, long-nums, long-reals, read-back}
+use Rattle.tables.proofs.Runs.{rows-nums-wide, rows-reals-wide}
+use Rattle.checks.proofs.Back.{row-wide, read-back}
 use Rattle.checks.proofs.Again.{legible-held}
 use Rattle.checks.specs.Encode.{over, flagged, listsHead, grainsHead, sizesIn, encoded}
 use Rattle.checks.proofs.Over.{over-again}
@@ -76,21 +76,13 @@ module _ (s : State) (K : Sound s) where
       omega (arith, a, h, m)
 
   grains-many : length (flat grainReals (s .grains)) ≡ grainsNeed (sizesIn s) - 3
-  grains-many = let g : length (flat grainReals (s .grains)) ≡ length (s .grains) * 6 = length-flat grainReals 6 (s .grains) (every-wide grainReals 6 (λ p. refl) (lib.Dec.lit< tt) (s .grains)) in omega (arith, g)
-
-  nums-wide : (qs : List (Row Place)) → Every (Good (s .room)) qs → Every (λ (r : Row Place). length (queueNums r) ≡ s .room * 4 + 1) qs
-  nums-wide [] v = tt
-  nums-wide (r ∷ qs) v = (long-nums (s .room) r (v .0 .full), nums-wide qs (v .1))
-
-  reals-wide : (qs : List (Row Place)) → Every (Good (s .room)) qs → Every (λ (r : Row Place). length (queueReals r) ≡ s .room * 10) qs
-  reals-wide [] v = tt
-  reals-wide (r ∷ qs) v = (long-reals (s .room) r (v .0 .full), reals-wide qs (v .1))
+  grains-many = let g : length (flat grainReals (s .grains)) ≡ length (s .grains) * 6 = row-long grainReals 6 (λ p. refl) (lib.Dec.lit< tt) (s .grains) refl in omega (arith, g)
 
   queue-many : length (flat queueNums (s .queues)) ≡ queueNeed (sizesIn s)
-  queue-many = length-flat queueNums (s .room * 4 + 1) (s .queues) (nums-wide (s .queues) (H .queued .tables .good)) ∙ ap (λ (n : ℕ). n * (s .room * 4 + 1)) (H .queued .tables .many)
+  queue-many = length-flat queueNums (s .room * 4 + 1) (s .queues) (rows-nums-wide (s .room) (s .queues) (H .queued .tables .good)) ∙ ap (λ (n : ℕ). n * (s .room * 4 + 1)) (H .queued .tables .many)
 
   events-many : length (flat queueReals (s .queues)) ≡ eventsNeed (sizesIn s)
-  events-many = length-flat queueReals (s .room * 10) (s .queues) (reals-wide (s .queues) (H .queued .tables .good)) ∙ ap (λ (n : ℕ). n * (s .room * 10)) (H .queued .tables .many)
+  events-many = length-flat queueReals (s .room * 10) (s .queues) (rows-reals-wide (s .room) (s .queues) (H .queued .tables .good)) ∙ ap (λ (n : ℕ). n * (s .room * 10)) (H .queued .tables .many)
 
   order-many : length (orderBytes (s .sched)) ≡ 512
   order-many = let a = length-append (s .sched .heap) (s .sched .lookups) in let h = H .queued .heap .heap-long in let l = H .queued .heap .lookups-long in omega (arith, a, h, l)

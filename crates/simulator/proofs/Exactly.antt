@@ -16,9 +16,9 @@ use Rattle.model.specs.Sizes.{boxOk, rated, firstBad}
 use Rattle.model.specs.Start.{start, startedAt, begin}
 use Rattle.model.specs.Run.{refused}
 use Rattle.model.specs.Check.{halt}
-use Rattle.model.proofs.Queue.{and-l, and-r}
+use Rattle.halting.proofs.Bools.{and-l, and-r, differ}
 use Rattle.model.proofs.Halts.{run-halts, start-halts}
-use Rattle.model.proofs.Exactly.{Exactly, differ}
+use Rattle.model.proofs.Exactly.{Exactly}
 use Rattle.checks.specs.Decode.{Tables, mark, decoded}
 use Rattle.checks.specs.Check.{sized, standing, checked}
 use Rattle.checks.proofs.Cut.{cut-long}

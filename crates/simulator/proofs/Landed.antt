@@ -25,7 +25,7 @@ use Rattle.model.specs.Start.{Begun, started, start, clear, begin}
 use Rattle.model.specs.Start as begun
 use Rattle.model.specs.Check.{refusal, runAll}
 use Rattle.model.specs.Reached.{most, Call, after, Reached, steps}
-use Rattle.model.proofs.Queue.{and-l, and-r}
+use Rattle.halting.proofs.Bools.{and-l, and-r}
 use Rattle.model.proofs.Whole.{runs}
 use Rattle.model.proofs.Counts.{Ended, counts}
 use Rattle.model.proofs.Reached.{Well, runAll-well, reached-well, counted-runs}

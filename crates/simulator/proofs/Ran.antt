@@ -14,7 +14,7 @@ use Rattle.model.specs.Run.{How, synchronised, spent, refused, Ran, runFrom}
 use Rattle.model.specs.Check.{halt, refusal, runAll}
 use Rattle.model.specs.Check as model
 use Rattle.model.specs.Reached.{after}
-use Rattle.model.proofs.Lists.{clash}
+use Rattle.halting.proofs.Bools.{clash}
 use Rattle.model.proofs.Stands.{sound-fitted}
 use Rattle.model.proofs.Reflect.{says-stands}
 use Rattle.model.proofs.Whole.{sound-sized}

@@ -15,7 +15,7 @@ use Rattle.model.specs.Grid.{cells}
 use Rattle.model.specs.State.{marked}
 use Rattle.model.specs.Start.{Begun, refused, startedAt, start, begin}
 use Rattle.model.specs.Reports.{startNumber}
-use Rattle.model.proofs.Queue.{and-l, and-r}
+use Rattle.halting.proofs.Bools.{and-l, and-r}
 use Rattle.cell.specs.declared.Grid.{Grid}
 use Rattle.cell.specs.Cell.{gridOf}
 use Rattle.tables.specs.declared.Sizes.{Sizes}

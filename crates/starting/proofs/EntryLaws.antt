@@ -4,7 +4,7 @@ use mathlib.Core.Path.{_≡_, refl, sym, ap, _∙_, subst}
 use mathlib.Core.List.{List, [], _∷_, _++_, map, append-assoc}
 use native.Mathlib.Numerals.{add-one}
 use native.Mathlib.Omega.{arith}
-use Rattle.chunks.specs.Flat.{Every}
+use Rattle.halting.specs.Every.{All}
 use Rattle.halting.specs.Out.{Out, next, then, eachOf}
 use Rattle.model.specs.declared.Domain.{Domain}
 use Rattle.model.specs.Grid.{across}
@@ -66,11 +66,11 @@ rows-grid b is [] = refl
 rows-grid b is (j ∷ js) = ap (λ (l : List ℕ). rowCells (across 0 b) is j ++ l) (rows-grid b is js)
 
 -- ---- what holds of each of two lists one after the other holds of each
-every-front : (P : ℕ → Type 0) (xs ys : List ℕ) → Every P (xs ++ ys) → Every P xs
+every-front : (P : ℕ → Type 0) (xs ys : List ℕ) → All P (xs ++ ys) → All P xs
 every-front P [] ys v = tt
 every-front P (x ∷ xs) ys v = (v .0, every-front P xs ys (v .1))
 
-every-back : (P : ℕ → Type 0) (xs ys : List ℕ) → Every P (xs ++ ys) → Every P ys
+every-back : (P : ℕ → Type 0) (xs ys : List ℕ) → All P (xs ++ ys) → All P ys
 every-back P [] ys v = v
 every-back P (x ∷ xs) ys v = every-back P xs ys (v .1)
 
@@ -125,17 +125,17 @@ module _ {z : Sizes} (g : ℕ) where
 -- what they ask of the rest
 module _ {z : Sizes} {g : ℕ} where
   pub enters-first : {l cs : List ℕ} (c : ℕ) (ds : List ℕ) → cs ≡ c ∷ ds → Enters z l g cs → c < z .cells
-  enters-first c ds e E = (subst (Every (λ (c : ℕ). c < z .cells)) e (E .below)) .0
+  enters-first c ds e E = (subst (All (λ (c : ℕ). c < z .cells)) e (E .below)) .0
 
   pub enters-rest : {l l′ cs : List ℕ} (c : ℕ) (ds : List ℕ) → cs ≡ c ∷ ds → Enters z l g cs → Lists z l′ → Enters z l′ g ds
-  enters-rest c ds e E L = record { lists = L; ranged = E .ranged; known = E .known; below = (subst (Every (λ (c : ℕ). c < z .cells)) e (E .below)) .1 }
+  enters-rest c ds e E L = record { lists = L; ranged = E .ranged; known = E .known; below = (subst (All (λ (c : ℕ). c < z .cells)) e (E .below)) .1 }
 
   pub enters-front : {l cs : List ℕ} (xs ys : List ℕ) → cs ≡ xs ++ ys → Enters z l g cs → Enters z l g xs
   enters-front xs ys e E = record {
     lists = E .lists;
     ranged = E .ranged;
     known = E .known;
-    below = every-front (λ (c : ℕ). c < z .cells) xs ys (subst (Every (λ (c : ℕ). c < z .cells)) e (E .below));
+    below = every-front (λ (c : ℕ). c < z .cells) xs ys (subst (All (λ (c : ℕ). c < z .cells)) e (E .below));
   }
 
   pub enters-back : {l l′ cs : List ℕ} (xs ys : List ℕ) → cs ≡ xs ++ ys → Enters z l g cs → Lists z l′ → Enters z l′ g ys
@@ -143,5 +143,5 @@ module _ {z : Sizes} {g : ℕ} where
     lists = L;
     ranged = E .ranged;
     known = E .known;
-    below = every-back (λ (c : ℕ). c < z .cells) xs ys (subst (Every (λ (c : ℕ). c < z .cells)) e (E .below));
+    below = every-back (λ (c : ℕ). c < z .cells) xs ys (subst (All (λ (c : ℕ). c < z .cells)) e (E .below));
   }

@@ -8,7 +8,7 @@ use lib.ListN.{getD}
 use lib.Ieee.{Float}
 use borrow.Author.Tests.{eq-eqb}
 use Rattle.order.specs.Numbers.{fzero}
-use Rattle.chunks.specs.Flat.{Every}
+use Rattle.halting.specs.Every.{All}
 use Rattle.halting.specs.Out.{Out, then, eachOf}
 use Rattle.myvec.specs.declared.MyVec.{MyVec}
 use Rattle.model.specs.declared.Domain.{Domain}
@@ -42,7 +42,7 @@ cells-are b g pos x y e p q =
     ∙ sym (rows-grid b (cellsIn (spansOf (lengthOf 0 b) (across 0 b) (pos .x))) (cellsIn (spansOf (lengthOf 1 b) (across 1 b) (pos .y))))
     ∙ grain-list b pos
 
-under-every : (n : ℕ) (l : List ℕ) → Under n l → Every (λ (c : ℕ). c < n) l
+under-every : (n : ℕ) (l : List ℕ) → Under n l → All (λ (c : ℕ). c < n) l
 unfolding has
 under-every n [] u = tt
 under-every n (x ∷ l) u = (u x (first x), under-every n l (λ y h. u y (later y h)))
@@ -64,8 +64,8 @@ module _ {z : Sizes} {b : Domain} {g : Grid} {inputs : List Float} {l : List ℕ
     lists = (G .held .0, G .held .1 .lists);
     ranged = G .ranged;
     known = h;
-    below = subst (λ (n : ℕ). Every (λ (c : ℕ). c < n) (gridCells (g .n0) (cellsIn x) (cellsIn y))) (sym (G .cells-are))
-        (subst (Every (λ (c : ℕ). c < cells b)) (sym (cells-are b g pos x y (G .laid .grid) p q)) (under-every (cells b) (cellsOfGrain b pos) (cells-under b pos (G .laid .box))));
+    below = subst (λ (n : ℕ). All (λ (c : ℕ). c < n) (gridCells (g .n0) (cellsIn x) (cellsIn y))) (sym (G .cells-are))
+        (subst (All (λ (c : ℕ). c < cells b)) (sym (cells-are b g pos x y (G .laid .grid) p q)) (under-every (cells b) (cellsOfGrain b pos) (cells-under b pos (G .laid .box))));
   }
 
 pub grid-few : (b : Domain) (g : Grid) → Laid b g → (g .n0 ≤ 16) × (g .n1 ≤ 16)

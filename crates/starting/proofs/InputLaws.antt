@@ -14,7 +14,8 @@ use Rattle.model.specs.declared.Particle.{Particle}
 use Rattle.model.specs.Sizes.{grainOk, firstBad}
 use Rattle.model.specs.Stepping.{grainOf}
 use Rattle.model.specs.State.{zeroG}
-use Rattle.checks.proofs.Cut.{tail-is, cut-none, cut-step, cut-at, cut-long}
+use Rattle.chunks.proofs.Laws.{tail-is}
+use Rattle.checks.proofs.Cut.{cut-none, cut-step, cut-at, cut-long}
 use Rattle.starting.specs.Inputs.{inputAt, inputsOf}
 
 pub input-read : (n : ℕ) (l : List Float) (i : ℕ) → i < n → inputAt (midOf (i * 5) (length l - i * 5) l) ≡ getD (inputsOf n l) i zeroG

@@ -9,7 +9,8 @@ use native.Mathlib.Omega.{arith}
 use lib.ListN.{length, replicate, length-append, length-replicate, replicate-append-replicate}
 use lib.Ieee.{Float}
 use Rattle.order.specs.Numbers.{fzero}
-use Rattle.chunks.specs.Flat.{flat, Every}
+use Rattle.halting.specs.Every.{All}
+use Rattle.chunks.specs.Flat.{flat}
 use Rattle.scheduler.specs.Heap.{start as startHeap}
 use Rattle.scheduler.proofs.Inverse.{start-inverse}
 use Rattle.model.specs.declared.Domain.{Domain}
@@ -34,7 +35,7 @@ flat-same {B = B} enc x v w e (suc n) =
     ∙ ap (λ (l : List B). l ++ replicate (n * w) v) (sym e)
     ∙ ap (λ (l : List B). enc x ++ l) (flat-same enc x v w e n)
 
-every-same : {A : Type 0} (P : A → Type 0) (x : A) → P x → (n : ℕ) → Every P (replicate n x)
+every-same : {A : Type 0} (P : A → Type 0) (x : A) → P x → (n : ℕ) → All P (replicate n x)
 every-same P x p zero = tt
 every-same P x p (suc n) = (p, every-same P x p n)
 
@@ -42,7 +43,7 @@ empty-rows : (m w n : ℕ) → Rows m w n (replicate m (empty w 0))
 empty-rows m w n = record {
   many = length-replicate m (empty w 0);
   wide = every-same (λ (r : Row ℕ). length (places r) ≡ w) (empty w 0) (length-replicate w 0) m;
-  below = every-same (λ (r : Row ℕ). Every (λ (x : ℕ). x < n) (r .live)) (empty w 0) tt m;
+  below = every-same (λ (r : Row ℕ). All (λ (x : ℕ). x < n) (r .live)) (empty w 0) tt m;
 }
 
 empty-queue : (room : ℕ) → queueNums (empty room zeroP) ≡ replicate (room * 4 + 1) 0

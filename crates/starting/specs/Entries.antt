@@ -1,7 +1,7 @@
 -- The cells with some indices, where a row has n0 cells, and what entering them asks. Assumes nothing: these are definitions.
 use Prim.Native.Nat.{ℕ, _+_, _*_, _<_}
 use mathlib.Core.List.{List, [], _∷_, _++_, map}
-use Rattle.chunks.specs.Flat.{Every}
+use Rattle.halting.specs.Every.{All}
 use Rattle.tables.specs.declared.Sizes.{Sizes}
 use Rattle.tables.specs.Holds.{Ranged}
 use Rattle.acts.specs.Tell.{Lists}
@@ -19,4 +19,4 @@ pub record Enters (z : Sizes) (l : List ℕ) (grain : ℕ) (cs : List ℕ) : Typ
   pub lists : Lists z l
   pub ranged : Ranged z
   pub known : grain < z .grains
-  pub below : Every (λ (c : ℕ). c < z .cells) cs
+  pub below : All (λ (c : ℕ). c < z .cells) cs

@@ -11,7 +11,7 @@ use lib.ListN.{length, getD}
 use borrow.Author.Tests.{ne-eqb}
 use borrow.Rule.Slice.PartMut.{midOf}
 use Rattle.halting.specs.Out.{Out, out, pick, next, then, each, eachOf}
-use Rattle.chunks.specs.Flat.{Every}
+use Rattle.halting.specs.Every.{All}
 use Rattle.model.specs.State.{State}
 use Rattle.model.specs.Doing.{others}
 use Rattle.acts.proofs.InTurn.{told-stop, told-on, of-none, of-stop, of-on, each-end, each-stop, each-on}
@@ -93,7 +93,7 @@ module _ (b : ℕ) (act : ℕ → State → Out State) where
   but-on l u z d e = does-as (λ s p. but-one b act l s) (list-on (unless b act) l u z d (does-as (λ s p. sym (but-one b act (midOf 1 (length l - 1) l) s)) e))
 
 -- no number of the list is left out
-pub none-out : (b : ℕ) (l : List ℕ) → Every (λ (q : ℕ). q < b) l → others b l ≡ l
+pub none-out : (b : ℕ) (l : List ℕ) → All (λ (q : ℕ). q < b) l → others b l ≡ l
 unfolding others
 none-out b [] h = refl
 none-out b (q ∷ l) h = rw (ne-eqb b q (λ e. absurd (omega (arith, h .0)))) (ap (λ (m : List ℕ). q ∷ m) (none-out b l (h .1)))

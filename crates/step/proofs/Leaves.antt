@@ -5,8 +5,8 @@ use mathlib.Core.List.{List}
 use native.Mathlib.Omega.{arith}
 use lib.Ieee.{Float}
 use Rattle.halting.specs.Out.{Out, then, each, eachOf}
-use Rattle.chunks.specs.Flat.{Every}
-use Rattle.chunks.proofs.Laws.{every-at}
+use Rattle.halting.specs.Every.{All}
+use Rattle.halting.proofs.All.{all-at}
 use Rattle.model.specs.declared.Plan.{Plan}
 use Rattle.model.specs.State.{State, Row, none, home, listed, grain}
 use Rattle.model.specs.Acts.{put}
@@ -113,11 +113,11 @@ module _ {z : Sizes} {w : World} where
 
 -- ---- the members of a cell are grains, the homes of a grain are cells
 module _ {z : Sizes} {l : List ℕ} (s : State) (h : Listed z l (s .homes) (s .members)) where
-  pub members-below : (c : ℕ) → c < z .cells → Every (λ (q : ℕ). q < z .grains) (listed s c)
-  members-below c C = every-at (λ (r : Row ℕ). Every (λ (x : ℕ). x < z .grains) (r .live)) (s .members) c none (h .members .below) (omega (arith, h .members .many))
+  pub members-below : (c : ℕ) → c < z .cells → All (λ (q : ℕ). q < z .grains) (listed s c)
+  members-below c C = all-at (λ (r : Row ℕ). All (λ (x : ℕ). x < z .grains) (r .live)) (s .members) c none (h .members .below) (omega (arith, h .members .many))
 
-  pub homes-below : (p : ℕ) → p < z .grains → Every (λ (c : ℕ). c < z .cells) (home s p)
-  homes-below p P = every-at (λ (r : Row ℕ). Every (λ (x : ℕ). x < z .cells) (r .live)) (s .homes) p none (h .homes .below) (omega (arith, h .homes .many))
+  pub homes-below : (p : ℕ) → p < z .grains → All (λ (c : ℕ). c < z .cells) (home s p)
+  homes-below p P = all-at (λ (r : Row ℕ). All (λ (x : ℕ). x < z .cells) (r .live)) (s .homes) p none (h .homes .below) (omega (arith, h .homes .many))
 
 -- ---- what the scheduling of one kind found goes in
 module _ {z : Sizes} {w : World} {g : List Float} {q q₁ : List ℕ} {e e₁ : List Float} {o o₁ : List ℕ} {r : ℕ} where

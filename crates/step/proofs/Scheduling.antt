@@ -9,7 +9,7 @@ use borrow.Author.Tests.{eq-eqb, ne-eqb}
 use Rattle.halting.specs.Out.{Out, out, pick, next, then, each, eachOf}
 use Rattle.cell.specs.declared.Cell.{Cell}
 use Rattle.cell.specs.Cell.{cellOf}
-use Rattle.model.specs.declared.Domain.{Domain}
+use Rattle.cell.proofs.Laws.{index-cell}
 use Rattle.model.specs.declared.Particle.{Particle}
 use Rattle.model.specs.declared.Plan.{Plan}
 use Rattle.model.specs.State.{State, home, listed, grain, zeroG}
@@ -113,9 +113,5 @@ pub at-index : {P Q : State → Type 0} {r : ℕ} (p : ℕ) (l : List ℕ) {c i 
 at-index {P} {Q} {r} p l e d = subst (λ (k : ℕ). Does P Q r (λ s. then (eachOf (scheduleCollision k p) (others p l) s) (boundaries k p))) e d
 
 -- ---- the cell that is made of an index
-pub made-index : (b : Domain) (i : ℕ) {c : Cell} → c ≡ cellOf b i → c .index ≡ i
-unfolding cellOf
-made-index b i e = ap (λ (x : Cell). x .index) e
-
 pub made-cell : {z : Sizes} {w : World} (i : ℕ) {c : Cell} → c ≡ cellOf (w .domain) i → i < z .cells → Celled z w c
-made-cell {w = w} i e h = let k = made-index (w .domain) i e in record { is = e ∙ ap (cellOf (w .domain)) (sym k); inside = rw k h }
+made-cell {w = w} i e h = let k = index-cell (w .domain) i e in record { is = e ∙ ap (cellOf (w .domain)) (sym k); inside = rw k h }

@@ -7,7 +7,7 @@ use lib.Ieee.{Float}
 use lib.ListN.{length, getD}
 use borrow.Rule.Slice.PartMut.{midOf}
 use Rattle.halting.specs.Out.{then, eachOf}
-use Rattle.chunks.specs.Flat.{Every}
+use Rattle.halting.specs.Every.{All}
 use Rattle.chunks.proofs.Laws.{mid-tail}
 use Rattle.order.specs.Numbers.{fzero}
 use Rattle.model.specs.declared.Place.{Place}
@@ -50,16 +50,16 @@ pairs-none c [] e = does-none
 pairs-none c (p ∷ l) e = absurd (suc-ne-zero (length l) e)
 
 -- none of those after the first is left out
-after-first : (b p : ℕ) (l : List ℕ) → Every (λ (q : ℕ). q < b) (midOf 1 (length (p ∷ l) - 1) (p ∷ l)) → others b (midOf 1 (length (p ∷ l) - 1) (p ∷ l)) ≡ l
+after-first : (b p : ℕ) (l : List ℕ) → All (λ (q : ℕ). q < b) (midOf 1 (length (p ∷ l) - 1) (p ∷ l)) → others b (midOf 1 (length (p ∷ l) - 1) (p ∷ l)) ≡ l
 after-first b p l h = none-out b (midOf 1 (length (p ∷ l) - 1) (p ∷ l)) h ∙ mid-tail (p ∷ []) l {l = p ∷ l} 1 refl refl
 
-pub pairs-stop : {P Q : State → Type 0} {r : ℕ} (b c : ℕ) (l : List ℕ) → (length l ≡ 0 → ⊥) → Every (λ (q : ℕ). q < b) (midOf 1 (length l - 1) l) → (r ≡ 0 → ⊥)
+pub pairs-stop : {P Q : State → Type 0} {r : ℕ} (b c : ℕ) (l : List ℕ) → (length l ≡ 0 → ⊥) → All (λ (q : ℕ). q < b) (midOf 1 (length l - 1) l) → (r ≡ 0 → ⊥)
     → Does P Q r (eachOf (scheduleCollision c (getD l 0 0)) (others b (midOf 1 (length l - 1) l))) → Does P Q r (pairs c l)
 unfolding pairs
 pairs-stop b c [] u h n d = absurd (u refl)
 pairs-stop {P} {Q} {r} b c (p ∷ l) u h n d = does-stop (λ s. pairs c l) n (subst (λ (m : List ℕ). Does P Q r (eachOf (scheduleCollision c p) m)) (after-first b p l h) d)
 
-pub pairs-on : {P Q R : State → Type 0} {r r₁ : ℕ} (b c : ℕ) (l : List ℕ) → (length l ≡ 0 → ⊥) → Every (λ (q : ℕ). q < b) (midOf 1 (length l - 1) l) → r ≡ 0
+pub pairs-on : {P Q R : State → Type 0} {r r₁ : ℕ} (b c : ℕ) (l : List ℕ) → (length l ≡ 0 → ⊥) → All (λ (q : ℕ). q < b) (midOf 1 (length l - 1) l) → r ≡ 0
     → Does P Q r (eachOf (scheduleCollision c (getD l 0 0)) (others b (midOf 1 (length l - 1) l))) → Does Q R r₁ (pairs c (midOf 1 (length l - 1) l)) → Does P R r₁ (pairs c l)
 unfolding pairs
 pairs-on b c [] u h n d e = absurd (u refl)

@@ -1,7 +1,7 @@
 // init_events: the events that a start schedules, cell by cell.
 ghost use Prim.Native.Nat.{ℕ, _-_, _<_, _≤_};
 ghost use Rattle.halting.specs.Out.{each, eachOf};
-ghost use Rattle.chunks.specs.Flat.{Every};
+ghost use Rattle.halting.specs.Every.{All};
 ghost use Rattle.model.specs.Doing.{boundaries};
 ghost use Rattle.model.specs.Start.{pairs as pairsIn, syncIn, initCell};
 ghost use Rattle.tables.specs.Holds.{Ready, Queued};
@@ -40,7 +40,7 @@ fn pairs(
     w: World,
     cell: Cell,
 ) -> u64
-    requires { ⌜ Some (Seen z w (now grains) (now queue) (now events) (now order)) × Celled z w cell × Every (λ (q : ℕ). q < z .grains) (now list) ⌝ }
+    requires { ⌜ Some (Seen z w (now grains) (now queue) (now events) (now order)) × Celled z w cell × All (λ (q : ℕ). q < z .grains) (now list) ⌝ }
     ensures { λ r. ⌜ Does (Seen z w (now (grains .entry)) (now (queue .entry)) (now (events .entry)) (now (order .entry)))
         (Seen z w (now (grains .entry)) (now (queue .exit)) (now (events .exit)) (now (order .exit))) r (pairsIn (cell .index) (now (list .entry))) ⌝ }
 {
@@ -76,7 +76,7 @@ fn bounds_each(
     w: World,
     cell: Cell,
 ) -> u64
-    requires { ⌜ Some (Seen z w (now grains) (now queue) (now events) (now order)) × Celled z w cell × Every (λ (q : ℕ). q < z .grains) (now list) ⌝ }
+    requires { ⌜ Some (Seen z w (now grains) (now queue) (now events) (now order)) × Celled z w cell × All (λ (q : ℕ). q < z .grains) (now list) ⌝ }
     ensures { λ r. ⌜ Does (Seen z w (now (grains .entry)) (now (queue .entry)) (now (events .entry)) (now (order .entry)))
         (Seen z w (now (grains .entry)) (now (queue .exit)) (now (events .exit)) (now (order .exit))) r (eachOf (λ p. boundaries (cell .index) p) (now (list .entry))) ⌝ }
 {

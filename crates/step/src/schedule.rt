@@ -2,7 +2,7 @@
 ghost use mathlib.Core.Path.{_≡_};
 ghost use Prim.Native.Nat.{ℕ, _<_};
 ghost use Rattle.halting.specs.Out.{then, each, eachOf};
-ghost use Rattle.chunks.specs.Flat.{Every};
+ghost use Rattle.halting.specs.Every.{All};
 ghost use Rattle.cell.specs.Cell.{IsCell};
 ghost use Rattle.model.specs.Doing.{others, scheduleCollision, scheduleBy, boundaries, scheduleEvents, again as againIn};
 ghost use Rattle.step.specs.World.{Placed, Celled, Seen, Held, Some, Does, unless, finder};
@@ -60,7 +60,7 @@ pub fn schedule_collisions(
     p: usize,
     but: usize,
 ) -> u64
-    requires { ⌜ Some (Seen z w (now grains) (now queue) (now events) (now order)) × Celled z w cell × (p < z .grains) × Every (λ (q : ℕ). q < z .grains) (now list) ⌝ }
+    requires { ⌜ Some (Seen z w (now grains) (now queue) (now events) (now order)) × Celled z w cell × (p < z .grains) × All (λ (q : ℕ). q < z .grains) (now list) ⌝ }
     ensures { λ r. ⌜ Does (Seen z w (now (grains .entry)) (now (queue .entry)) (now (events .entry)) (now (order .entry)))
         (Seen z w (now (grains .entry)) (now (queue .exit)) (now (events .exit)) (now (order .exit))) r (eachOf (scheduleCollision (cell .index) p) (others but (now (list .entry)))) ⌝ }
 {
@@ -191,7 +191,7 @@ fn schedule_stepped(
     cell: Cell,
     p: usize,
 ) -> u64
-    requires { ⌜ Some (Seen z w (now grains) (now queue) (now events) (now order)) × Celled z w cell × (p < z .grains) × Every (λ (q : ℕ). q < z .grains) (now list) ⌝ }
+    requires { ⌜ Some (Seen z w (now grains) (now queue) (now events) (now order)) × Celled z w cell × (p < z .grains) × All (λ (q : ℕ). q < z .grains) (now list) ⌝ }
     ensures { λ r. ⌜ Does (Seen z w (now (grains .entry)) (now (queue .entry)) (now (events .entry)) (now (order .entry)))
         (Seen z w (now (grains .entry)) (now (queue .exit)) (now (events .exit)) (now (order .exit))) r (λ s. then (eachOf (scheduleCollision (cell .index) p) (others p (now (list .entry))) s) (boundaries (cell .index) p)) ⌝ }
 {
@@ -241,7 +241,7 @@ fn schedule_each(
     w: World,
     p: usize,
 ) -> u64
-    requires { ⌜ Some (Held z w (now lists) (now grains) (now queue) (now events) (now order)) × Placed z (w .domain) (w .grid) × (p < z .grains) × Every (λ (c : ℕ). c < z .cells) (now list) ⌝ }
+    requires { ⌜ Some (Held z w (now lists) (now grains) (now queue) (now events) (now order)) × Placed z (w .domain) (w .grid) × (p < z .grains) × All (λ (c : ℕ). c < z .cells) (now list) ⌝ }
     ensures { λ r. ⌜ Does (Held z w (now (lists .entry)) (now (grains .entry)) (now (queue .entry)) (now (events .entry)) (now (order .entry)))
         (Held z w (now (lists .entry)) (now (grains .exit)) (now (queue .exit)) (now (events .exit)) (now (order .exit))) r (eachOf (λ c. scheduleEvents p c) (now (list .entry))) ⌝ }
 {

@@ -1,22 +1,25 @@
 -- The table of lists: a grain's row and a cell's row in it, each with another put in its place. Assumes nothing.
-use mathlib.Core.Path.{_≡_, refl, sym, ap, _∙_, subst}
-use Prim.Native.Nat.{ℕ, zero, suc, _+_, _-_, _*_, _≤_, _<_}
+use mathlib.Core.Path.{_≡_, sym, ap, _∙_, subst}
+use Prim.Native.Nat.{ℕ, suc, _+_, _-_, _*_, _≤_, _<_}
 use native.Mathlib.Omega.{arith}
 use mathlib.Core.List.{List, [], _∷_, _++_, append-assoc, append-nil}
-use mathlib.Core.Bool.{Bool, true, false, _||_}
+use mathlib.Core.Bool.{Bool, true, false}
 use lib.Dec.{eqb}
 use lib.ListN.{length, getD, set, take, drop, length-append, length-set}
 use lib.Seq.{getD-take, getD-drop}
 use borrow.Rule.Slice.PartMut.{midOf, putMid}
-use Rattle.chunks.specs.Flat.{flat, Every}
-use Rattle.chunks.proofs.Laws.{every-at, every-set, length-flat, length-front, flat-cut, flat-set, chunk-in, mid-at, put-at}
+use Rattle.halting.specs.Every.{All}
+use Rattle.chunks.specs.Flat.{flat}
+use Rattle.halting.proofs.All.{all-at, all-set, all-mid, all-to}
+use Rattle.chunks.proofs.Laws.{length-flat, length-front, flat-cut, flat-set, mid-at, put-at}
 use Rattle.halting.specs.Out.{pick}
 use Rattle.model.specs.Sizes.{memberRoom, homeRoom}
-use Rattle.model.specs.State.{Row, row, none, liveAt, has, but, pushed, pulled}
+use Rattle.model.specs.State.{Row, none, liveAt, has, but, pushed, pulled}
+use Rattle.model.proofs.Lists.{length-but}
 use Rattle.tables.specs.declared.Sizes.{Sizes}
 use Rattle.tables.specs.Layout.{places, rowNums}
 use Rattle.tables.specs.Holds.{Rows, Listed}
-use Rattle.tables.proofs.RowLaws.{but-length, live-most}
+use Rattle.tables.proofs.RowLaws.{live-most}
 
 -- ---- chunk c of a region of a table: what stands before the region, the region, what stands after it
 module _ {A B : Type 0} (f : A → List B) (w : ℕ) where
@@ -25,20 +28,20 @@ module _ {A B : Type 0} (f : A → List B) (w : ℕ) where
   region-cut pre post xs c d h e =
       e ∙ ap (λ (k : List B). pre ++ (k ++ post)) (flat-cut f w xs c d h) ∙ simp append-assoc
 
-  region-front : (pre : List B) (xs : List A) (c a : ℕ) → Every (λ (x : A). length (f x) ≡ w) xs → c < length xs → a ≡ length pre + c * w → length (pre ++ flat f (take c xs)) ≡ a
+  region-front : (pre : List B) (xs : List A) (c a : ℕ) → All (λ (x : A). length (f x) ≡ w) xs → c < length xs → a ≡ length pre + c * w → length (pre ++ flat f (take c xs)) ≡ a
   region-front pre xs c a v h p = length-append pre (flat f (take c xs)) ∙ ap (λ (k : ℕ). length pre + k) (length-front f w xs c v h) ∙ sym p
 
-  pub region-mid : (pre post : List B) (xs : List A) (c : ℕ) (d : A) {l : List B} (a k : ℕ) → Every (λ (x : A). length (f x) ≡ w) xs → c < length xs
+  pub region-mid : (pre post : List B) (xs : List A) (c : ℕ) (d : A) {l : List B} (a k : ℕ) → All (λ (x : A). length (f x) ≡ w) xs → c < length xs
       → l ≡ pre ++ (flat f xs ++ post) → a ≡ length pre + c * w → k ≡ w → midOf a k l ≡ f (getD xs c d)
   region-mid pre post xs c d a k v h e p q =
       mid-at (pre ++ flat f (take c xs)) (f (getD xs c d)) (flat f (drop (suc c) xs) ++ post) a k (region-cut pre post xs c d h e)
-      (region-front pre xs c a v h p) (every-at (λ (x : A). length (f x) ≡ w) xs c d v h ∙ sym q)
+      (region-front pre xs c a v h p) (all-at (λ (x : A). length (f x) ≡ w) xs c d v h ∙ sym q)
 
-  pub region-put : (pre post : List B) (xs : List A) (c : ℕ) (d y : A) {l ys : List B} (a k : ℕ) → Every (λ (x : A). length (f x) ≡ w) xs → c < length xs
+  pub region-put : (pre post : List B) (xs : List A) (c : ℕ) (d y : A) {l ys : List B} (a k : ℕ) → All (λ (x : A). length (f x) ≡ w) xs → c < length xs
       → l ≡ pre ++ (flat f xs ++ post) → a ≡ length pre + c * w → k ≡ w → ys ≡ f y → putMid a k l ys ≡ pre ++ (flat f (set xs c y) ++ post)
   region-put pre post xs c d y {ys = ys} a k v h e p q g =
       put-at (pre ++ flat f (take c xs)) (f (getD xs c d)) (flat f (drop (suc c) xs) ++ post) a k ys (region-cut pre post xs c d h e)
-      (region-front pre xs c a v h p) (every-at (λ (x : A). length (f x) ≡ w) xs c d v h ∙ sym q)
+      (region-front pre xs c a v h p) (all-at (λ (x : A). length (f x) ≡ w) xs c d v h ∙ sym q)
       ∙ rw (g, flat-set f w xs c y h) (simp append-assoc)
 
 -- ---- a family of rows, of w places each, with numbers below n
@@ -46,14 +49,13 @@ abbrev pub Room : ℕ → Row ℕ → Type 0
 Room w r = length (places r) ≡ w
 
 abbrev pub Below : ℕ → Row ℕ → Type 0
-Below n r = Every (λ (x : ℕ). x < n) (r .live)
+Below n r = All (λ (x : ℕ). x < n) (r .live)
 
-wides : (w : ℕ) (rs : List (Row ℕ)) → Every (Room w) rs → Every (λ (r : Row ℕ). length (rowNums r) ≡ suc w) rs
-wides w [] v = tt
-wides w (r ∷ rs) v = (ap suc (v .0), wides w rs (v .1))
+wides : (w : ℕ) (rs : List (Row ℕ)) → All (Room w) rs → All (λ (r : Row ℕ). length (rowNums r) ≡ suc w) rs
+wides w rs v = all-to (Room w) (λ (r : Row ℕ). length (rowNums r) ≡ suc w) rs (λ r e. ap suc e) v
 
 module _ {m w n : ℕ} {rs : List (Row ℕ)} (R : Rows m w n rs) where
-  rows-wide : Every (λ (r : Row ℕ). length (rowNums r) ≡ suc w) rs
+  rows-wide : All (λ (r : Row ℕ). length (rowNums r) ≡ suc w) rs
   rows-wide = wides w rs (R .wide)
 
   pub rows-long : length (flat rowNums rs) ≡ m * suc w
@@ -63,16 +65,16 @@ module _ {m w n : ℕ} {rs : List (Row ℕ)} (R : Rows m w n rs) where
   rows-in i h = let e = R .many in omega arith
 
   pub row-room : (i : ℕ) → i < m → Room w (getD rs i none)
-  row-room i h = every-at (Room w) rs i none (R .wide) (rows-in i h)
+  row-room i h = all-at (Room w) rs i none (R .wide) (rows-in i h)
 
   pub row-below : (i : ℕ) → i < m → Below n (getD rs i none)
-  row-below i h = every-at (Below n) rs i none (R .below) (rows-in i h)
+  row-below i h = all-at (Below n) rs i none (R .below) (rows-in i h)
 
   pub rows-set : (i : ℕ) (r : Row ℕ) → Room w r → Below n r → Rows m w n (set rs i r)
   rows-set i r v b = record {
     many = length-set rs i r ∙ R .many;
-    wide = every-set (Room w) rs i r (R .wide) v;
-    below = every-set (Below n) rs i r (R .below) b;
+    wide = all-set (Room w) rs i r (R .wide) v;
+    below = all-set (Below n) rs i r (R .below) b;
   }
 
   -- row i, in a table that holds the family at `from`
@@ -95,16 +97,12 @@ module _ {m w n : ℕ} {rs : List (Row ℕ)} (R : Rows m w n rs) where
       (length-append before (length (r .live) ∷ []) ∙ ap (λ (t : ℕ). t + 1) (region-front rowNums (suc w) pre rs i a rows-wide (rows-in i h) p)) (sym q)
 
 -- ---- rows with one more, and with one less
-every-end : (P : ℕ → Type 0) (l : List ℕ) (x : ℕ) → Every P l → P x → Every P (l ++ x ∷ [])
-every-end P [] x v p = (p, tt)
-every-end P (y ∷ l) x v p = (v .0, every-end P l x (v .1) p)
-
-every-but : (P : ℕ → Type 0) (x : ℕ) (l : List ℕ) → Every P l → Every P (but x l)
+all-but : (P : ℕ → Type 0) (x : ℕ) (l : List ℕ) → All P l → All P (but x l)
 unfolding but
-every-but P x [] v = tt
-every-but P x (y ∷ l) v = go (eqb x y) (every-but P x l (v .1))
+all-but P x [] v = tt
+all-but P x (y ∷ l) v = go (eqb x y) (all-but P x l (v .1))
   where
-    go : (b : Bool) → Every P (but x l) → Every P (pick b l (y ∷ but x l))
+    go : (b : Bool) → All P (but x l) → All P (pick b l (y ∷ but x l))
     go true w = v .1
     go false w = (v .0, w)
 
@@ -118,13 +116,13 @@ module _ {w : ℕ} (x : ℕ) (r : Row ℕ) (v : Room w r) where
 
   pub pulled-room : has x (r .live) ≡ true → Room w (pulled x r)
   pulled-room h =
-      length-append (but x (r .live)) (0 ∷ r .spare) ∙ let a = but-length x (r .live) h in let b = length-append (r .live) (r .spare) in omega (arith, v)
+      length-append (but x (r .live)) (0 ∷ r .spare) ∙ let a = length-but x (r .live) h in let b = length-append (r .live) (r .spare) in omega (arith, v)
 
 pub pushed-below : (n x : ℕ) (r : Row ℕ) → Below n r → x < n → Below n (pushed x r)
-pushed-below n x r v h = every-end (λ (y : ℕ). y < n) (r .live) x v h
+pushed-below n x r v h = all-mid (λ (y : ℕ). y < n) x (r .live) [] h (subst (All (λ (y : ℕ). y < n)) (sym (append-nil (r .live))) v)
 
 pub pulled-below : (n x : ℕ) (r : Row ℕ) → Below n r → Below n (pulled x r)
-pulled-below n x r v = every-but (λ (y : ℕ). y < n) x (r .live) v
+pulled-below n x r v = all-but (λ (y : ℕ). y < n) x (r .live) v
 
 -- ---- the two families in one table: where grain g's row and cell c's row begin
 abbrev pub homeFrom : ℕ → ℕ
@@ -214,8 +212,8 @@ module _ {z : Sizes} {l : List ℕ} {hs ms : List (Row ℕ)} (S : Listed z l hs 
       (let n = member-count c h in omega arith)
 
   -- the numbers in use name cells and grains
-  pub home-below : (g : ℕ) → g < z .grains → Every (λ (c : ℕ). c < z .cells) (liveAt hs g)
+  pub home-below : (g : ℕ) → g < z .grains → All (λ (c : ℕ). c < z .cells) (liveAt hs g)
   home-below g h = row-below (S .homes) g h
 
-  pub member-below : (c : ℕ) → c < z .cells → Every (λ (g : ℕ). g < z .grains) (liveAt ms c)
+  pub member-below : (c : ℕ) → c < z .cells → All (λ (g : ℕ). g < z .grains) (liveAt ms c)
   member-below c h = row-below (S .members) c h

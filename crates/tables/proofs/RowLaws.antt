@@ -1,19 +1,19 @@
--- Rows of numbers: what one step of each recursion shows, said of lists alone. Assumes nothing.
-use mathlib.Core.Path.{_≡_, refl, sym, ap, _∙_, subst}
+-- Rows of numbers: what one step of each loop and recursion shows, said of lists alone. Assumes nothing.
+use mathlib.Core.Path.{_≡_, refl, sym, ap, _∙_}
 use Prim.Native.Nat.{ℕ, zero, suc, _+_, _-_, _≤_, _<_}
 use native.Mathlib.Nat.{suc-ne-zero}
 use native.Mathlib.Numerals.{add-one}
 use native.Mathlib.Omega.{arith}
 use mathlib.Core.List.{List, [], _∷_, _++_, append-assoc, append-nil}
-use mathlib.Core.Bool.{Bool, true, false, _||_}
-use lib.ListN.{length, getD, set, take, drop, length-append}
-use lib.Seq.{take-at}
-use lib.Dec.{eqb}
+use mathlib.Core.Bool.{true, false}
+use lib.ListN.{length, getD, set, take, length-append}
+use lib.Seq.{take-at, set-append-seam}
 use borrow.Author.Tests.{eq-eqb, ne-eqb}
 use borrow.Rule.Slice.PartMut.{midOf, putMid}
-use Rattle.chunks.proofs.Laws.{mid-tail, put-tail}
-use Rattle.halting.specs.Out.{pick}
+use Rattle.chunks.proofs.Laws.{mid-tail, put-tail, take-none, take-step, some}
+use Rattle.halting.proofs.Bools.{differ}
 use Rattle.model.specs.State.{Row, row, has, but, pushed, pulled}
+use Rattle.model.proofs.Lists.{length-snoc, length-but}
 use Rattle.tables.specs.Layout.{places, rowNums}
 
 -- ---- steps of `has` and `but`
@@ -37,42 +37,19 @@ pub but-later : (x y : ℕ) (l : List ℕ) → (y ≡ x → ⊥) → but x (y �
 unfolding but
 but-later x y l e = rw (ne-eqb x y (λ q. e (sym q)))
 
-no-true : {A : Type 0} {b : Bool} → b ≡ false → b ≡ true → A
-no-true e f = absurd (false-not-true (sym e ∙ f))
-  where
-    false-not-true : false ≡ true → ⊥
-    false-not-true p = subst (λ (b : Bool). pick b ⊥ (Unit {0})) p tt
-
--- a list that has x loses one number
-pub but-length : (x : ℕ) (l : List ℕ) → has x l ≡ true → suc (length (but x l)) ≡ length l
-unfolding has but
-but-length x [] h = no-true refl h
-but-length x (y ∷ l) h = go (eqb x y) h (but-length x l)
-  where
-    go : (b : Bool) → (b || has x l) ≡ true → (has x l ≡ true → suc (length (but x l)) ≡ length l) → suc (length (pick b l (y ∷ but x l))) ≡ suc (length l)
-    go true h r = refl
-    go false h r = ap suc (r h)
-
 -- ---- has
 abbrev first : List ℕ → ℕ
 first l = getD l 0 0
 
-abbrev pub Says : ℕ → ℕ → List ℕ → Bool → Type 0
-Says x n l r = (live spare : List ℕ) → n ≡ length live → l ≡ live ++ spare → r ≡ has x live
+module _ (x n : ℕ) (l : List ℕ) where
+  pub has-none : n ≡ 0 → false ≡ has x (take n l)
+  has-none z = sym (ap (has x) (take-none n l z) ∙ has-nil x)
 
-module _ (x : ℕ) {n : ℕ} {l : List ℕ} where
-  pub has-none : n ≡ 0 → Says x n l false
-  has-none z [] spare e h = sym (has-nil x)
-  has-none z (y ∷ live) spare e h = absurd (suc-ne-zero (length live) (sym e ∙ z))
+  pub has-here : (n ≡ 0 → ⊥) → n ≤ length l → first l ≡ x → true ≡ has x (take n l)
+  has-here z h t = sym (ap (has x) (take-step n l 0 z h) ∙ has-first x (first l) _ t)
 
-  pub has-here : (n ≡ 0 → ⊥) → first l ≡ x → Says x n l true
-  has-here z t [] spare e h = absurd (z e)
-  has-here z t (y ∷ live) spare e h = sym (has-first x y live (sym (ap first h) ∙ t))
-
-  pub has-more : {r : Bool} → (n ≡ 0 → ⊥) → (first l ≡ x → ⊥) → Says x (n - 1) (midOf 1 (length l - 1) l) r → Says x n l r
-  has-more z t again [] spare e h = absurd (z e)
-  has-more z t again (y ∷ live) spare e h =
-      again live spare (omega arith) (mid-tail (y ∷ []) (live ++ spare) 1 h refl) ∙ sym (has-later x y live (λ q. t (ap first h ∙ q)))
+  pub has-more : (n ≡ 0 → ⊥) → n ≤ length l → (first l ≡ x → ⊥) → has x (take (n - 1) (midOf 1 (length l - 1) l)) ≡ has x (take n l)
+  has-more z h t = sym (ap (has x) (take-step n l 0 z h) ∙ has-later x (first l) _ t)
 
 -- ---- pull
 abbrev pub Pulled : ℕ → List ℕ → List ℕ → Type 0
@@ -95,17 +72,12 @@ Removed x n l l′ = (live spare : List ℕ) → n ≡ length live → l ≡ liv
 
 -- where x is among the first n there is a first one
 pub has-some : (x n : ℕ) (l : List ℕ) → has x (take n l) ≡ true → (0 < n) × (0 < length l)
-has-some x zero l h = no-true (has-nil x) h
-has-some x (suc n) [] h = no-true (has-nil x) h
+has-some x zero l h = differ h (has-nil x)
+has-some x (suc n) [] h = differ h (has-nil x)
 has-some x (suc n) (y ∷ l) h = (omega arith, omega arith)
 
-pub has-rest : (x n : ℕ) (l : List ℕ) → has x (take n l) ≡ true → (first l ≡ x → ⊥) → has x (take (n - 1) (midOf 1 (length l - 1) l)) ≡ true
-has-rest x zero l h t = no-true (has-nil x) h
-has-rest x (suc n) [] h t = no-true (has-nil x) h
-has-rest x (suc n) (y ∷ l) h t =
-    let e : suc n - 1 ≡ n = omega arith in
-    ap (λ (m : ℕ). has x (take m (midOf 1 (length (y ∷ l) - 1) (y ∷ l)))) e
-    ∙ ap (λ (k : List ℕ). has x (take n k)) (mid-tail (y ∷ []) l {l = y ∷ l} 1 refl refl) ∙ sym (has-later x y (take n l) t) ∙ h
+pub has-rest : (x n : ℕ) (l : List ℕ) → n ≤ length l → has x (take n l) ≡ true → (first l ≡ x → ⊥) → has x (take (n - 1) (midOf 1 (length l - 1) l)) ≡ true
+has-rest x n l k h t = has-more x n l (some (has-some x n l h .0)) k t ∙ h
 
 module _ (x : ℕ) {n : ℕ} {l : List ℕ} where
   pub remove-here : {l′ : List ℕ} → has x (take n l) ≡ true → first l ≡ x → Pulled (n - 1) l l′ → Removed x n l l′
@@ -120,7 +92,7 @@ module _ (x : ℕ) {n : ℕ} {l : List ℕ} where
       ∙ ap (λ (k : List ℕ). k ++ 0 ∷ spare) (sym (but-later x y live (λ q. t (ap first h ∙ q))))
 
 -- ---- rows
-pub live-most : (r : Row ℕ) → length (r .live) ≤ length (places r)
+pub live-most : {A : Type 0} (r : Row A) → length (r .live) ≤ length (places r)
 live-most r = let k = length-append (r .live) (r .spare) in omega arith
 
 -- the count, and the numbers after it
@@ -136,10 +108,6 @@ row-fits r h = let a = row-first r h in let b = row-length r h in let c = live-m
 pub row-tail : {l : List ℕ} (r : Row ℕ) → l ≡ rowNums r → midOf 1 (length l - 1) l ≡ r .live ++ r .spare
 row-tail r h = mid-tail (length (r .live) ∷ []) (places r) 1 h refl
 
-set-at : (a : List ℕ) (y x : ℕ) (z : List ℕ) → set (a ++ y ∷ z) (length a) x ≡ a ++ x ∷ z
-set-at [] y x z = refl
-set-at (b ∷ a) y x z = ap (λ (l : List ℕ). b ∷ l) (set-at a y x z)
-
 pub row-more : {l : List ℕ} (r : Row ℕ) → l ≡ rowNums r → length (r .live) < length (places r) → getD l 0 0 + 1 < length l
 row-more r h m = let a = row-first r h in let b = row-length r h in omega arith
 
@@ -152,13 +120,14 @@ row-added x {l} b r h = go (r .live) (r .spare) h
     go live (s ∷ spare) e =
         let f : first l ≡ length live = ap first e in
         let k : first l + 1 ≡ suc (length live) = add-one (first l) ∙ ap suc f in
-        let n : length (live ++ (x ∷ [])) ≡ suc (length live) = length-append live (x ∷ []) ∙ add-one (length live) in
-        rw (k, e, n, append-assoc live (x ∷ []) spare) (ap (λ (m : List ℕ). suc (length live) ∷ m) (set-at live s x spare))
+        rw (k, e, length-snoc live x, append-assoc live (x ∷ []) spare) (ap (λ (m : List ℕ). suc (length live) ∷ m) (set-append-seam live s spare x))
 
--- x is among the numbers that the count counts
+-- the numbers that the count counts are those in use
+pub row-live : {l : List ℕ} (r : Row ℕ) → l ≡ rowNums r → take (getD l 0 0) (midOf 1 (length l - 1) l) ≡ r .live
+row-live {l} r h = ap (λ (k : List ℕ). take (getD l 0 0) k) (row-tail r h) ∙ take-at (r .live) (r .spare) (getD l 0 0) (sym (row-first r h))
+
 pub row-has : (x : ℕ) {l : List ℕ} (r : Row ℕ) → l ≡ rowNums r → has x (r .live) ≡ true → has x (take (getD l 0 0) (midOf 1 (length l - 1) l)) ≡ true
-row-has x {l} r h b =
-    ap (λ (k : List ℕ). has x (take (getD l 0 0) k)) (row-tail r h) ∙ ap (λ (k : List ℕ). has x k) (take-at (r .live) (r .spare) (getD l 0 0) (sym (row-first r h))) ∙ b
+row-has x r h b = ap (has x) (row-live r h) ∙ b
 
 pub row-some : (x : ℕ) {l : List ℕ} (r : Row ℕ) → l ≡ rowNums r → has x (r .live) ≡ true → 0 < getD l 0 0
 row-some x {l} r h b = has-some x (getD l 0 0) (midOf 1 (length l - 1) l) (row-has x r h b) .0
@@ -166,8 +135,7 @@ row-some x {l} r h b = has-some x (getD l 0 0) (midOf 1 (length l - 1) l) (row-h
 pub row-dropped : (x : ℕ) {l ys : List ℕ} → has x (take (getD l 0 0) (midOf 1 (length l - 1) l)) ≡ true → Removed x (getD l 0 0) (midOf 1 (length l - 1) l) ys
     → (r : Row ℕ) → l ≡ rowNums r → set (putMid 1 (length l - 1) l ys) 0 (getD l 0 0 - 1) ≡ rowNums (pulled x r)
 row-dropped x {l} {ys} b removed r h =
-    let u : has x (r .live) ≡ true =
-    sym (ap (λ (k : List ℕ). has x (take (getD l 0 0) k)) (row-tail r h) ∙ ap (λ (k : List ℕ). has x k) (take-at (r .live) (r .spare) (getD l 0 0) (sym (row-first r h)))) ∙ b in
-    let n : getD l 0 0 - 1 ≡ length (but x (r .live)) = let a = row-first r h in let c = but-length x (r .live) u in omega arith in
+    let u : has x (r .live) ≡ true = sym (ap (has x) (row-live r h)) ∙ b in
+    let n : getD l 0 0 - 1 ≡ length (but x (r .live)) = let a = row-first r h in let c = length-but x (r .live) u in omega arith in
     ap (λ (m : List ℕ). set m 0 (getD l 0 0 - 1)) (put-tail (length (r .live) ∷ []) (places r) 1 ys h refl)
     ∙ ap (λ (m : List ℕ). (getD l 0 0 - 1) ∷ m) (removed (r .live) (r .spare) (row-first r h) (row-tail r h)) ∙ ap (λ (k : ℕ). k ∷ (but x (r .live) ++ 0 ∷ r .spare)) n

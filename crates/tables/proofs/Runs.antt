@@ -4,28 +4,30 @@ use Prim.Native.Nat.{ℕ, zero, suc, _+_, _-_, _*_, _≤_, _<_}
 use native.Mathlib.Nat.{suc-ne-zero}
 use native.Mathlib.Omega.{arith}
 use mathlib.Core.List.{List, [], _∷_, _++_, append-assoc, append-nil}
-use lib.ListN.{length, replicate, getD, set, length-append}
+use lib.ListN.{length, replicate, getD, set, length-append, length-replicate, replicate-append-replicate}
+use lib.Seq.{set-at, getD-at}
 use lib.Ieee.{Float, le, lt}
 use lib.Ieee.Scale.{finite}
-use mathlib.Core.Bool.{Bool, true, false, _&&_}
+use mathlib.Core.Bool.{Bool, true, false, _&&_, and-assoc}
 use lib.Dec.{eqb, ltb, lit<}
 use borrow.Author.Tests.{eq-eqb, ne-eqb, le-ltb}
 use borrow.Rule.Slice.PartMut.{midOf, putMid}
+use Rattle.halting.specs.Every.{All}
+use Rattle.halting.proofs.All.{all-to}
 use Rattle.chunks.specs.Flat.{flat}
 use Rattle.chunks.proofs.Laws.{mid-tail, put-tail, row-long, row-get, row-put}
 use Rattle.order.specs.Numbers.{last}
 use Rattle.model.specs.declared.Place.{Place}
 use Rattle.halting.specs.Out.{pick}
 use Rattle.model.specs.Events.{insertBy, zeroP, keepBy, goneBy, names, eventOf, fineV, finePlace}
-use Rattle.tables.specs.Layout.{placeNums, placeReals}
-use Rattle.tables.specs.Holds.{Run}
+use Rattle.model.specs.State.{Row}
+use Rattle.model.specs.Sound.{Held, Queue}
+use Rattle.model.proofs.Queue.{fine-low, length-keep}
+use Rattle.tables.specs.Layout.{places, placeNums, placeReals, queueNums, queueReals}
+use Rattle.tables.specs.Holds.{Run, Good}
 use Rattle.tables.specs.Places.{Passed, Keeping}
 
 -- ---- rule 5 of a place, in the order in which it is tested
-
-and-assoc : (a b c : Bool) → (a && b) && c ≡ a && (b && c)
-and-assoc true b c = refl
-and-assoc false b c = refl
 
 pub fine-is : (s : Place)
     → finePlace s ≡ finite (s .time) && (lt (s .time) last && (fineV (s .a) && (fineV (s .b) && (fineV (s .c) && (fineV (s .d) && finite (s .val))))))
@@ -48,8 +50,6 @@ module _ {ns : List ℕ} {rs : List Float} {ps : List Place} (h : Run ns rs ps) 
     reals-is = row-put placeReals 10 (λ p. refl) (lit< tt) ps i zeroP s (h .reals-is) n (k .reals-is);
   }
 
--- ---- the tables behind some places
-
 flat-append : {A B : Type 0} (enc : A → List B) (xs ys : List A) → flat enc (xs ++ ys) ≡ flat enc xs ++ flat enc ys
 flat-append enc [] ys = refl
 flat-append {B = B} enc (x ∷ xs) ys = ap (λ (l : List B). enc x ++ l) (flat-append enc xs ys) ∙ sym (append-assoc (enc x) (flat enc xs) (flat enc ys))
@@ -60,6 +60,28 @@ nums-long ps = row-long placeNums 4 (λ x. refl) (omega arith) ps refl
 pub reals-long : (ps : List Place) → length (flat placeReals ps) ≡ length ps * 10
 reals-long ps = row-long placeReals 10 (λ x. refl) (omega arith) ps refl
 
+-- ---- rows of events
+pub row-nums-long : (room : ℕ) (r : Row Place) → length (places r) ≡ room → length (queueNums r) ≡ room * 4 + 1
+row-nums-long room r f = let e = nums-long (places r) in omega (arith, e, f)
+
+pub row-reals-long : (room : ℕ) (r : Row Place) → length (places r) ≡ room → length (queueReals r) ≡ room * 10
+row-reals-long room r f = let e = reals-long (places r) in omega (arith, e, f)
+
+module _ (room : ℕ) (qs : List (Row Place)) (g : All (Good room) qs) where
+  pub rows-nums-wide : All (λ (r : Row Place). length (queueNums r) ≡ room * 4 + 1) qs
+  rows-nums-wide = all-to (Good room) (λ (r : Row Place). length (queueNums r) ≡ room * 4 + 1) qs (λ r k. row-nums-long room r (k .full)) g
+
+  pub rows-reals-wide : All (λ (r : Row Place). length (queueReals r) ≡ room * 10) qs
+  rows-reals-wide = all-to (Good room) (λ (r : Row Place). length (queueReals r) ≡ room * 10) qs (λ r k. row-reals-long room r (k .full)) g
+
+-- a sound queue is a good row
+pub good-of : (n c : ℕ) (m : List ℕ) {t : Float} {room : ℕ} (r : Row Place) → Queue t room n c m r → Good room r
+good-of n c m r q = record {
+  full = length-append (r .live) (r .spare) ∙ q .full;
+  tops = all-to (Held n c m) (λ (p : Place). lt last (p .time) ≡ false) (r .live) (λ p h. fine-low p (h .fine)) (q .held);
+}
+
+-- ---- the tables behind some places
 module _ (k : ℕ) (front ps : List Place) {ns : List ℕ} {rs : List Float} (e : length front ≡ k) (h : Run ns rs (front ++ ps)) where
   nums-front : length (flat placeNums front) ≡ k * 4
   nums-front = nums-long front ∙ ap (λ (n : ℕ). n * 4) e
@@ -84,26 +106,9 @@ module _ (k : ℕ) (front ps : List Place) {ns : List ℕ} {rs : List Float} (e 
 
 -- ---- lists cut at a place
 
-get-mid : (front : List Place) (y : Place) (back : List Place) {i : ℕ} → length front ≡ i → getD (front ++ y ∷ back) i zeroP ≡ y
-get-mid front y back e = subst (λ (k : ℕ). getD (front ++ y ∷ back) k zeroP ≡ y) e (go front)
-  where
-    go : (l : List Place) → getD (l ++ y ∷ back) (length l) zeroP ≡ y
-    go [] = refl
-    go (x ∷ l) = go l
-
-set-mid : (front : List Place) (w y : Place) (back : List Place) {i : ℕ} → length front ≡ i → set (front ++ w ∷ back) i y ≡ front ++ y ∷ back
-set-mid front w y back e = subst (λ (k : ℕ). set (front ++ w ∷ back) k y ≡ front ++ y ∷ back) e (go front)
-  where
-    go : (l : List Place) → set (l ++ w ∷ back) (length l) y ≡ l ++ y ∷ back
-    go [] = refl
-    go (x ∷ l) = ap (λ (t : List Place). x ∷ t) (go l)
-
 -- an element goes from behind to the front
 over-to : (front : List Place) (y : Place) (back : List Place) → front ++ y ∷ back ≡ (front ++ y ∷ []) ++ back
 over-to front y back = sym (append-assoc front (y ∷ []) back)
-
-one-more : (front : List Place) (y : Place) → length (front ++ y ∷ []) ≡ length front + 1
-one-more front y = length-append front (y ∷ [])
 
 -- a list that is not empty ends in an element
 record Ended (l : List Place) : Type 0 where
@@ -209,12 +214,12 @@ moved-up {live} {rest} {i} {ns} {ns′} {rs} {rs′} {last} m p got put =
     let e = ended (m .front) (let k = m .many in omega arith) in
     let t = m .back ++ rest in
     let k = ap length (e .is) in
-    let l = one-more (e .front) (e .end) in
+    let l = length-append (e .front) (e .end ∷ []) in
     let q = m .many in
     let short : length (e .front) ≡ i - 1 = omega arith in
     let h : Run ns rs ((e .front ++ e .end ∷ []) ++ m .over ∷ t) = subst (λ (f : List Place). Run ns rs (f ++ m .over ∷ t)) (e .is) (m .holds) in
     let h₁ : Run ns rs (e .front ++ e .end ∷ m .over ∷ t) = subst (Run ns rs) (append-assoc (e .front) (e .end ∷ []) (m .over ∷ t)) h in
-    let same : last ≡ e .end = got (e .front ++ e .end ∷ m .over ∷ t) h₁ ∙ get-mid (e .front) (e .end) (m .over ∷ t) short in
+    let same : last ≡ e .end = got (e .front ++ e .end ∷ m .over ∷ t) h₁ ∙ getD-at (e .front) (e .end) (m .over ∷ t) zeroP _ short in
     let long : length (e .front ++ e .end ∷ []) ≡ i = omega arith in
     record {
       front = e .front;
@@ -224,7 +229,7 @@ moved-up {live} {rest} {i} {ns} {ns′} {rs} {rs′} {last} m p got put =
       many = short;
       holds =
           subst (Run ns′ rs′)
-          (set-mid (e .front ++ e .end ∷ []) (m .over) last t long ∙ ap (λ (y : Place). (e .front ++ e .end ∷ []) ++ y ∷ t) same
+          (set-at (e .front ++ e .end ∷ []) (m .over) t last _ long ∙ ap (λ (y : Place). (e .front ++ e .end ∷ []) ++ y ∷ t) same
           ∙ append-assoc (e .front) (e .end ∷ []) (e .end ∷ t))
           (put ((e .front ++ e .end ∷ []) ++ m .over ∷ t) h);
     }
@@ -242,10 +247,10 @@ moved-down {live} {rest} {i} {ns} {ns′} {rs} {rs′} {next} m p got put =
     let t = b .back ++ rest in
     let h : Run ns rs (m .front ++ m .over ∷ (b .head ∷ t)) = subst (λ (f : List Place). Run ns rs (m .front ++ m .over ∷ (f ++ rest))) (b .is) (m .holds) in
     let h₁ : Run ns rs ((m .front ++ m .over ∷ []) ++ b .head ∷ t) = subst (Run ns rs) (over-to (m .front) (m .over) (b .head ∷ t)) h in
-    let o = one-more (m .front) (m .over) in
+    let o = length-append (m .front) (m .over ∷ []) in
     let long : length (m .front ++ m .over ∷ []) ≡ i + 1 = omega arith in
-    let same : next ≡ b .head = got ((m .front ++ m .over ∷ []) ++ b .head ∷ t) h₁ ∙ get-mid (m .front ++ m .over ∷ []) (b .head) t long in
-    let o′ = one-more (m .front) (b .head) in
+    let same : next ≡ b .head = got ((m .front ++ m .over ∷ []) ++ b .head ∷ t) h₁ ∙ getD-at (m .front ++ m .over ∷ []) (b .head) t zeroP _ long in
+    let o′ = length-append (m .front) (b .head ∷ []) in
     record {
       front = m .front ++ b .head ∷ [];
       back = b .back;
@@ -254,7 +259,7 @@ moved-down {live} {rest} {i} {ns} {ns′} {rs} {rs′} {next} m p got put =
       many = omega arith;
       holds =
           subst (Run ns′ rs′)
-          (set-mid (m .front) (m .over) next (b .head ∷ t) (m .many) ∙ ap (λ (y : Place). m .front ++ y ∷ b .head ∷ t) same
+          (set-at (m .front) (m .over) (b .head ∷ t) next _ (m .many) ∙ ap (λ (y : Place). m .front ++ y ∷ b .head ∷ t) same
           ∙ over-to (m .front) (b .head) (b .head ∷ t))
           (put (m .front ++ m .over ∷ (b .head ∷ t)) h);
     }
@@ -280,7 +285,7 @@ pull-ends {live} {rest} {n} {ns} {ns′} {rs} {rs′} {z} m e o put =
     let b = empty (m .back) (omega arith) in
     let same : live ≡ m .front = m .is ∙ ap (λ (f : List Place). m .front ++ f) b ∙ append-nil (m .front) in
     subst (Run ns′ rs′)
-    (set-mid (m .front) (m .over) z (m .back ++ rest) (m .many) ∙ ap (λ (y : Place). m .front ++ y ∷ (m .back ++ rest)) o
+    (set-at (m .front) (m .over) (m .back ++ rest) z _ (m .many) ∙ ap (λ (y : Place). m .front ++ y ∷ (m .back ++ rest)) o
     ∙ ap (λ (f : List Place). m .front ++ zeroP ∷ (f ++ rest)) b ∙ ap (λ (f : List Place). f ++ zeroP ∷ rest) (sym same))
     (put (m .front ++ m .over ∷ (m .back ++ rest)) (m .holds))
 
@@ -307,11 +312,11 @@ module _ {s : Place} {live : List Place} {i n : ℕ} {ns : List ℕ} {rs : List 
       let cut : live ++ rest ≡ m .front ++ later .head ∷ (later .back ++ rest) =
       ap (λ (f : List Place). f ++ rest) (m .is ∙ ap (λ (f : List Place). m .front ++ f) (later .is)) ∙ append-assoc (m .front) (later .head ∷ later .back) rest
       in
-      got (live ++ rest) h ∙ ap (λ (l : List Place). getD l i zeroP) cut ∙ get-mid (m .front) (later .head) (later .back ++ rest) (m .many)
+      got (live ++ rest) h ∙ ap (λ (l : List Place). getD l i zeroP) cut ∙ getD-at (m .front) (later .head) (later .back ++ rest) zeroP _ (m .many)
 
   pub passing-more : le (first .time) (s .time) ≡ true → Passing s live (i + 1)
   passing-more t =
-      let o = one-more (m .front) (later .head) in
+      let o = length-append (m .front) (later .head ∷ []) in
       let q = m .many in
       record {
         front = m .front ++ later .head ∷ [];
@@ -381,14 +386,6 @@ clearing-none kept given rest {from} {ns} {rs} e h = record {
       subst (λ (k : ℕ). Run ns rs ((kept ++ replicate k zeroP) ++ (given ++ rest))) (sym z) (subst (λ (l : List Place). Run ns rs (l ++ (given ++ rest))) (sym (append-nil kept)) h);
 }
 
-zeros-more : (k : ℕ) → replicate k zeroP ++ zeroP ∷ [] ≡ replicate (suc k) zeroP
-zeros-more zero = refl
-zeros-more (suc k) = ap (λ (l : List Place). zeroP ∷ l) (zeros-more k)
-
-zeros-long : (k : ℕ) → length (replicate k zeroP) ≡ k
-zeros-long zero = refl
-zeros-long (suc k) = ap suc (zeros-long k)
-
 pub clearing-more : {kept given rest : List Place} {from i n : ℕ} {ns ns′ : List ℕ} {rs rs′ : List Float} {z : Place} → Clearing kept given rest from i ns rs
     → from ≡ length kept → n ≡ length kept + length given → from ≤ i → i < n → z ≡ zeroP
     → ((ps : List Place) → Run ns rs ps → Run ns′ rs′ (set ps i z))
@@ -400,16 +397,16 @@ clearing-more {kept} {given} {rest} {from} {i} {n} {ns} {ns′} {rs} {rs′} {z}
     let t = b .back ++ rest in
     let bk = ap length (b .is) in
     let fl = length-append kept zs in
-    let zl = zeros-long (i - from) in
+    let zl = length-replicate (i - from) zeroP in
     let front : length (kept ++ zs) ≡ i = omega arith in
-    let more : suc (i - from) ≡ i + 1 - from = omega arith in
+    let more : i - from + 1 ≡ i + 1 - from = omega arith in
     record {
       back = b .back;
       many = omega arith;
       holds =
           subst (Run ns′ rs′)
-          (set-mid (kept ++ zs) (b .head) z t front ∙ ap (λ (y : Place). (kept ++ zs) ++ y ∷ t) o ∙ over-to (kept ++ zs) zeroP t
-          ∙ ap (λ (l : List Place). l ++ t) (append-assoc kept zs (zeroP ∷ []) ∙ ap (λ (l : List Place). kept ++ l) (zeros-more (i - from) ∙ ap (λ (j : ℕ). replicate j zeroP) more)))
+          (set-at (kept ++ zs) (b .head) t z _ front ∙ ap (λ (y : Place). (kept ++ zs) ++ y ∷ t) o ∙ over-to (kept ++ zs) zeroP t
+          ∙ ap (λ (l : List Place). l ++ t) (append-assoc kept zs (zeroP ∷ []) ∙ ap (λ (l : List Place). kept ++ l) (replicate-append-replicate (i - from) 1 zeroP ∙ ap (λ (j : ℕ). replicate j zeroP) more)))
           (put ((kept ++ zs) ++ b .head ∷ t) (subst (λ (l : List Place). Run ns rs ((kept ++ zs) ++ (l ++ rest))) (b .is) (m .holds)));
     }
 
@@ -431,15 +428,6 @@ keep-append g (x ∷ a) b = go (names (eventOf (x .kind) x) g) (keep-append g a 
     go : (t : Bool) → keepBy g (a ++ b) ≡ keepBy g a ++ keepBy g b → pick t (keepBy g (a ++ b)) (x ∷ keepBy g (a ++ b)) ≡ pick t (keepBy g a) (x ∷ keepBy g a) ++ keepBy g b
     go true e = e
     go false e = ap (λ (l : List Place). x ∷ l) e
-
-keep-gone-long : (g : ℕ) (l : List Place) → length (keepBy g l) + goneBy g l ≡ length l
-unfolding keepBy goneBy
-keep-gone-long g [] = refl
-keep-gone-long g (x ∷ l) = go (names (eventOf (x .kind) x) g) (keep-gone-long g l)
-  where
-    go : (t : Bool) → length (keepBy g l) + goneBy g l ≡ length l → length (pick t (keepBy g l) (x ∷ keepBy g l)) + pick t (suc (goneBy g l)) (goneBy g l) ≡ suc (length l)
-    go true e = omega arith
-    go false e = omega arith
 
 pub keeping-none : (g : ℕ) (live rest : List Place) {ns : List ℕ} {rs : List Float} → Run ns rs (live ++ rest) → Keeping g live rest 0 0 ns rs
 unfolding keepBy
@@ -464,7 +452,7 @@ module _ {g : ℕ} {live rest : List Place} {i kept : ℕ} {ns : List ℕ} {rs :
       let at : length (keepBy g (m .front) ++ m .given) ≡ i = omega arith in
       got (keepBy g (m .front) ++ (m .given ++ ahead .head ∷ tail)) holding
       ∙ ap (λ (l : List Place). getD l i zeroP) (sym (append-assoc (keepBy g (m .front)) (m .given) (ahead .head ∷ tail)))
-      ∙ get-mid (keepBy g (m .front) ++ m .given) (ahead .head) tail at
+      ∙ getD-at (keepBy g (m .front) ++ m .given) (ahead .head) tail zeroP _ at
 
   abbrev front′ : List Place
   front′ = m .front ++ ahead .head ∷ []
@@ -473,7 +461,7 @@ module _ {g : ℕ} {live rest : List Place} {i kept : ℕ} {ns : List ℕ} {rs :
   is′ = m .is ∙ ap (λ (f : List Place). m .front ++ f) (ahead .is) ∙ over-to (m .front) (ahead .head) (ahead .back)
 
   many′ : length front′ ≡ i + 1
-  many′ = let o = one-more (m .front) (ahead .head) in let q = m .many in omega arith
+  many′ = let o = length-append (m .front) (ahead .head ∷ []) in let q = m .many in omega arith
 
   pub keeping-gone : {t : Bool} → t ≡ names (eventOf (next .kind) next) g → t ≡ true → Keeping g live rest (i + 1) kept ns rs
   keeping-gone u v =
@@ -481,7 +469,7 @@ module _ {g : ℕ} {live rest : List Place} {i kept : ℕ} {ns : List ℕ} {rs :
       let same : keepBy g front′ ≡ keepBy g (m .front) =
       keep-append g (m .front) (ahead .head ∷ []) ∙ ap (λ (l : List Place). keepBy g (m .front) ++ l) (keep-out g (ahead .head) [] named .0 ∙ keep-none g .0) ∙ append-nil (keepBy g (m .front))
       in
-      let o = one-more (m .given) (ahead .head) in
+      let o = length-append (m .given) (ahead .head ∷ []) in
       let d = m .given-many in
       record {
         front = front′;
@@ -503,11 +491,11 @@ module _ {g : ℕ} {live rest : List Place} {i kept : ℕ} {ns : List ℕ} {rs :
       let same : keepBy g front′ ≡ keepBy g (m .front) ++ ahead .head ∷ [] =
       keep-append g (m .front) (ahead .head ∷ []) ∙ ap (λ (l : List Place). keepBy g (m .front) ++ l) (keep-in g (ahead .head) [] named .0 ∙ ap (λ (l : List Place). ahead .head ∷ l) (keep-none g .0))
       in
-      let o = one-more (m .given) (ahead .head) in
+      let o = length-append (m .given) (ahead .head ∷ []) in
       let d = m .given-many in
       let f = started (m .given ++ ahead .head ∷ []) (omega arith) in
       let k = ap length (f .is) in
-      let c = one-more (keepBy g (m .front)) (ahead .head) in
+      let c = length-append (keepBy g (m .front)) (ahead .head ∷ []) in
       let cs = ap length same in
       let ki = m .kept-is in
       let h : Run ns rs (keepBy g (m .front) ++ f .head ∷ (f .back ++ tail)) =
@@ -523,7 +511,7 @@ module _ {g : ℕ} {live rest : List Place} {i kept : ℕ} {ns : List ℕ} {rs :
         given-many = omega arith;
         holds =
             subst (Run ns′ rs′)
-            (set-mid (keepBy g (m .front)) (f .head) next (f .back ++ tail) (sym (m .kept-is)) ∙ ap (λ (y : Place). keepBy g (m .front) ++ y ∷ (f .back ++ tail)) next-is
+            (set-at (keepBy g (m .front)) (f .head) (f .back ++ tail) next _ (sym (m .kept-is)) ∙ ap (λ (y : Place). keepBy g (m .front) ++ y ∷ (f .back ++ tail)) next-is
             ∙ over-to (keepBy g (m .front)) (ahead .head) (f .back ++ tail) ∙ ap (λ (l : List Place). l ++ (f .back ++ tail)) (sym same))
             (put (keepBy g (m .front) ++ f .head ∷ (f .back ++ tail)) h);
       }
@@ -545,6 +533,6 @@ cancel-ends {g} {live} {rest} {kept} {n} {ns} {ns′} {rs} {rs′} m e clear =
     (subst (λ (f : List Place). Run ns rs (keepBy g (m .front) ++ (m .given ++ (f ++ rest)))) b (m .holds))
     in
     let d = m .given-many in
-    let t = keep-gone-long g live in
+    let t = length-keep g live in
     let gone : n - kept ≡ goneBy g live = omega arith in
     (kept-is, subst (λ (j : ℕ). Run ns′ rs′ (keepBy g live ++ (replicate j zeroP ++ rest))) gone (clear (keepBy g live) (m .given) rest kept-is (omega arith) holds))

@@ -1,11 +1,12 @@
 -- What it means that the tables, behind their headers, hold a state. Assumes nothing: these are definitions.
-use Prim.Native.Nat.{ℕ, _+_, _*_, _≤_, _<_}
+use Prim.Native.Nat.{ℕ, _+_, _≤_, _<_}
 use mathlib.Core.Path.{_≡_}
-use mathlib.Core.Bool.{Bool, true, false}
-use mathlib.Core.List.{List, [], _∷_, _++_}
+use mathlib.Core.Bool.{false}
+use mathlib.Core.List.{List, _++_}
 use lib.ListN.{length}
 use lib.Ieee.{Float, lt}
-use Rattle.chunks.specs.Flat.{flat, Every}
+use Rattle.halting.specs.Every.{All}
+use Rattle.chunks.specs.Flat.{flat}
 use Rattle.halting.specs.Out.{Out}
 use Rattle.order.specs.Numbers.{last}
 use Rattle.scheduler.specs.declared.Scheduler.{Scheduler}
@@ -31,8 +32,8 @@ pub record Grained (z : Sizes) (t : List Float) (gs : List Particle) : Type 0 wh
 -- ---- rows of numbers: w places each, every number in use below n
 pub record Rows (m w n : ℕ) (rs : List (Row ℕ)) : Type 0 where
   pub many : length rs ≡ m
-  pub wide : Every (λ (r : Row ℕ). length (places r) ≡ w) rs
-  pub below : Every (λ (r : Row ℕ). Every (λ (x : ℕ). x < n) (r .live)) rs
+  pub wide : All (λ (r : Row ℕ). length (places r) ≡ w) rs
+  pub below : All (λ (r : Row ℕ). All (λ (x : ℕ). x < n) (r .live)) rs
 
 pub record Listed (z : Sizes) (t : List ℕ) (hs ms : List (Row ℕ)) : Type 0 where
   pub is : t ≡ flat rowNums hs ++ flat rowNums ms
@@ -52,13 +53,13 @@ pub record InRow (nums : List ℕ) (reals : List Float) (r : Row Place) : Type 0
 -- a row of `room` places, with no event later than f64::MAX
 pub record Good (room : ℕ) (r : Row Place) : Type 0 where
   pub full : length (places r) ≡ room
-  pub tops : Every (λ (p : Place). lt last (p .time) ≡ false) (r .live)
+  pub tops : All (λ (p : Place). lt last (p .time) ≡ false) (r .live)
 
 pub record Tabled (z : Sizes) (queue : List ℕ) (events : List Float) (qs : List (Row Place)) : Type 0 where
   pub queue-is : queue ≡ flat queueNums qs
   pub events-is : events ≡ flat queueReals qs
   pub many : length qs ≡ z .cells
-  pub good : Every (Good (z .room)) qs
+  pub good : All (Good (z .room)) qs
 
 -- ---- the heap and its lookups
 pub record Heaped (z : Sizes) (t : List ℕ) (h : Scheduler) : Type 0 where

@@ -11,15 +11,18 @@ ghost use Rattle.tables.specs.Rows.{InNums};
 // Is x among the first n?
 pub fn has(nums: &[u64], n: usize, x: u64) -> bool
     requires { ⌜ n ≤ length (now nums) ⌝ }
-    ensures { λ r. ⌜ ((live spare : List ℕ) → n ≡ length live → now (nums .entry) ≡ live ++ spare → r ≡ has x live) ⌝ }
+    ensures { λ r. ⌜ r ≡ has x (take n (now (nums .entry))) ⌝ }
 {
-    if n == 0 {
-        return false;
+    let mut rest = nums;
+    let mut left = n;
+    while 0 < left {
+        if rest[0] == x {
+            return true;
+        }
+        rest = &rest[1..];
+        left -= 1;
     }
-    if nums[0] == x {
-        return true;
-    }
-    has(&nums[1..], n - 1, x)
+    false
 }
 
 // The first of n + 1 numbers goes, the others move down, and the place given up is cleared.

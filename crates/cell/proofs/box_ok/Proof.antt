@@ -1,6 +1,6 @@
 -- `box_ok` answers whether both lengths are in range. Assumes nothing.
 use borrow.Author.Needs.{needs}
-use Rattle.cell.proofs.Laws.{both, neither}
+use Rattle.halting.proofs.Bools.{both, neither}
 use Rattle.cell.proofs.box_ok.Statement.{statement}
 use Rattle.cell.proofs.box_ok.Tie as tie
 

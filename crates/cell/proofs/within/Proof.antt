@@ -1,6 +1,6 @@
 -- `within` answers both comparisons. Assumes nothing.
 use mathlib.Core.Path.{refl}
-use Rattle.cell.proofs.Laws.{both, neither}
+use Rattle.halting.proofs.Bools.{both, neither}
 use Rattle.cell.proofs.within.Statement.{statement}
 use Rattle.cell.proofs.within.Tie as tie
 

@@ -1,7 +1,7 @@
 -- `legible` meets its contract. Assumes nothing.
 use mathlib.Core.Path.{sym, ap, _∙_}
 use borrow.Author.Tests.{le-leb, lt-leb, not-true, not-false}
-use Rattle.checks.proofs.Cut.{tail-long, tail-is}
+use Rattle.chunks.proofs.Laws.{tail-long, tail-is}
 use Prim.Native.Nat.{_+_, _*_}
 use Rattle.checks.specs.Check.{counted}
 use native.Mathlib.Omega.{arith}

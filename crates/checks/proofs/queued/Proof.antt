@@ -1,7 +1,8 @@
 -- `queued` meets its contract. Assumes nothing.
 use mathlib.Core.Path.{sym, ap, _∙_}
 use borrow.Author.Tests.{not-true, not-false}
-use Rattle.checks.proofs.Cut.{tail-long, rowed-first, tail-is}
+use Rattle.chunks.proofs.Laws.{tail-long, tail-is}
+use Rattle.checks.proofs.Cut.{rowed-first}
 use Rattle.checks.proofs.Tests.{queued-no, queued-more}
 use Rattle.checks.specs.Decode.{rowsOf, placesOf}
 use Prim.Native.Nat.{ℕ}

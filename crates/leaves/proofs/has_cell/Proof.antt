@@ -4,7 +4,7 @@ use mathlib.Core.Path.{ap, _∙_}
 use native.Mathlib.Omega.{arith}
 use borrow.Author.Needs.{needs}
 use Rattle.cell.specs.declared.Grid.{Grid}
-use Rattle.model.proofs.Lists.{clash}
+use Rattle.halting.proofs.Bools.{clash}
 use Rattle.leaves.proofs.Laws.{in-range, narrow}
 use Rattle.leaves.proofs.has_cell.Statement.{statement}
 use Rattle.leaves.proofs.has_cell.Tie as tie

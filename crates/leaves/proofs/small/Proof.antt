@@ -1,6 +1,6 @@
 -- Each test gives its part. Assumes nothing.
 use borrow.Author.Needs.{needs}
-use Rattle.model.proofs.Lists.{clash}
+use Rattle.halting.proofs.Bools.{clash}
 use Rattle.leaves.proofs.small.Statement.{statement}
 use Rattle.leaves.proofs.small.Tie as tie
 

@@ -1,7 +1,7 @@
 -- `fine_grain` answers whether every number is finite. Assumes nothing.
 use borrow.Author.Needs.{needs}
 use Rattle.model.specs.Acts.{fineGrain}
-use Rattle.cell.proofs.Laws.{both, neither}
+use Rattle.halting.proofs.Bools.{both, neither}
 use Rattle.particle.proofs.fine_grain.Statement.{statement}
 use Rattle.particle.proofs.fine_grain.Tie as tie
 

@@ -1,6 +1,6 @@
 -- `grain_ok` answers for the position, the velocity and the value. Assumes nothing.
 use borrow.Author.Needs.{needs}
-use Rattle.cell.proofs.Laws.{both, neither}
+use Rattle.halting.proofs.Bools.{both, neither}
 use Rattle.particle.proofs.grain_ok.Statement.{statement}
 use Rattle.particle.proofs.grain_ok.Tie as tie
 

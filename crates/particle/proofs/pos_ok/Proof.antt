@@ -1,6 +1,6 @@
 -- `pos_ok` answers for both directions. Assumes nothing.
 use borrow.Author.Needs.{needs}
-use Rattle.cell.proofs.Laws.{both, neither}
+use Rattle.halting.proofs.Bools.{both, neither}
 use Rattle.particle.proofs.pos_ok.Statement.{statement}
 use Rattle.particle.proofs.pos_ok.Tie as tie
 

@@ -1,7 +1,7 @@
 -- `touched` answers by whether the grain lies across the low edge, the high edge, or neither. Assumes nothing.
 use mathlib.Core.Path.{ap, _∙_}
 use borrow.Author.Needs.{needs}
-use Rattle.cell.proofs.Laws.{taken, left}
+use Rattle.halting.proofs.Bools.{taken, left}
 use Rattle.particle.specs.Spans.{alone, spansOf}
 use Rattle.particle.proofs.Laws.{joined-by}
 use Rattle.particle.proofs.touched.Statement.{statement}

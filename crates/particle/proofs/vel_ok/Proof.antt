@@ -1,6 +1,6 @@
 -- `vel_ok` answers for both components. Assumes nothing.
 use borrow.Author.Needs.{needs}
-use Rattle.cell.proofs.Laws.{both, neither}
+use Rattle.halting.proofs.Bools.{both, neither}
 use Rattle.particle.proofs.vel_ok.Statement.{statement}
 use Rattle.particle.proofs.vel_ok.Tie as tie
 

@@ -4,7 +4,7 @@ use mathlib.Core.List.{List}
 use lib.ListN.{length, getD}
 use lib.Ieee.{Float}
 use Rattle.halting.specs.Out.{eachOf}
-use Rattle.chunks.specs.Flat.{Every}
+use Rattle.halting.specs.Every.{All}
 use Rattle.model.specs.State.{State}
 use Rattle.model.specs.Doing.{stepGrain, others}
 use Rattle.acts.specs.Tell.{At, InGrains, Grains, GrainsTold}
@@ -17,7 +17,7 @@ use Rattle.acts.proofs.store.step_others.Statement.{statement}
 use Rattle.acts.proofs.store.step_others.Tie as tie
 
 abbrev Inv-loop : tie.InvT-loop
-Inv-loop grains₀ z domain clock list p rest₀ grains rest = Grains z grains × Every (λ (g : ℕ). g < z .grains) rest × (length grains ≡ length grains₀)
+Inv-loop grains₀ z domain clock list p rest₀ grains rest = Grains z grains × All (λ (g : ℕ). g < z .grains) rest × (length grains ≡ length grains₀)
     × ((t : List Float) (r : ℕ) → ((s : State) → InGrains z grains s → At domain clock s → GrainsTold z t r (eachOf stepGrain (others p rest) s))
     → (s : State) → InGrains z grains₀ s → At domain clock s → GrainsTold z t r (eachOf stepGrain (others p list) s))
 

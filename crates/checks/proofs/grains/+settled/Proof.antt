@@ -1,14 +1,13 @@
 -- `grains::settled` meets its contract. Assumes nothing.
 use mathlib.Core.Path.{sym, ap, _∙_}
 use borrow.Author.Tests.{not-true, not-false}
-use Rattle.checks.proofs.Cut.{less-rows, rest-long, cut-none, cut-step}
-use Rattle.checks.proofs.Lists.{all-none, all-no, all-more}
-use Rattle.checks.proofs.Tests.{grain-is}
-use mathlib.Core.Bool.{Bool, _&&_}
-use lib.ListN.{length, getD}
-use lib.Ieee.{nan, le}
+use lib.ListN.{length}
+use lib.Seq.{length-take-le}
+use lib.Ieee.{nan}
 use Rattle.checks.specs.Decode.{grainAt}
 use Rattle.checks.specs.Parts.{grainOk}
+use Rattle.checks.proofs.Cut.{take-tab, less-rows, rest-long, cut-none, cut-step}
+use Rattle.checks.proofs.Lists.{all-none, all-no, all-more}
 use native.Mathlib.Omega.{arith}
 use borrow.Author.Needs.{needs}
 use Prim.Native.Nat.{ℕ, _<_}
@@ -17,7 +16,8 @@ use borrow.Fn.PlainCycle.{Measures, is, falls, and}
 use Rattle.checks.proofs.grains.settled.Reads as settled
 use Rattle.checks.proofs.grains.settled.Kinds as settled-kinds
 use Rattle.checks.proofs.grains.+settled.Lts-settled as settled-lts
-use Rattle.checks.proofs.floats.all_finite.Reads as all-finite-reads
+use Rattle.particle.proofs.fine_grain.Reads as fine-grain-reads
+use Rattle.tables.proofs.grains.read_grain.Reads as read-grain-reads
 use Rattle.checks.proofs.grains.+settled.{statement}
 use Rattle.checks.proofs.grains.+settled.Tie.{close}
 
@@ -31,25 +31,34 @@ abbrev settled-below : ℕ → In 1 settled-kinds.ps
 settled-below t = and 1 settled-kinds.ps (falls 1 settled-kinds.ps _<_ μ-settled t) settled.Pre
 
 abbrev Rd : ℕ → settled-lts.Claims
-Rd t = (all-finite-reads.Asked, all-finite-reads.Learnt, settled-below t, settled.Post)
+Rd t = (read-grain-reads.Asked, read-grain-reads.Learnt, fine-grain-reads.Asked, fine-grain-reads.Learnt, settled-below t, settled.Post)
 
 settled-returns : (t : ℕ) → settled-lts.Need-returns (Rd t) (settled-at t) settled.Post
-settled-returns t c = let b = c .before .before in let l = b .args .reals .now in let n = b .args .n in let t′ = b .args .t in all-none (grainOk t′) (cut-none grainAt 6 n l (c .if1 .taken))
+settled-returns t c = let b = c .before .before in let l = b .args .reals .now in let n = b .args .n in all-none (grainOk (b .args .t)) (cut-none grainAt 6 n l (c .if1 .taken))
 
-settled-all-finite-requires : (t : ℕ) → settled-lts.Need-all-finite-requires (Rd t) (settled-at t) settled.Post
-settled-all-finite-requires t c κs = let b = c .before .before in let l = b .args .reals .now in let n = b .args .n in let d = less-rows n 6 (length l) (c .if1 .left) (b .pre .1) in d .0
+settled-sub-read-grain : (t : ℕ) → settled-lts.Need-sub-read-grain (Rd t) (settled-at t) settled.Post
+settled-sub-read-grain t c = let b = c .before .before in let l = b .args .reals .now in let n = b .args .n in let d = less-rows n 6 (length l) (c .if1 .left) (b .pre .1) in omega arith
+
+settled-part-read-grain-start : (t : ℕ) → settled-lts.Need-part-read-grain-start (Rd t) (settled-at t) settled.Post
+settled-part-read-grain-start t c = let b = c .before .before in let l = b .args .reals .now in let n = b .args .n in let d = less-rows n 6 (length l) (c .if1 .left) (b .pre .1) in omega arith
+
+settled-part-read-grain-end : (t : ℕ) → settled-lts.Need-part-read-grain-end (Rd t) (settled-at t) settled.Post
+settled-part-read-grain-end t c = let b = c .before .before in let l = b .args .reals .now in let n = b .args .n in let d = less-rows n 6 (length l) (c .if1 .left) (b .pre .1) in omega arith
+
+settled-read-grain-requires : (t : ℕ) → settled-lts.Need-read-grain-requires (Rd t) (settled-at t) settled.Post
+settled-read-grain-requires t c κs = let b = c .before .before .before in let l = b .args .reals .now in let n = b .args .n in let d = less-rows n 6 (length l) (c .before .if1 .left) (b .pre .1) in length-take-le 6 l (d .0)
+
+settled-fine-grain-requires : (t : ℕ) → settled-lts.Need-fine-grain-requires (Rd t) (settled-at t) settled.Post
+settled-fine-grain-requires t c κs = search needs
 
 settled-returns-2 : (t : ℕ) → settled-lts.Need-returns-2 (Rd t) (settled-at t) settled.Post
-settled-returns-2 t c = let b = c .before .before .before .before in let l = b .args .reals .now in let n = b .args .n in let t′ = b .args .t in all-no (grainOk t′) _ _ (cut-step grainAt 6 n l (c .before .before .if1 .left)) (ap (λ (x : Bool). x && le (getD l 4 nan) t′) (grain-is l ∙ sym (c .before .all-finite .ensures) ∙ not-true _ (c .if2 .taken)))
-
-settled-shared-slice-read-if3 : (t : ℕ) → settled-lts.Need-shared-slice-read-if3 (Rd t) (settled-at t) settled.Post
-settled-shared-slice-read-if3 t c = let b = c .before .before .before .before .before in let l = b .args .reals .now in let n = b .args .n in let d = less-rows n 6 (length l) (c .before .before .before .if1 .left) (b .pre .1) in omega arith
+settled-returns-2 t c = let b = c .before .before .before .before .before .before in let l = b .args .reals .now in let n = b .args .n in let d = less-rows n 6 (length l) (c .before .before .before .before .if1 .left) (b .pre .1) in let p = c .before .before .read-grain in all-no (grainOk (b .args .t)) _ _ (cut-step grainAt 6 n l (c .before .before .before .before .if1 .left)) (ap (grainOk (b .args .t)) (sym (p .ensures (grainAt l) (take-tab l nan 6 0 (d .0)))) ∙ rw (sym (c .before .fine-grain .ensures) ∙ not-true _ (c .if2 .taken)))
 
 settled-sub-settled : (t : ℕ) → settled-lts.Need-sub-settled (Rd t) (settled-at t) settled.Post
-settled-sub-settled t c = let b = c .before .before .before .before .before .before in let l = b .args .reals .now in let n = b .args .n in let d = less-rows n 6 (length l) (c .before .before .before .before .if1 .left) (b .pre .1) in omega arith
+settled-sub-settled t c = let b = c .before .before .before .before .before .before .before .before in let l = b .args .reals .now in let n = b .args .n in let d = less-rows n 6 (length l) (c .before .before .before .before .before .before .if1 .left) (b .pre .1) in omega arith
 
 settled-part-settled-start : (t : ℕ) → settled-lts.Need-part-settled-start (Rd t) (settled-at t) settled.Post
-settled-part-settled-start t c = let b = c .before .before .before .before .before .before in let l = b .args .reals .now in let n = b .args .n in let d = less-rows n 6 (length l) (c .before .before .before .before .if1 .left) (b .pre .1) in omega arith
+settled-part-settled-start t c = let b = c .before .before .before .before .before .before .before .before in let l = b .args .reals .now in let n = b .args .n in let d = less-rows n 6 (length l) (c .before .before .before .before .before .before .if1 .left) (b .pre .1) in omega arith
 
 settled-part-settled-end : (t : ℕ) → settled-lts.Need-part-settled-end (Rd t) (settled-at t) settled.Post
 settled-part-settled-end t c = search needs
@@ -58,22 +67,25 @@ settled-sub-settled-2 : (t : ℕ) → settled-lts.Need-sub-settled-2 (Rd t) (set
 settled-sub-settled-2 t c = search needs
 
 settled-settled-requires : (t : ℕ) → settled-lts.Need-settled-requires (Rd t) (settled-at t) settled.Post
-settled-settled-requires t c κs = let b = c .before .before .before .before .before .before .before in let l = b .args .reals .now in let n = b .args .n in (omega arith, rest-long n 6 l (c .before .before .before .before .before .if1 .left) (b .pre .1))
+settled-settled-requires t c κs = let b = c .before .before .before .before .before .before .before .before .before in let l = b .args .reals .now in let n = b .args .n in (omega arith, rest-long n 6 l (c .before .before .before .before .before .before .before .if1 .left) (b .pre .1))
 
 settled-returns-3 : (t : ℕ) → settled-lts.Need-returns-3 (Rd t) (settled-at t) settled.Post
-settled-returns-3 t c = let b = c .before .before .before .before .before .before .before .before in let l = b .args .reals .now in let n = b .args .n in let t′ = b .args .t in all-more (grainOk t′) _ _ (cut-step grainAt 6 n l (c .before .before .before .before .before .before .if1 .left)) (ap (λ (x : Bool). x && le (getD l 4 nan) t′) (grain-is l ∙ sym (c .before .before .before .before .before .all-finite .ensures) ∙ not-false _ (c .before .before .before .before .if2 .left)) ∙ c .before .before .if3 .taken) (c .settled .ensures)
+settled-returns-3 t c = let b = c .before .before .before .before .before .before .before .before .before .before in let l = b .args .reals .now in let n = b .args .n in let d = less-rows n 6 (length l) (c .before .before .before .before .before .before .before .before .if1 .left) (b .pre .1) in let p = c .before .before .before .before .before .before .read-grain in all-more (grainOk (b .args .t)) _ _ (cut-step grainAt 6 n l (c .before .before .before .before .before .before .before .before .if1 .left)) (ap (grainOk (b .args .t)) (sym (p .ensures (grainAt l) (take-tab l nan 6 0 (d .0)))) ∙ rw (sym (c .before .before .before .before .before .fine-grain .ensures) ∙ not-false _ (c .before .before .before .before .if2 .left), c .before .before .if3 .taken)) (c .settled .ensures)
 
 settled-returns-4 : (t : ℕ) → settled-lts.Need-returns-4 (Rd t) (settled-at t) settled.Post
-settled-returns-4 t c = let b = c .before .before .before .before .before .before in let l = b .args .reals .now in let n = b .args .n in let t′ = b .args .t in all-no (grainOk t′) _ _ (cut-step grainAt 6 n l (c .before .before .before .before .if1 .left)) (ap (λ (x : Bool). x && le (getD l 4 nan) t′) (grain-is l ∙ sym (c .before .before .before .all-finite .ensures) ∙ not-false _ (c .before .before .if2 .left)) ∙ c .if3 .left)
+settled-returns-4 t c = let b = c .before .before .before .before .before .before .before .before in let l = b .args .reals .now in let n = b .args .n in let d = less-rows n 6 (length l) (c .before .before .before .before .before .before .if1 .left) (b .pre .1) in let p = c .before .before .before .before .read-grain in all-no (grainOk (b .args .t)) _ _ (cut-step grainAt 6 n l (c .before .before .before .before .before .before .if1 .left)) (ap (grainOk (b .args .t)) (sym (p .ensures (grainAt l) (take-tab l nan 6 0 (d .0)))) ∙ rw (sym (c .before .before .before .fine-grain .ensures) ∙ not-false _ (c .before .before .if2 .left), c .if3 .left))
 
 pub +settled-spec : {M : Type 1} → statement M
 +settled-spec = close μ-settled λ t. settled-lts.spec (Rd t)
     (settled-at t)
     settled.Post
     (settled-returns t)
-    (settled-all-finite-requires t)
+    (settled-sub-read-grain t)
+    (settled-part-read-grain-start t)
+    (settled-part-read-grain-end t)
+    (settled-read-grain-requires t)
+    (settled-fine-grain-requires t)
     (settled-returns-2 t)
-    (settled-shared-slice-read-if3 t)
     (settled-sub-settled t)
     (settled-part-settled-start t)
     (settled-part-settled-end t)

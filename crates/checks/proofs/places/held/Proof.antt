@@ -1,6 +1,10 @@
 -- `places::held` meets its contract. Assumes nothing.
-use mathlib.Core.Path.{sym, _∙_}
+use mathlib.Core.Path.{sym, ap, _∙_}
+use mathlib.Core.List.{[]}
 use borrow.Author.Tests.{le-leb, lt-leb, not-true, not-false}
+use Rattle.model.specs.Events.{finePlace}
+use Rattle.checks.specs.Decode.{placeAt}
+use Rattle.checks.proofs.OnePlace.{place-run}
 use borrow.Author.Needs.{needs}
 use Rattle.checks.proofs.places.held.Statement.{statement}
 use Rattle.checks.proofs.places.held.Tie as tie
@@ -14,17 +18,38 @@ returns c = rw (lt-leb _ _ (c .if1 .taken))
 returns-2 : tie.Need-returns-2
 returns-2 c = rw (le-leb _ _ (c .before .if1 .left), lt-leb _ _ (c .if2 .taken))
 
+sub-get-head : tie.Need-sub-get-head
+sub-get-head c = search needs
+
+part-get-head-start : tie.Need-part-get-head-start
+part-get-head-start c = search needs
+
+part-get-head-end : tie.Need-part-get-head-end
+part-get-head-end c = search needs
+
+sub-get-head-2 : tie.Need-sub-get-head-2
+sub-get-head-2 c = search needs
+
+part-get-head-start-2 : tie.Need-part-get-head-start-2
+part-get-head-start-2 c = search needs
+
+part-get-head-end-2 : tie.Need-part-get-head-end-2
+part-get-head-end-2 c = search needs
+
+get-head-requires : tie.Need-get-head-requires
+get-head-requires c κs = search needs
+
 fine-place-requires : tie.Need-fine-place-requires
 fine-place-requires c κs = search needs
 
 returns-3 : tie.Need-returns-3
-returns-3 c = rw (le-leb _ _ (c .before .before .before .if1 .left), le-leb _ _ (c .before .before .if2 .left), sym (c .before .fine-place .ensures ((c .before .before .before .before .before .before .before .before) .args .nums .now)) ∙ not-true _ (c .if3 .taken))
+returns-3 c = rw (le-leb _ _ (c .before .before .before .before .before .before .if1 .left), le-leb _ _ (c .before .before .before .before .before .if2 .left), (let b = c .before .before .before .before .before .before .before .before .before .before .before in let q = b .args .nums .now in let e = b .args .reals .now in ap finePlace (sym (c .before .before .get-head .ensures (placeAt q e) [] (place-run q e (b .pre .0) (b .pre .1)))) ∙ sym (c .before .fine-place .ensures) ∙ not-true _ (c .if3 .taken)))
 
 named-requires : tie.Need-named-requires
 named-requires c κs = search needs
 
 returns-4 : tie.Need-returns-4
-returns-4 c = rw (le-leb _ _ (c .before .before .before .before .if1 .left), le-leb _ _ (c .before .before .before .if2 .left), sym (c .before .before .fine-place .ensures ((c .before .before .before .before .before .before .before .before .before) .args .nums .now)) ∙ not-false _ (c .before .if3 .left)) (c .named .ensures (c .before .before .before .before .before .before .before .before .before .args .reals .now))
+returns-4 c = rw (le-leb _ _ (c .before .before .before .before .before .before .before .if1 .left), le-leb _ _ (c .before .before .before .before .before .before .if2 .left), (let b = c .before .before .before .before .before .before .before .before .before .before .before .before in let q = b .args .nums .now in let e = b .args .reals .now in ap finePlace (sym (c .before .before .before .get-head .ensures (placeAt q e) [] (place-run q e (b .pre .0) (b .pre .1)))) ∙ sym (c .before .before .fine-place .ensures) ∙ not-false _ (c .before .if3 .left))) (c .named .ensures (c .before .before .before .before .before .before .before .before .before .before .before .before .args .reals .now))
 
 pub held-spec : {M : Type 1} → statement M
 held-spec =
@@ -33,6 +58,13 @@ held-spec =
     shared-slice-read-kind
     returns
     returns-2
+    sub-get-head
+    part-get-head-start
+    part-get-head-end
+    sub-get-head-2
+    part-get-head-start-2
+    part-get-head-end-2
+    get-head-requires
     fine-place-requires
     returns-3
     named-requires

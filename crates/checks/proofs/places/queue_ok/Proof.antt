@@ -1,6 +1,6 @@
 -- `places::queue_ok` meets its contract. Assumes nothing.
 use borrow.Author.Tests.{not-true, not-false}
-use Rattle.checks.proofs.Cut.{tail-long}
+use Rattle.chunks.proofs.Laws.{tail-long}
 use Rattle.checks.proofs.OnePlace.{queue-no, queue-more}
 use Rattle.checks.proofs.OneRow.{live-is}
 use Rattle.checks.specs.Decode.{rowAt}

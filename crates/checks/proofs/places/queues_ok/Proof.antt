@@ -7,7 +7,8 @@ use Rattle.model.specs.State.{Row, liveAt}
 use Rattle.model.specs.Check.{queueOk}
 use Rattle.checks.specs.Decode.{rowsOf, queueAt, queuesOf}
 use Rattle.checks.specs.Walk.{Rowed, walk}
-use Rattle.checks.proofs.Cut.{some, less-rows, rest-long, rowed-first, rowed-rest, first-at, rowed-in, both-none, both-step}
+use Rattle.chunks.proofs.Laws.{some}
+use Rattle.checks.proofs.Cut.{less-rows, rest-long, rowed-first, rowed-rest, first-at, rowed-in, both-none, both-step}
 use Rattle.checks.proofs.Lists.{walk-none, walk-no, walk-more}
 use Rattle.checks.proofs.OneRow.{row-in}
 use native.Mathlib.Omega.{arith}

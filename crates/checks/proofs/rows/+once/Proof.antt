@@ -1,6 +1,6 @@
 -- `rows::once` meets its contract. Assumes nothing.
 use mathlib.Core.Path.{sym, _∙_}
-use Rattle.checks.proofs.Cut.{tail-long, take-none, take-step}
+use Rattle.chunks.proofs.Laws.{tail-long, take-none, take-step}
 use Rattle.checks.proofs.Lists.{once-none, once-no, once-more}
 use native.Mathlib.Omega.{arith}
 use borrow.Author.Needs.{needs}
@@ -10,7 +10,7 @@ use borrow.Fn.PlainCycle.{Measures, is, falls, and}
 use Rattle.checks.proofs.rows.once.Reads as once
 use Rattle.checks.proofs.rows.once.Kinds as once-kinds
 use Rattle.checks.proofs.rows.+once.Lts-once as once-lts
-use Rattle.checks.proofs.rows.has.Reads as has-reads
+use Rattle.tables.proofs.rows.has.Reads as has-reads
 use Rattle.checks.proofs.rows.+once.{statement}
 use Rattle.checks.proofs.rows.+once.Tie.{close}
 

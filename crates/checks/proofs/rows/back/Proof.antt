@@ -6,7 +6,8 @@ use Rattle.model.specs.State.{has, liveAt}
 use Rattle.model.specs.Check.{all}
 use Rattle.checks.specs.Decode.{rowAt, rowsOf}
 use Rattle.checks.specs.Walk.{Rowed, walk, backRow}
-use Rattle.checks.proofs.Cut.{some, tail-long, cut-none, cut-step, rowed-first, rowed-rest}
+use Rattle.chunks.proofs.Laws.{some, tail-long}
+use Rattle.checks.proofs.Cut.{cut-none, cut-step, rowed-first, rowed-rest}
 use Rattle.checks.proofs.Lists.{walk-none, walk-no, walk-more}
 use Rattle.checks.proofs.OneRow.{live-is}
 use native.Mathlib.Omega.{arith}

@@ -5,7 +5,7 @@ use Prim.Native.Nat.{_≤_, _-_}
 use lib.ListN.{length, take}
 use lib.Dec.{ltb}
 use Rattle.model.specs.Check.{all}
-use Rattle.checks.proofs.Cut.{some, tail-long, take-none, take-step}
+use Rattle.chunks.proofs.Laws.{some, tail-long, take-none, take-step}
 use Rattle.checks.proofs.Lists.{all-none, all-no, all-more}
 use native.Mathlib.Omega.{arith}
 use borrow.Author.Needs.{needs}

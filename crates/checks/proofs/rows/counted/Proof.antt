@@ -3,7 +3,8 @@ use mathlib.Core.Bool.{Bool, true, false}
 use Prim.Native.Nat.{_*_, _≤_, _-_}
 use lib.ListN.{length}
 use Rattle.checks.specs.Check.{counted}
-use Rattle.checks.proofs.Cut.{some, tail-long, less-rows, rest-long, counted-none, counted-no, counted-more}
+use Rattle.chunks.proofs.Laws.{some, tail-long}
+use Rattle.checks.proofs.Cut.{less-rows, rest-long, counted-none, counted-no, counted-more}
 use native.Mathlib.Omega.{arith}
 use borrow.Author.Needs.{needs}
 use Rattle.checks.proofs.rows.counted.Statement.{statement}

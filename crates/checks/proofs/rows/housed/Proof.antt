@@ -1,7 +1,8 @@
 use mathlib.Core.Path.{_≡_}
 use mathlib.Core.Bool.{Bool, true, false}
 use Prim.Native.Nat.{_+_, _-_}
-use Rattle.checks.proofs.Cut.{some, cut-none, cut-step, rowed-first, rowed-rest}
+use Rattle.chunks.proofs.Laws.{some}
+use Rattle.checks.proofs.Cut.{cut-none, cut-step, rowed-first, rowed-rest}
 use Rattle.checks.proofs.Lists.{all-none, all-no, all-more}
 use Rattle.checks.specs.Decode.{rowAt, rowsOf}
 use Rattle.checks.specs.Walk.{Rowed, housed as isHoused}

@@ -6,7 +6,7 @@ use lib.ListN.{length, take}
 use Rattle.model.specs.State.{has, liveAt}
 use Rattle.model.specs.Check.{all}
 use Rattle.checks.specs.Decode.{rowsOf}
-use Rattle.checks.proofs.Cut.{some, tail-long, take-none, take-step}
+use Rattle.chunks.proofs.Laws.{some, tail-long, take-none, take-step}
 use Rattle.checks.proofs.Lists.{all-none, all-no, all-more}
 use native.Mathlib.Omega.{arith}
 use borrow.Author.Needs.{needs}

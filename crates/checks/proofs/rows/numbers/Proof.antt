@@ -1,6 +1,6 @@
 -- `rows::numbers` meets its contract. Assumes nothing.
 use borrow.Author.Tests.{not-true, not-false}
-use Rattle.checks.proofs.Cut.{tail-long}
+use Rattle.chunks.proofs.Laws.{tail-long}
 use Rattle.checks.proofs.OneRow.{numbers-no, numbers-more}
 use native.Mathlib.Omega.{arith}
 use borrow.Author.Needs.{needs}

@@ -1,6 +1,6 @@
 -- `wall_val` answers by the side that the grain moves to. Assumes nothing.
 use mathlib.Core.Path.{refl}
-use Rattle.cell.proofs.Laws.{taken, left}
+use Rattle.halting.proofs.Bools.{taken, left}
 use Rattle.event.proofs.wall_reflection.wall_val.Statement.{statement}
 use Rattle.event.proofs.wall_reflection.wall_val.Tie as tie
 

@@ -2,8 +2,7 @@
 use Prim.Native.Nat.{_*_}
 use mathlib.Core.Path.{_∙_}
 use Rattle.starting.proofs.InputLaws.{input-read}
-use Rattle.chunks.proofs.Laws.{chunk-in}
-use Rattle.checks.proofs.Cut.{tail-long}
+use Rattle.chunks.proofs.Laws.{chunk-in, tail-long}
 use native.Mathlib.Omega.{arith}
 use Rattle.starting.proofs.inputs.get_input.Statement.{statement}
 use Rattle.starting.proofs.inputs.get_input.Tie as tie

@@ -3,7 +3,7 @@ use mathlib.Core.Path.{sym, subst}
 use Rattle.step.proofs.Executions.{cancels-do}
 use Rattle.step.proofs.Scheduling.{forget-does}
 use Rattle.step.proofs.Leaves.{homes-below}
-use Rattle.chunks.specs.Flat.{Every}
+use Rattle.halting.specs.Every.{All}
 use borrow.Rule.Slice.PartMut.{midOf}
 use Prim.Native.Nat.{_-_, _<_}
 use mathlib.Core.Path.{sym, subst}
@@ -26,7 +26,7 @@ part-cancel-each-end : tie.Need-part-cancel-each-end
 part-cancel-each-end c = let f = c .before .before .before .before .before .before .before .before .fits in let k = c .before .before .before .cells-of .ensures .0 in let m = c .before .before .before .cells-of .ensures .1 in omega arith
 
 cancel-each-requires : tie.Need-cancel-each-requires
-cancel-each-requires c κs = let b = c .before .before .before .before .before .before .before .before .before in let a = b .args in let o = b .pre .0 in ((o .0, o .1 .queued), subst (Every (λ n. n < a .z .cells)) (sym (c .before .before .before .before .cells-of .ensures .2 (o .0) (o .1 .listed))) (homes-below (o .0) (o .1 .listed) (a .p) (b .pre .1)))
+cancel-each-requires c κs = let b = c .before .before .before .before .before .before .before .before .before in let a = b .args in let o = b .pre .0 in ((o .0, o .1 .queued), subst (All (λ n. n < a .z .cells)) (sym (c .before .before .before .before .cells-of .ensures .2 (o .0) (o .1 .listed))) (homes-below (o .0) (o .1 .listed) (a .p) (b .pre .1)))
 
 same-length : tie.Need-same-length
 same-length c = c .before .before .before .before .before .before .cancel-each .kept .0

@@ -1,9 +1,10 @@
 use mathlib.Core.Path.{sym, _∙_, subst}
 use Rattle.step.proofs.Starting.{sync-held, pairs-held, bounds-held, init-first, init-second, init-third}
-use Rattle.step.proofs.Scheduling.{made-index, made-cell}
+use Rattle.cell.proofs.Laws.{index-cell}
+use Rattle.step.proofs.Scheduling.{made-cell}
 use Rattle.step.proofs.Leaves.{members-below}
 use Rattle.step.proofs.Does.{after}
-use Rattle.chunks.specs.Flat.{Every}
+use Rattle.halting.specs.Every.{All}
 use borrow.Rule.Slice.PartMut.{midOf}
 use Prim.Native.Nat.{_-_, _<_}
 use mathlib.Core.Path.{sym, _∙_, subst}
@@ -45,7 +46,7 @@ part-pairs-end : tie.Need-part-pairs-end
 part-pairs-end c = let k = c .before .members-of .ensures .0 in let m = c .before .members-of .ensures .1 in omega arith
 
 pairs-requires : tie.Need-pairs-requires
-pairs-requires c κs = let b = c .before .before .before .before .before .before .before .before .before .before .before .before .before .before .before .before .before .before .before .before .before .before in let a = b .args in let o = b .pre .0 in let u = after (sync-held (a .cell) (c .before .before .before .before .before .before .before .before .before .before .before .before .before .sync-in .ensures)) o in ((u .0, u .1 .seen), made-cell (a .cell) (c .before .before .before .before .new .ensures) (b .pre .2), (subst (Every (λ n. n < a .z .grains)) (sym (c .before .before .before .before .before .members-of .ensures .2 (o .0) (o .1 .listed))) (members-below (o .0) (o .1 .listed) (a .cell) (b .pre .2))))
+pairs-requires c κs = let b = c .before .before .before .before .before .before .before .before .before .before .before .before .before .before .before .before .before .before .before .before .before .before in let a = b .args in let o = b .pre .0 in let u = after (sync-held (a .cell) (c .before .before .before .before .before .before .before .before .before .before .before .before .before .sync-in .ensures)) o in ((u .0, u .1 .seen), made-cell (a .cell) (c .before .before .before .before .new .ensures) (b .pre .2), (subst (All (λ n. n < a .z .grains)) (sym (c .before .before .before .before .before .members-of .ensures .2 (o .0) (o .1 .listed))) (members-below (o .0) (o .1 .listed) (a .cell) (b .pre .2))))
 
 same-length-4 : tie.Need-same-length-4
 same-length-4 c = c .before .before .before .before .before .before .before .pairs .kept .1 .1 .0 ∙ c .before .before .before .before .before .before .before .before .before .before .before .before .before .before .before .before .before .before .before .before .before .sync-in .kept .0
@@ -57,7 +58,7 @@ same-length-6 : tie.Need-same-length-6
 same-length-6 c = c .before .before .before .before .before .before .before .pairs .kept .1 .1 .1 .1 .0 ∙ c .before .before .before .before .before .before .before .before .before .before .before .before .before .before .before .before .before .before .before .before .before .sync-in .kept .1 .1 .0
 
 returns-2 : tie.Need-returns-2
-returns-2 c = let b = c .before .before .before .before .before .before .before .before .before .before .before .before .before .before .before .before .before .before .before .before .before .before .before .before .before .before .before .before .before .before in let a = b .args in init-second (a .cell) (midOf (c .before .before .before .before .before .before .before .before .before .before .before .before .before .members-of .result .from) (c .before .before .before .before .before .before .before .before .before .before .before .before .before .members-of .result .to - c .before .before .before .before .before .before .before .before .before .before .before .before .before .members-of .result .from) (a .lists .now)) (λ s h. c .before .before .before .before .before .before .before .before .before .before .before .before .before .members-of .ensures .2 s (h .listed)) (c .before .before .before .before .before .before .before .before .before .before .before .before .before .before .if1 .left) (c .if2 .taken) (sync-held (a .cell) (c .before .before .before .before .before .before .before .before .before .before .before .before .before .before .before .before .before .before .before .before .before .sync-in .ensures)) (pairs-held (midOf (c .before .before .before .before .before .before .before .before .before .before .before .before .before .members-of .result .from) (c .before .before .before .before .before .before .before .before .before .before .before .before .before .members-of .result .to - c .before .before .before .before .before .before .before .before .before .before .before .before .before .members-of .result .from) (a .lists .now)) (made-index (a .w .domain) (a .cell) (c .before .before .before .before .before .before .before .before .before .before .before .before .new .ensures)) (c .before .before .before .before .before .before .before .pairs .ensures))
+returns-2 c = let b = c .before .before .before .before .before .before .before .before .before .before .before .before .before .before .before .before .before .before .before .before .before .before .before .before .before .before .before .before .before .before in let a = b .args in init-second (a .cell) (midOf (c .before .before .before .before .before .before .before .before .before .before .before .before .before .members-of .result .from) (c .before .before .before .before .before .before .before .before .before .before .before .before .before .members-of .result .to - c .before .before .before .before .before .before .before .before .before .before .before .before .before .members-of .result .from) (a .lists .now)) (λ s h. c .before .before .before .before .before .before .before .before .before .before .before .before .before .members-of .ensures .2 s (h .listed)) (c .before .before .before .before .before .before .before .before .before .before .before .before .before .before .if1 .left) (c .if2 .taken) (sync-held (a .cell) (c .before .before .before .before .before .before .before .before .before .before .before .before .before .before .before .before .before .before .before .before .before .sync-in .ensures)) (pairs-held (midOf (c .before .before .before .before .before .before .before .before .before .before .before .before .before .members-of .result .from) (c .before .before .before .before .before .before .before .before .before .before .before .before .before .members-of .result .to - c .before .before .before .before .before .before .before .before .before .before .before .before .before .members-of .result .from) (a .lists .now)) (index-cell (a .w .domain) (a .cell) (c .before .before .before .before .before .before .before .before .before .before .before .before .new .ensures)) (c .before .before .before .before .before .before .before .pairs .ensures))
 
 mul-bounds-each : tie.Need-mul-bounds-each
 mul-bounds-each c = let f = c .before .before .before .before .before .before .before .before .before .before .before .before .before .before .before .before .before .before .before .before .before .before .before .before .before .before .before .before .before .before .fits in let g = c .before .before .before .before .before .before .before .before .before .before .before .before .before .before .before .before .before .before .before .before .before .before .before .before .before .before .before .before .before .before .good in let k = c .before .before .before .before .before .before .before .before .before .before .before .before .before .members-of .ensures .0 in let m = c .before .before .before .before .before .before .before .before .before .before .before .before .before .members-of .ensures .1 in omega arith
@@ -72,7 +73,7 @@ part-bounds-each-end : tie.Need-part-bounds-each-end
 part-bounds-each-end c = let k = c .before .before .before .before .before .before .before .before .before .before .before .before .before .members-of .ensures .0 in let m = c .before .before .before .before .before .before .before .before .before .before .before .before .before .members-of .ensures .1 in omega arith
 
 bounds-each-requires : tie.Need-bounds-each-requires
-bounds-each-requires c κs = let b = c .before .before .before .before .before .before .before .before .before .before .before .before .before .before .before .before .before .before .before .before .before .before .before .before .before .before .before .before .before .before .before .before .before .before in let a = b .args in let o = b .pre .0 in let u = after (pairs-held (midOf (c .before .before .before .before .before .before .before .before .before .before .before .before .before .before .before .before .before .members-of .result .from) (c .before .before .before .before .before .before .before .before .before .before .before .before .before .before .before .before .before .members-of .result .to - c .before .before .before .before .before .before .before .before .before .before .before .before .before .before .before .before .before .members-of .result .from) (a .lists .now)) (made-index (a .w .domain) (a .cell) (c .before .before .before .before .before .before .before .before .before .before .before .before .before .before .before .before .new .ensures)) (c .before .before .before .before .before .before .before .before .before .before .before .pairs .ensures)) (after (sync-held (a .cell) (c .before .before .before .before .before .before .before .before .before .before .before .before .before .before .before .before .before .before .before .before .before .before .before .before .before .sync-in .ensures)) o) in ((u .0, u .1 .seen), made-cell (a .cell) (c .before .before .before .before .before .before .before .before .before .before .before .before .before .before .before .before .new .ensures) (b .pre .2), (subst (Every (λ n. n < a .z .grains)) (sym (c .before .before .before .before .before .before .before .before .before .before .before .before .before .before .before .before .before .members-of .ensures .2 (o .0) (o .1 .listed))) (members-below (o .0) (o .1 .listed) (a .cell) (b .pre .2))))
+bounds-each-requires c κs = let b = c .before .before .before .before .before .before .before .before .before .before .before .before .before .before .before .before .before .before .before .before .before .before .before .before .before .before .before .before .before .before .before .before .before .before in let a = b .args in let o = b .pre .0 in let u = after (pairs-held (midOf (c .before .before .before .before .before .before .before .before .before .before .before .before .before .before .before .before .before .members-of .result .from) (c .before .before .before .before .before .before .before .before .before .before .before .before .before .before .before .before .before .members-of .result .to - c .before .before .before .before .before .before .before .before .before .before .before .before .before .before .before .before .before .members-of .result .from) (a .lists .now)) (index-cell (a .w .domain) (a .cell) (c .before .before .before .before .before .before .before .before .before .before .before .before .before .before .before .before .new .ensures)) (c .before .before .before .before .before .before .before .before .before .before .before .pairs .ensures)) (after (sync-held (a .cell) (c .before .before .before .before .before .before .before .before .before .before .before .before .before .before .before .before .before .before .before .before .before .before .before .before .before .sync-in .ensures)) o) in ((u .0, u .1 .seen), made-cell (a .cell) (c .before .before .before .before .before .before .before .before .before .before .before .before .before .before .before .before .new .ensures) (b .pre .2), (subst (All (λ n. n < a .z .grains)) (sym (c .before .before .before .before .before .before .before .before .before .before .before .before .before .before .before .before .before .members-of .ensures .2 (o .0) (o .1 .listed))) (members-below (o .0) (o .1 .listed) (a .cell) (b .pre .2))))
 
 same-length-7 : tie.Need-same-length-7
 same-length-7 c = c .before .before .before .before .before .before .bounds-each .kept .1 .1 .0 ∙ c .before .before .before .before .before .before .before .before .before .before .before .before .before .before .before .before .before .before .pairs .kept .1 .1 .0 ∙ c .before .before .before .before .before .before .before .before .before .before .before .before .before .before .before .before .before .before .before .before .before .before .before .before .before .before .before .before .before .before .before .before .sync-in .kept .0
@@ -84,7 +85,7 @@ same-length-9 : tie.Need-same-length-9
 same-length-9 c = c .before .before .before .before .before .before .bounds-each .kept .1 .1 .1 .1 .0 ∙ c .before .before .before .before .before .before .before .before .before .before .before .before .before .before .before .before .before .before .pairs .kept .1 .1 .1 .1 .0 ∙ c .before .before .before .before .before .before .before .before .before .before .before .before .before .before .before .before .before .before .before .before .before .before .before .before .before .before .before .before .before .before .before .before .sync-in .kept .1 .1 .0
 
 returns-3 : tie.Need-returns-3
-returns-3 c = let b = c .before .before .before .before .before .before .before .before .before .before .before .before .before .before .before .before .before .before .before .before .before .before .before .before .before .before .before .before .before .before .before .before .before .before .before .before .before .before .before .before .before in let a = b .args in init-third (a .cell) (midOf (c .before .before .before .before .before .before .before .before .before .before .before .before .before .before .before .before .before .before .before .before .before .before .before .before .members-of .result .from) (c .before .before .before .before .before .before .before .before .before .before .before .before .before .before .before .before .before .before .before .before .before .before .before .before .members-of .result .to - c .before .before .before .before .before .before .before .before .before .before .before .before .before .before .before .before .before .before .before .before .before .before .before .before .members-of .result .from) (a .lists .now)) (λ s h. c .before .before .before .before .before .before .before .before .before .before .before .before .before .before .before .before .before .before .before .before .before .before .before .before .members-of .ensures .2 s (h .listed)) (λ s h. c .before .before .before .before .before .before .before .before .before .before .before .before .before .before .before .before .before .before .before .before .before .before .before .before .members-of .ensures .2 s (h .listed)) (c .before .before .before .before .before .before .before .before .before .before .before .before .before .before .before .before .before .before .before .before .before .before .before .before .before .if1 .left) (c .before .before .before .before .before .before .before .before .before .before .before .if2 .left) (sync-held (a .cell) (c .before .before .before .before .before .before .before .before .before .before .before .before .before .before .before .before .before .before .before .before .before .before .before .before .before .before .before .before .before .before .before .before .sync-in .ensures)) (pairs-held (midOf (c .before .before .before .before .before .before .before .before .before .before .before .before .before .before .before .before .before .before .before .before .before .before .before .before .members-of .result .from) (c .before .before .before .before .before .before .before .before .before .before .before .before .before .before .before .before .before .before .before .before .before .before .before .before .members-of .result .to - c .before .before .before .before .before .before .before .before .before .before .before .before .before .before .before .before .before .before .before .before .before .before .before .before .members-of .result .from) (a .lists .now)) (made-index (a .w .domain) (a .cell) (c .before .before .before .before .before .before .before .before .before .before .before .before .before .before .before .before .before .before .before .before .before .before .before .new .ensures)) (c .before .before .before .before .before .before .before .before .before .before .before .before .before .before .before .before .before .before .pairs .ensures)) (bounds-held (midOf (c .before .before .before .before .before .before .before .before .before .before .before .before .before .before .before .before .before .before .before .before .before .before .before .before .members-of .result .from) (c .before .before .before .before .before .before .before .before .before .before .before .before .before .before .before .before .before .before .before .before .before .before .before .before .members-of .result .to - c .before .before .before .before .before .before .before .before .before .before .before .before .before .before .before .before .before .before .before .before .before .before .before .before .members-of .result .from) (a .lists .now)) (made-index (a .w .domain) (a .cell) (c .before .before .before .before .before .before .before .before .before .before .before .before .before .before .before .before .before .before .before .before .before .before .before .new .ensures)) (c .before .before .before .before .before .before .bounds-each .ensures))
+returns-3 c = let b = c .before .before .before .before .before .before .before .before .before .before .before .before .before .before .before .before .before .before .before .before .before .before .before .before .before .before .before .before .before .before .before .before .before .before .before .before .before .before .before .before .before in let a = b .args in init-third (a .cell) (midOf (c .before .before .before .before .before .before .before .before .before .before .before .before .before .before .before .before .before .before .before .before .before .before .before .before .members-of .result .from) (c .before .before .before .before .before .before .before .before .before .before .before .before .before .before .before .before .before .before .before .before .before .before .before .before .members-of .result .to - c .before .before .before .before .before .before .before .before .before .before .before .before .before .before .before .before .before .before .before .before .before .before .before .before .members-of .result .from) (a .lists .now)) (λ s h. c .before .before .before .before .before .before .before .before .before .before .before .before .before .before .before .before .before .before .before .before .before .before .before .before .members-of .ensures .2 s (h .listed)) (λ s h. c .before .before .before .before .before .before .before .before .before .before .before .before .before .before .before .before .before .before .before .before .before .before .before .before .members-of .ensures .2 s (h .listed)) (c .before .before .before .before .before .before .before .before .before .before .before .before .before .before .before .before .before .before .before .before .before .before .before .before .before .if1 .left) (c .before .before .before .before .before .before .before .before .before .before .before .if2 .left) (sync-held (a .cell) (c .before .before .before .before .before .before .before .before .before .before .before .before .before .before .before .before .before .before .before .before .before .before .before .before .before .before .before .before .before .before .before .before .sync-in .ensures)) (pairs-held (midOf (c .before .before .before .before .before .before .before .before .before .before .before .before .before .before .before .before .before .before .before .before .before .before .before .before .members-of .result .from) (c .before .before .before .before .before .before .before .before .before .before .before .before .before .before .before .before .before .before .before .before .before .before .before .before .members-of .result .to - c .before .before .before .before .before .before .before .before .before .before .before .before .before .before .before .before .before .before .before .before .before .before .before .before .members-of .result .from) (a .lists .now)) (index-cell (a .w .domain) (a .cell) (c .before .before .before .before .before .before .before .before .before .before .before .before .before .before .before .before .before .before .before .before .before .before .before .new .ensures)) (c .before .before .before .before .before .before .before .before .before .before .before .before .before .before .before .before .before .before .pairs .ensures)) (bounds-held (midOf (c .before .before .before .before .before .before .before .before .before .before .before .before .before .before .before .before .before .before .before .before .before .before .before .before .members-of .result .from) (c .before .before .before .before .before .before .before .before .before .before .before .before .before .before .before .before .before .before .before .before .before .before .before .before .members-of .result .to - c .before .before .before .before .before .before .before .before .before .before .before .before .before .before .before .before .before .before .before .before .before .before .before .before .members-of .result .from) (a .lists .now)) (index-cell (a .w .domain) (a .cell) (c .before .before .before .before .before .before .before .before .before .before .before .before .before .before .before .before .before .before .before .before .before .before .before .new .ensures)) (c .before .before .before .before .before .before .bounds-each .ensures))
 
 pub init-cell-spec : {M : Type 1} → statement M
 init-cell-spec =

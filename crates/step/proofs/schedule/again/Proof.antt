@@ -2,7 +2,7 @@ use native.Mathlib.Omega.{arith}
 use mathlib.Core.Path.{sym, subst}
 use Rattle.step.proofs.Scheduling.{again-does}
 use Rattle.step.proofs.Leaves.{homes-below}
-use Rattle.chunks.specs.Flat.{Every}
+use Rattle.halting.specs.Every.{All}
 use borrow.Rule.Slice.PartMut.{midOf}
 use Prim.Native.Nat.{_-_, _<_}
 use mathlib.Core.Path.{sym, subst}
@@ -25,7 +25,7 @@ part-schedule-each-end : tie.Need-part-schedule-each-end
 part-schedule-each-end c = let f = c .before .before .before .before .before .before .fits in let k = c .cells-of .ensures .0 in let m = c .cells-of .ensures .1 in omega arith
 
 schedule-each-requires : tie.Need-schedule-each-requires
-schedule-each-requires c κs = let b = c .before .before .before .before .before .before .before .before .before .before .before in let a = b .args in let o = b .pre .0 in (o, b .pre .1, b .pre .2, subst (Every (λ n. n < a .z .cells)) (sym (c .before .before .before .before .before .cells-of .ensures .2 (o .0) (o .1 .listed))) (homes-below (o .0) (o .1 .listed) (a .p) (b .pre .2)))
+schedule-each-requires c κs = let b = c .before .before .before .before .before .before .before .before .before .before .before in let a = b .args in let o = b .pre .0 in (o, b .pre .1, b .pre .2, subst (All (λ n. n < a .z .cells)) (sym (c .before .before .before .before .before .cells-of .ensures .2 (o .0) (o .1 .listed))) (homes-below (o .0) (o .1 .listed) (a .p) (b .pre .2)))
 
 same-length : tie.Need-same-length
 same-length c = c .before .before .before .before .before .before .before .before .schedule-each .kept .1 .1 .0

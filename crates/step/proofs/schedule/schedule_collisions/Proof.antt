@@ -4,7 +4,7 @@ use mathlib.Core.List.{List}
 use lib.ListN.{length}
 use lib.Ieee.{Float}
 use Rattle.halting.specs.Out.{eachOf}
-use Rattle.chunks.specs.Flat.{Every}
+use Rattle.halting.specs.Every.{All}
 use Rattle.model.specs.Doing.{others, scheduleCollision}
 use Rattle.step.specs.World.{Seen, Some, Does}
 use Rattle.acts.proofs.InTurn.{every-tail, tail-less}
@@ -15,7 +15,7 @@ use Rattle.step.proofs.schedule.schedule_collisions.Statement.{statemen
 use Rattle.step.proofs.schedule.schedule_collisions.Tie as tie
 
 abbrev Inv-loop : tie.InvT-loop
-Inv-loop list grains queue₀ events₀ order₀ z w cell p but rest₀ queue events order rest = Some (Seen z w grains queue events order) × Every (λ (q : ℕ). q < z .grains) rest
+Inv-loop list grains queue₀ events₀ order₀ z w cell p but rest₀ queue events order rest = Some (Seen z w grains queue events order) × All (λ (q : ℕ). q < z .grains) rest
     × (length queue ≡ length queue₀) × (length events ≡ length events₀) × (length order ≡ length order₀)
     × ((q : List ℕ) (e : List Float) (o : List ℕ) (r : ℕ) → Does (Seen z w grains queue events order) (Seen z w grains q e o) r (eachOf (scheduleCollision (cell .index) p) (others but rest))
     → Does (Seen z w grains queue₀ events₀ order₀) (Seen z w grains q e o) r (eachOf (scheduleCollision (cell .index) p) (others but list)))

@@ -5,11 +5,12 @@ use Rattle.acts.proofs.Frame.{queues-along}
 use Rattle.acts.proofs.Touch.{each-step-only}
 use Rattle.acts.specs.Tell.{InLists}
 use Prim.Native.Nat.{_-_, _<_}
-use Rattle.step.proofs.Scheduling.{events-stop, events-on, at-index, made-index, made-cell}
+use Rattle.cell.proofs.Laws.{index-cell}
+use Rattle.step.proofs.Scheduling.{events-stop, events-on, at-index, made-cell}
 use Rattle.step.proofs.Leaves.{grains-do, seen-do, members-below, stepped-only}
 use Rattle.step.proofs.Does.{after}
 use Rattle.model.specs.Doing.{others, stepGrain, scheduleCollision, boundaries}
-use Rattle.chunks.specs.Flat.{Every}
+use Rattle.halting.specs.Every.{All}
 use Rattle.halting.specs.Out.{then, eachOf}
 use borrow.Rule.Slice.PartMut.{midOf}
 use Prim.Native.Nat.{_-_}
@@ -33,7 +34,7 @@ part-step-others-end : tie.Need-part-step-others-end
 part-step-others-end c = let f = c .before .before .before .before .before .before .before .fits in let g = c .before .before .before .before .before .before .before .good in let k = c .before .members-of .ensures .0 in let m = c .before .members-of .ensures .1 in omega arith
 
 step-others-requires : tie.Need-step-others-requires
-step-others-requires c κs = let b = c .before .before .before .before .before .before .before .before in let a = b .args in let o = b .pre .0 in ((o .0, o .1 .seen .grained), o .1 .seen .queued .ranged, (subst (Every (λ n. n < a .z .grains)) (sym (c .before .before .members-of .ensures .2 (o .0) (o .1 .listed))) (members-below (o .0) (o .1 .listed) (a .cell) (b .pre .3))))
+step-others-requires c κs = let b = c .before .before .before .before .before .before .before .before in let a = b .args in let o = b .pre .0 in ((o .0, o .1 .seen .grained), o .1 .seen .queued .ranged, (subst (All (λ n. n < a .z .grains)) (sym (c .before .before .members-of .ensures .2 (o .0) (o .1 .listed))) (members-below (o .0) (o .1 .listed) (a .cell) (b .pre .3))))
 
 same-length : tie.Need-same-length
 same-length c = c .before .before .before .step-others .kept .0
@@ -57,7 +58,7 @@ part-schedule-stepped-end : tie.Need-part-schedule-stepped-end
 part-schedule-stepped-end c = let f = c .before .before .before .before .before .before .before .before .before .before .before .before .before .fits in let g = c .before .before .before .before .before .before .before .before .before .before .before .before .before .good in let k = c .before .before .before .before .before .before .before .members-of .ensures .0 in let m = c .before .before .before .before .before .before .before .members-of .ensures .1 in omega arith
 
 schedule-stepped-requires : tie.Need-schedule-stepped-requires
-schedule-stepped-requires c κs = let b = c .before .before .before .before .before .before .before .before .before .before .before .before .before .before .before .before .before .before in let a = b .args in let o = b .pre .0 in let u = after (grains-do (eachOf stepGrain (others (a .p) (midOf (c .before .before .before .before .before .before .before .before .before .before .before .before .members-of .result .from) (c .before .before .before .before .before .before .before .before .before .before .before .before .members-of .result .to - c .before .before .before .before .before .before .before .before .before .before .before .before .members-of .result .from) (a .lists .now)))) (λ s. each-step-only (others (a .p) (midOf (c .before .before .before .before .before .before .before .before .before .before .before .before .members-of .result .from) (c .before .before .before .before .before .before .before .before .before .before .before .before .members-of .result .to - c .before .before .before .before .before .before .before .before .before .before .before .before .members-of .result .from) (a .lists .now))) s) (c .before .before .before .before .before .before .before .before .before .step-others .ensures)) o in ((u .0, u .1 .seen), made-cell (a .cell) (c .before .before .before .before .before .new .ensures) (b .pre .3), b .pre .2, (subst (Every (λ n. n < a .z .grains)) (sym (c .before .before .before .before .before .before .before .before .before .before .before .before .members-of .ensures .2 (o .0) (o .1 .listed))) (members-below (o .0) (o .1 .listed) (a .cell) (b .pre .3))))
+schedule-stepped-requires c κs = let b = c .before .before .before .before .before .before .before .before .before .before .before .before .before .before .before .before .before .before in let a = b .args in let o = b .pre .0 in let u = after (grains-do (eachOf stepGrain (others (a .p) (midOf (c .before .before .before .before .before .before .before .before .before .before .before .before .members-of .result .from) (c .before .before .before .before .before .before .before .before .before .before .before .before .members-of .result .to - c .before .before .before .before .before .before .before .before .before .before .before .before .members-of .result .from) (a .lists .now)))) (λ s. each-step-only (others (a .p) (midOf (c .before .before .before .before .before .before .before .before .before .before .before .before .members-of .result .from) (c .before .before .before .before .before .before .before .before .before .before .before .before .members-of .result .to - c .before .before .before .before .before .before .before .before .before .before .before .before .members-of .result .from) (a .lists .now))) s) (c .before .before .before .before .before .before .before .before .before .step-others .ensures)) o in ((u .0, u .1 .seen), made-cell (a .cell) (c .before .before .before .before .before .new .ensures) (b .pre .3), b .pre .2, (subst (All (λ n. n < a .z .grains)) (sym (c .before .before .before .before .before .before .before .before .before .before .before .before .members-of .ensures .2 (o .0) (o .1 .listed))) (members-below (o .0) (o .1 .listed) (a .cell) (b .pre .3))))
 
 same-length-2 : tie.Need-same-length-2
 same-length-2 c = c .before .before .before .before .before .before .before .before .before .before .before .before .before .before .before .before .step-others .kept .0
@@ -72,7 +73,7 @@ same-length-5 : tie.Need-same-length-5
 same-length-5 c = c .before .before .before .before .before .before .schedule-stepped .kept .1 .1 .1 .1 .0
 
 returns-2 : tie.Need-returns-2
-returns-2 c = let b = c .before .before .before .before .before .before .before .before .before .before .before .before .before .before .before .before .before .before .before .before .before .before .before .before .before in let a = b .args in events-on (a .p) (a .cell) (midOf (c .before .before .before .before .before .before .before .before .before .before .before .before .before .before .before .before .before .before .before .members-of .result .from) (c .before .before .before .before .before .before .before .before .before .before .before .before .before .before .before .before .before .before .before .members-of .result .to - c .before .before .before .before .before .before .before .before .before .before .before .before .before .before .before .before .before .before .before .members-of .result .from) (a .lists .now)) (λ s h. c .before .before .before .before .before .before .before .before .before .before .before .before .before .before .before .before .before .before .before .members-of .ensures .2 s (h .listed)) (c .before .before .before .before .before .before .before .before .before .before .before .before .before .if1 .left) (grains-do (eachOf stepGrain (others (a .p) (midOf (c .before .before .before .before .before .before .before .before .before .before .before .before .before .before .before .before .before .before .before .members-of .result .from) (c .before .before .before .before .before .before .before .before .before .before .before .before .before .before .before .before .before .before .before .members-of .result .to - c .before .before .before .before .before .before .before .before .before .before .before .before .before .before .before .before .before .before .before .members-of .result .from) (a .lists .now)))) (λ s. each-step-only (others (a .p) (midOf (c .before .before .before .before .before .before .before .before .before .before .before .before .before .before .before .before .before .before .before .members-of .result .from) (c .before .before .before .before .before .before .before .before .before .before .before .before .before .before .before .before .before .before .before .members-of .result .to - c .before .before .before .before .before .before .before .before .before .before .before .before .before .before .before .before .before .before .before .members-of .result .from) (a .lists .now))) s) (c .before .before .before .before .before .before .before .before .before .before .before .before .before .before .before .before .step-others .ensures)) (at-index (a .p) (midOf (c .before .before .before .before .before .before .before .before .before .before .before .before .before .before .before .before .before .before .before .members-of .result .from) (c .before .before .before .before .before .before .before .before .before .before .before .before .before .before .before .before .before .before .before .members-of .result .to - c .before .before .before .before .before .before .before .before .before .before .before .before .before .before .before .before .before .before .before .members-of .result .from) (a .lists .now)) (made-index (a .w .domain) (a .cell) (c .before .before .before .before .before .before .before .before .before .before .before .before .new .ensures)) (seen-do (λ s. then (eachOf (scheduleCollision (c .before .before .before .before .before .before .before .before .before .before .before .before .new .result .index) (a .p)) (others (a .p) (midOf (c .before .before .before .before .before .before .before .before .before .before .before .before .before .before .before .before .before .before .before .members-of .result .from) (c .before .before .before .before .before .before .before .before .before .before .before .before .before .before .before .before .before .before .before .members-of .result .to - c .before .before .before .before .before .before .before .before .before .before .before .before .before .before .before .before .before .before .before .members-of .result .from) (a .lists .now))) s) (boundaries (c .before .before .before .before .before .before .before .before .before .before .before .before .new .result .index) (a .p))) (λ s h. queues-along (InLists (a .z) (a .lists .now)) s _ (stepped-only (c .before .before .before .before .before .before .before .before .before .before .before .before .new .result .index) (a .p) (others (a .p) (midOf (c .before .before .before .before .before .before .before .before .before .before .before .before .before .before .before .before .before .before .before .members-of .result .from) (c .before .before .before .before .before .before .before .before .before .before .before .before .before .before .before .before .before .before .before .members-of .result .to - c .before .before .before .before .before .before .before .before .before .before .before .before .before .before .before .before .before .before .before .members-of .result .from) (a .lists .now))) s) h) (c .before .before .before .before .before .before .schedule-stepped .ensures)))
+returns-2 c = let b = c .before .before .before .before .before .before .before .before .before .before .before .before .before .before .before .before .before .before .before .before .before .before .before .before .before in let a = b .args in events-on (a .p) (a .cell) (midOf (c .before .before .before .before .before .before .before .before .before .before .before .before .before .before .before .before .before .before .before .members-of .result .from) (c .before .before .before .before .before .before .before .before .before .before .before .before .before .before .before .before .before .before .before .members-of .result .to - c .before .before .before .before .before .before .before .before .before .before .before .before .before .before .before .before .before .before .before .members-of .result .from) (a .lists .now)) (λ s h. c .before .before .before .before .before .before .before .before .before .before .before .before .before .before .before .before .before .before .before .members-of .ensures .2 s (h .listed)) (c .before .before .before .before .before .before .before .before .before .before .before .before .before .if1 .left) (grains-do (eachOf stepGrain (others (a .p) (midOf (c .before .before .before .before .before .before .before .before .before .before .before .before .before .before .before .before .before .before .before .members-of .result .from) (c .before .before .before .before .before .before .before .before .before .before .before .before .before .before .before .before .before .before .before .members-of .result .to - c .before .before .before .before .before .before .before .before .before .before .before .before .before .before .before .before .before .before .before .members-of .result .from) (a .lists .now)))) (λ s. each-step-only (others (a .p) (midOf (c .before .before .before .before .before .before .before .before .before .before .before .before .before .before .before .before .before .before .before .members-of .result .from) (c .before .before .before .before .before .before .before .before .before .before .before .before .before .before .before .before .before .before .before .members-of .result .to - c .before .before .before .before .before .before .before .before .before .before .before .before .before .before .before .before .before .before .before .members-of .result .from) (a .lists .now))) s) (c .before .before .before .before .before .before .before .before .before .before .before .before .before .before .before .before .step-others .ensures)) (at-index (a .p) (midOf (c .before .before .before .before .before .before .before .before .before .before .before .before .before .before .before .before .before .before .before .members-of .result .from) (c .before .before .before .before .before .before .before .before .before .before .before .before .before .before .before .before .before .before .before .members-of .result .to - c .before .before .before .before .before .before .before .before .before .before .before .before .before .before .before .before .before .before .before .members-of .result .from) (a .lists .now)) (index-cell (a .w .domain) (a .cell) (c .before .before .before .before .before .before .before .before .before .before .before .before .new .ensures)) (seen-do (λ s. then (eachOf (scheduleCollision (c .before .before .before .before .before .before .before .before .before .before .before .before .new .result .index) (a .p)) (others (a .p) (midOf (c .before .before .before .before .before .before .before .before .before .before .before .before .before .before .before .before .before .before .before .members-of .result .from) (c .before .before .before .before .before .before .before .before .before .before .before .before .before .before .before .before .before .before .before .members-of .result .to - c .before .before .before .before .before .before .before .before .before .before .before .before .before .before .before .before .before .before .before .members-of .result .from) (a .lists .now))) s) (boundaries (c .before .before .before .before .before .before .before .before .before .before .before .before .new .result .index) (a .p))) (λ s h. queues-along (InLists (a .z) (a .lists .now)) s _ (stepped-only (c .before .before .before .before .before .before .before .before .before .before .before .before .new .result .index) (a .p) (others (a .p) (midOf (c .before .before .before .before .before .before .before .before .before .before .before .before .before .before .before .before .before .before .before .members-of .result .from) (c .before .before .before .before .before .before .before .before .before .before .before .before .before .before .before .before .before .before .before .members-of .result .to - c .before .before .before .before .before .before .before .before .before .before .before .before .before .before .before .before .before .before .before .members-of .result .from) (a .lists .now))) s) h) (c .before .before .before .before .before .before .schedule-stepped .ensures)))
 
 pub schedule-events-spec : {M : Type 1} → statement M
 schedule-events-spec =

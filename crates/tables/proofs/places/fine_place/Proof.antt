@@ -1,7 +1,6 @@
 use Rattle.tables.proofs.Runs.{fine-is}
-use Rattle.cell.proofs.Laws.{both, neither}
-use mathlib.Core.Path.{_≡_, refl, sym, _∙_}
-use native.Mathlib.Omega.{arith}
+use Rattle.halting.proofs.Bools.{both, neither}
+use mathlib.Core.Path.{refl, sym, _∙_}
 use borrow.Author.Needs.{needs}
 use Rattle.tables.proofs.places.fine_place.Statement.{statement}
 use Rattle.tables.proofs.places.fine_place.Tie as tie

@@ -52,7 +52,7 @@ remove-sub-remove-2 : (t : ℕ) → remove-lts.Need-sub-remove-2 (Rd t) (remove-
 remove-sub-remove-2 t c = let b = c .before .before .before .before in let q = has-some (b .args .x) (b .args .n) (b .args .nums .now) (b .pre .1 .1) in omega (arith, q .0, q .1, b .pre .1 .0)
 
 remove-remove-requires : (t : ℕ) → remove-lts.Need-remove-requires (Rd t) (remove-at t) remove.Post
-remove-remove-requires t c κs = let b = c .before .before .before .before in let q = has-some (b .args .x) (b .args .n) (b .args .nums .now) (b .pre .1 .1) in (omega (arith, b .pre .0, q .0), (simp (length-take, length-drop) (omega (arith, b .pre .1 .0, q .1)), has-rest (b .args .x) (b .args .n) (b .args .nums .now) (b .pre .1 .1) (c .before .if1 .left)))
+remove-remove-requires t c κs = let b = c .before .before .before .before in let q = has-some (b .args .x) (b .args .n) (b .args .nums .now) (b .pre .1 .1) in (omega (arith, b .pre .0, q .0), (simp (length-take, length-drop) (omega (arith, b .pre .1 .0, q .1)), has-rest (b .args .x) (b .args .n) (b .args .nums .now) (b .pre .1 .0) (b .pre .1 .1) (c .before .if1 .left)))
 
 remove-same-length-2 : (t : ℕ) → remove-lts.Need-same-length-2 (Rd t) (remove-at t) remove.Post
 remove-same-length-2 t c = search needs

@@ -1,5 +1,6 @@
-use Rattle.tables.proofs.RowLaws.{row-fits, row-first, row-tail}
-use lib.ListN.{length-take, length-drop}
+use Rattle.tables.proofs.RowLaws.{row-fits, row-live}
+use mathlib.Core.Path.{ap, _∙_}
+use Rattle.model.specs.State.{has}
 use native.Mathlib.Omega.{arith}
 use borrow.Author.Needs.{needs}
 use Rattle.tables.proofs.rows.lists.Statement.{statement}
@@ -24,7 +25,7 @@ has-requires : tie.Need-has-requires
 has-requires c κs = let b = c .before .before .before in omega (arith, row-fits (b .pre .0) (b .pre .1))
 
 returns : tie.Need-returns
-returns c = let b = c .before .before .before .before in λ r e. c .has .ensures (r .live) (r .spare) (row-first r e) (row-tail r e)
+returns c = let b = c .before .before .before .before in λ r e. c .has .ensures ∙ ap (has (b .args .x)) (row-live r e)
 
 pub lists-spec : {M : Type 1} → statement M
 lists-spec =

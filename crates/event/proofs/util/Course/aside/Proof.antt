@@ -1,6 +1,6 @@
 -- `aside` answers the neighbour on the side that the grain moves to. Assumes nothing.
 use mathlib.Core.Path.{refl}
-use Rattle.cell.proofs.Laws.{taken, left}
+use Rattle.halting.proofs.Bools.{taken, left}
 use Rattle.event.proofs.util.Course.aside.Statement.{statement}
 use Rattle.event.proofs.util.Course.aside.Tie as tie
 

@@ -1,21 +1,20 @@
-use mathlib.Core.Path.{_≡_}
+use mathlib.Core.Path.{_≡_, _∙_}
 use mathlib.Core.Bool.{Bool, true, false}
-use borrow.Author.Tests.{eq-eqb, ne-eqb}
 use Prim.Native.Nat.{_≤_, _-_}
 use lib.ListN.{length, take}
 use Rattle.model.specs.State.{has}
-use Rattle.checks.proofs.Cut.{some, tail-long, take-none, take-step}
-use Rattle.checks.proofs.Lists.{has-none, has-yes, has-more}
+use Rattle.chunks.proofs.Laws.{some, tail-long}
+use Rattle.tables.proofs.RowLaws.{has-none, has-here, has-more}
 use native.Mathlib.Omega.{arith}
 use borrow.Author.Needs.{needs}
-use Rattle.checks.proofs.rows.has.Statement.{statement}
-use Rattle.checks.proofs.rows.has.Tie as tie
+use Rattle.tables.proofs.rows.has.Statement.{statement}
+use Rattle.tables.proofs.rows.has.Tie as tie
 
 abbrev Inv-loop : tie.InvT-loop
-Inv-loop nums k x rest₀ left₀ rest left = (left ≤ length rest) × ((r : Bool) → r ≡ has x (take left rest) → r ≡ has x (take k nums))
+Inv-loop nums n x rest₀ left₀ rest left = (left ≤ length rest) × ((r : Bool) → r ≡ has x (take left rest) → r ≡ has x (take n nums))
 
 abbrev μ-loop : tie.MeasureT-loop
-μ-loop nums k x rest₀ left₀ rest left = left
+μ-loop nums n x rest₀ left₀ rest left = left
 
 loop-holds : tie.Need-loop-holds Inv-loop μ-loop
 loop-holds c = (search needs, λ r e. e)
@@ -24,7 +23,7 @@ shared-slice-read-if1 : tie.Need-shared-slice-read-if1 Inv-loop μ-loop
 shared-slice-read-if1 c = search needs
 
 returns : tie.Need-returns Inv-loop μ-loop
-returns c = let l = c .before .before .before .loop in let a = c .before .before .before .before .args in l .inv .1 true (has-yes (a .x) _ _ (take-step (l .left) (l .rest .now) 0 (some (c .before .before .loop-test .taken)) (l .inv .0)) (eq-eqb _ _ (c .if1 .taken)))
+returns c = let l = c .before .before .before .loop in let a = c .before .before .before .before .args in l .inv .1 true (has-here (a .x) (l .left) (l .rest .now) (some (c .before .before .loop-test .taken)) (l .inv .0) (c .if1 .taken))
 
 sub-rest : tie.Need-sub-rest Inv-loop μ-loop
 sub-rest c = search needs
@@ -42,10 +41,10 @@ loop-less : tie.Need-loop-less Inv-loop μ-loop
 loop-less c = search needs
 
 loop-again : tie.Need-loop-again Inv-loop μ-loop
-loop-again c = let l = c .before .before .before .before .loop in let a = c .before .before .before .before .before .args in let e = tail-long 1 (l .rest .now) in (omega arith, λ r e. l .inv .1 r (has-more (a .x) _ _ (take-step (l .left) (l .rest .now) 0 (some (c .before .before .before .loop-test .taken)) (l .inv .0)) (ne-eqb _ _ (c .before .if1 .left)) e))
+loop-again c = let l = c .before .before .before .before .loop in let a = c .before .before .before .before .before .args in let e = tail-long 1 (l .rest .now) in (omega arith, λ r e. l .inv .1 r (e ∙ has-more (a .x) (l .left) (l .rest .now) (some (c .before .before .before .loop-test .taken)) (l .inv .0) (c .before .if1 .left)))
 
 returns-2 : tie.Need-returns-2 Inv-loop μ-loop
-returns-2 c = let l = c .before .loop in l .inv .1 false (has-none _ (take-none (l .left) (l .rest .now) (omega arith)))
+returns-2 c = let l = c .before .loop in l .inv .1 false (has-none _ (l .left) (l .rest .now) (omega arith))
 
 pub has-spec : {M : Type 1} → statement M
 has-spec =
