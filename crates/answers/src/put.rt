@@ -6,7 +6,6 @@ ghost use Rattle.answers.specs.Answer.{answered};
 ghost use Rattle.answers.specs.Runs.{boxed, spelt, served, judged};
 use crate::rows;
 use crate::runs;
-use crate::runs::Outcome;
 use listing_text::Answer;
 use listing_text::Reader;
 use listing_text::bits_of_float;
@@ -15,6 +14,7 @@ use listing_text::put_answer;
 use listing_text::put_listing;
 use listing_text::too_large;
 use model::Domain;
+use model::Report;
 use myvec::MyVec;
 
 // The box that was read.
@@ -26,13 +26,20 @@ fn box_of(numbers: &[u64; 10]) -> Domain
 }
 
 // The listing of n grains, or the line that says why there is none.
-fn put_outcome(out: &mut [u8; 4096], outcome: Outcome, bits: &[u64; 160], n: usize) -> usize
-    ensures { λ r. ⌜ Put 0 (spelt outcome n (now (bits .entry))) (now (out .entry)) (now (out .exit)) r ⌝ }
+fn put_report(out: &mut [u8; 4096], report: Report, bits: &[u64; 160], n: usize) -> usize
+    ensures { λ r. ⌜ Put 0 (spelt report n (now (bits .entry))) (now (out .entry)) (now (out .exit)) r ⌝ }
 {
-    match outcome {
-        Outcome::Synchronised(clock) => put_listing(out, bits_of_float(clock), bits, n),
-        Outcome::Spent => put_answer(out, Answer::Spent),
-        Outcome::Refused(number) => put_answer(out, Answer::Refused(number)),
+    match report {
+        Report::Synchronised { clock, events: _ } => put_listing(out, bits_of_float(clock), bits, n),
+        Report::Spent {
+            clock: _,
+            events: _,
+        } => put_answer(out, Answer::Spent),
+        Report::Refused {
+            number,
+            clock: _,
+            events: _,
+        } => put_answer(out, Answer::Refused(number)),
     }
 }
 
@@ -45,8 +52,8 @@ fn put_served(out: &mut [u8; 4096], numbers: &[u64; 10], grains: &[u64; 160], n:
     rows::floats(grains, &mut inputs);
     let mut bits = [0u64; 160];
     let rate = float_of_bits(numbers[4]);
-    let outcome = runs::serve(box_of(numbers), n, rate, &inputs, &mut bits);
-    put_outcome(out, outcome, &bits, n)
+    let report = runs::serve(box_of(numbers), n, rate, &inputs, &mut bits);
+    put_report(out, report, &bits, n)
 }
 
 // The answer to a text of the form.

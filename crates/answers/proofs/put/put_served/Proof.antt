@@ -22,14 +22,14 @@ box-of-requires c κs = search needs
 serve-requires : tie.Need-serve-requires
 serve-requires c κs = search needs
 
-put-outcome-requires : tie.Need-put-outcome-requires
-put-outcome-requires c κs = search needs
+put-report-requires : tie.Need-put-report-requires
+put-report-requires c κs = search needs
 
 returns : tie.Need-returns
 returns c =
     let a = c .before .before .before .before .before .before .before .before .before .before .before .before .before .args in
     let s = c .before .before .before .serve .ensures in
-    served-put (a .numbers .now) (a .grains .now) (a .n) _ _ _ _ _ _ _ _ (c .before .before .before .before .before .before .box-of .ensures) (c .before .before .before .before .before .before .before .float-of-bits .ensures) (c .before .before .before .before .before .before .before .before .before .before .floats .ensures) (s .0) (s .1) (c .put-outcome .ensures)
+    served-put (a .numbers .now) (a .grains .now) (a .n) _ _ _ _ _ _ _ _ (c .before .before .before .before .before .before .box-of .ensures) (c .before .before .before .before .before .before .before .float-of-bits .ensures) (c .before .before .before .before .before .before .before .before .before .before .floats .ensures) (s .0) (s .1) (c .put-report .ensures)
 
 pub put-served-spec : {M : Type 1} → statement M
 put-served-spec =
@@ -41,5 +41,5 @@ put-served-spec =
     float-of-bits-requires
     box-of-requires
     serve-requires
-    put-outcome-requires
+    put-report-requires
     returns)
