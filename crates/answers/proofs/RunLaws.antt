@@ -49,34 +49,26 @@ told-back (Synchronised c n) t = refl
 told-back (Spent c n) t = refl
 told-back (Refused k c n) t = refl
 
-module _ (o : Report) (b : Domain) (n : ℕ) (rate : Float) (inputs : List Float) (u : Tables)
-    (e : toldTables o u ≡ simulated b n rate inputs (tables (replicate 591 0) (replicate 195 fzero) (replicate 2313 0) (replicate 5760 fzero) (replicate 512 0))) where
-  pub serve-report : o ≡ reportOf (simulated b n rate inputs blank)
-  unfolding blank
-  serve-report = sym (told-back o u) ∙ ap reportOf e
+pub serve-ends : (o : Report) (b : Domain) (n : ℕ) (rate : Float) (inputs : List Float) (u : Tables) (v s : List ℕ)
+    → toldTables o u ≡ simulated b n rate inputs (tables (replicate 591 0) (replicate 195 fzero) (replicate 2313 0) (replicate 5760 fzero) (replicate 512 0))
+    → v ≡ flat fiveOf (map shown (grainsOf n (grainsPart (u .grains)))) ++ drop (n * 5) s
+    → (o ≡ reportOf (simulated b n rate inputs blank)) × (v ≡ flat fiveOf (map shown (grainsOf n (grainsPart ((simulated b n rate inputs blank) .after .grains)))) ++ drop (n * 5) s)
+unfolding blank
+serve-ends o b n rate inputs u v s e h =
+    (sym (told-back o u) ∙ ap reportOf e, h ∙ ap (λ (x : RanTables). flat fiveOf (map shown (grainsOf n (grainsPart (x .after .grains)))) ++ drop (n * 5) s) e)
 
-  pub serve-rows : (v s : List ℕ) → v ≡ flat fiveOf (map shown (grainsOf n (grainsPart (u .grains)))) ++ drop (n * 5) s
-      → v ≡ flat fiveOf (map shown (grainsOf n (grainsPart ((simulated b n rate inputs blank) .after .grains)))) ++ drop (n * 5) s
-  unfolding blank
-  serve-rows v s h = h ∙ ap (λ (x : RanTables). flat fiveOf (map shown (grainsOf n (grainsPart (x .after .grains)))) ++ drop (n * 5) s) e
-
-pub served-put : (numbers grains : List ℕ) (n : ℕ) (b : Domain) (rate : Float) (inputs : List Float) (o : Report) (v s u : List ℕ) (k : ℕ) → b ≡ boxed numbers → rate ≡ float (getD numbers 4 0) → inputs ≡ map float grains
-    → o ≡ reportOf (simulated b n rate inputs blank) → v ≡ flat fiveOf (map shown (grainsOf n (grainsPart ((simulated b n rate inputs blank) .after .grains)))) ++ drop (n * 5) (replicate 160 0)
-    → Put 0 (spelt o n v) s u k → Put 0 (served numbers grains n) s u k
+pub served-put : (b : Domain) (rate : Float) (grains : List ℕ) (n : ℕ) (inputs : List Float) (o : Report) (v s u : List ℕ) (k : ℕ) → inputs ≡ map float grains
+    → (o ≡ reportOf (simulated b n rate inputs blank)) × (v ≡ flat fiveOf (map shown (grainsOf n (grainsPart ((simulated b n rate inputs blank) .after .grains)))) ++ drop (n * 5) (replicate 160 0))
+    → Put 0 (spelt o n v) s u k → Put 0 (served b rate grains n) s u k
 unfolding served
-served-put numbers grains n b rate inputs o v s u k eb er ei eo ev p =
-    put-as ((λ i. spelt (eo i) n (ev i)) ∙ (λ i. spelling (simulated (eb i) n (er i) (ei i) blank) n)) p
+served-put b rate grains n inputs o v s u k ei e p = put-as ((λ i. spelt (e .0 i) n (e .1 i)) ∙ (λ i. spelling (simulated b n rate (ei i) blank) n)) p
 
--- ---- too large, or served
-pub large-put : (numbers grains : List ℕ) (n : ℕ) (x : Bool) (a b : Float) (s u : List ℕ) (k : ℕ) → a ≡ float (getD numbers 0 0) → b ≡ float (getD numbers 1 0) → x ≡ tooLarge n a b → x ≡ true
-    → Put 0 (answerOf answer.TooLarge) s u k → Put 0 (judged numbers grains n) s u k
+-- ---- too large, or served: by the test x, which is y
+pub judged-put : (numbers grains : List ℕ) (n : ℕ) (x y : Bool) (b : Domain) (s u : List ℕ) (k : ℕ) → b ≡ boxed numbers → x ≡ tooLarge n (b .lengths .x) (b .lengths .y) → x ≡ y
+    → Put 0 (pick y (answerOf answer.TooLarge) (served (boxed numbers) (float (getD numbers 4 0)) grains n)) s u k → Put 0 (judged numbers grains n) s u k
 unfolding judged
-large-put numbers grains n x a b s u k ea eb e h p = put-as (sym (ap (λ (y : Bool). pick y (answerOf answer.TooLarge) (served numbers grains n)) ((λ i. tooLarge n (sym ea i) (sym eb i)) ∙ sym e ∙ h))) p
-
-pub small-put : (numbers grains : List ℕ) (n : ℕ) (x : Bool) (a b : Float) (s u : List ℕ) (k : ℕ) → a ≡ float (getD numbers 0 0) → b ≡ float (getD numbers 1 0) → x ≡ tooLarge n a b → x ≡ false
-    → Put 0 (served numbers grains n) s u k → Put 0 (judged numbers grains n) s u k
-unfolding judged
-small-put numbers grains n x a b s u k ea eb e h p = put-as (sym (ap (λ (y : Bool). pick y (answerOf answer.TooLarge) (served numbers grains n)) ((λ i. tooLarge n (sym ea i) (sym eb i)) ∙ sym e ∙ h))) p
+judged-put numbers grains n x y b s u k eb e h p =
+    put-as (ap (λ (z : Bool). pick z (answerOf answer.TooLarge) (served (boxed numbers) (float (getD numbers 4 0)) grains n)) (sym h ∙ e ∙ ap (λ (w : Domain). tooLarge n (w .lengths .x) (w .lengths .y)) eb)) p
 
 pub few : (n : ℕ) (a b : Float) (x : Bool) → x ≡ tooLarge n a b → x ≡ false → n ≤ 32
 few n a b x e h = ltb-false 32 n (by (ltb 32 n) (sym e ∙ h))

@@ -214,7 +214,7 @@ module _ (numbers grains : List ℕ) (n : ℕ) (long : length grains ≡ 160) wh
   box-fits : Fits (boxed numbers)
   box-fits = record { first = ofBits-fits binary64 (getD numbers 0 0); second = ofBits-fits binary64 (getD numbers 1 0) }
 
-  small-is : ltb 32 n ≡ false → longLength (float (getD numbers 0 0)) ≡ false → longLength (float (getD numbers 1 0)) ≡ false → served numbers grains n ≡ afterStart rate (start (boxed numbers) room (map grainIn (grainsFrom grains 0 n)))
+  small-is : ltb 32 n ≡ false → longLength (float (getD numbers 0 0)) ≡ false → longLength (float (getD numbers 1 0)) ≡ false → served (boxed numbers) rate grains n ≡ afterStart rate (start (boxed numbers) room (map grainIn (grainsFrom grains 0 n)))
   unfolding served
   small-is h p q =
       let few = ltb-false 32 n h in
@@ -226,7 +226,7 @@ module _ (numbers grains : List ℕ) (n : ℕ) (long : length grains ≡ 160) wh
   judged-is = by (tooLarge n (float (getD numbers 0 0)) (float (getD numbers 1 0))) refl ∙ ap (λ (k : ℕ). pick (tooLarge k (float (getD numbers 0 0)) (float (getD numbers 1 0))) (answerOf TooLarge) (afterStart rate (start (boxed numbers) room (map grainIn (grainsFrom grains 0 n))))) (sym (counted n 0 grains))
     where
       by : (x : Bool) → tooLarge n (float (getD numbers 0 0)) (float (getD numbers 1 0)) ≡ x
-          → pick (tooLarge n (float (getD numbers 0 0)) (float (getD numbers 1 0))) (answerOf TooLarge) (served numbers grains n)
+          → pick (tooLarge n (float (getD numbers 0 0)) (float (getD numbers 1 0))) (answerOf TooLarge) (served (boxed numbers) rate grains n)
           ≡ pick (tooLarge n (float (getD numbers 0 0)) (float (getD numbers 1 0))) (answerOf TooLarge) (afterStart rate (start (boxed numbers) room (map grainIn (grainsFrom grains 0 n))))
       by true e = rw e
       by false e = let k = split (ltb 32 n) (longLength (float (getD numbers 0 0))) (longLength (float (getD numbers 1 0))) e in rw e (small-is (k .0) (k .1) (k .2))

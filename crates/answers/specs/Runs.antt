@@ -74,8 +74,8 @@ rows n t = flat fiveOf (map shown (grainsOf n (grainsPart (t .grains)))) ++ drop
 abbrev pub spelling : RanTables → ℕ → List ℕ
 spelling r n = spelt (reportOf r) n (rows n (r .after))
 
-unfoldable pub served : List ℕ → List ℕ → ℕ → List ℕ
-served numbers grains n = spelling (simulated (boxed numbers) n (float (getD numbers 4 0)) (map float grains) blank) n
+unfoldable pub served : Domain → Float → List ℕ → ℕ → List ℕ
+served b rate grains n = spelling (simulated b n rate (map float grains) blank) n
 
 unfoldable pub judged : List ℕ → List ℕ → ℕ → List ℕ
-judged numbers grains n = pick (tooLarge n (float (getD numbers 0 0)) (float (getD numbers 1 0))) (answerOf answer.TooLarge) (served numbers grains n)
+judged numbers grains n = pick (tooLarge n (float (getD numbers 0 0)) (float (getD numbers 1 0))) (answerOf answer.TooLarge) (served (boxed numbers) (float (getD numbers 4 0)) grains n)
