@@ -172,24 +172,32 @@ fn border_holds(kind: u64, domain: Domain, cell: Cell, w: &[u64; 20], want: Want
     as_wanted(plan, want)
 }
 
+fn plan_holds(kind: u64, domain: Domain, named: Named, w: &[u64; 20], want: Want) -> bool
+    requires { ⌜ OfBox domain named ⌝ }
+{
+    let Named::Cell(cell) = named else {
+        return false;
+    };
+    if kind == 1 {
+        return collision_holds(domain, cell, w, want);
+    }
+    border_holds(kind, domain, cell, w, want)
+}
+
 // A scheduling: a collision's case has 20 words before what is wanted, any other's 12.
 fn schedule_holds(kind: u64) -> bool {
     let mut w = [0u64; 20];
-    let n: usize = if kind == 1 { 20 } else { 12 };
-    let full = words::fill(&mut w[..n]);
+    let full = if kind == 1 {
+        words::fill(&mut w)
+    } else {
+        words::fill(&mut w[..12])
+    };
     let want = wanted();
     if !full || !flagged(&w) {
         return false;
     }
     let domain = domain_of(&w);
-    let named = cell_of(domain, w[5]);
-    let Named::Cell(cell) = named else {
-        return false;
-    };
-    if kind == 1 {
-        return collision_holds(domain, cell, &w, want);
-    }
-    border_holds(kind, domain, cell, &w, want)
+    plan_holds(kind, domain, cell_of(domain, w[5]), &w, want)
 }
 
 fn stepping_holds() -> bool {
