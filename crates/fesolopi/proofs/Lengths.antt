@@ -30,6 +30,14 @@ passed true true e = (refl, refl)
 passed true false e = absurd (omega (arith, e))
 passed false y e = absurd (omega (arith, e))
 
+-- no length wraps
+pub record Few (n room c : ℕ) : Type 0 where
+  pub grains : n ≤ 256
+  pub small : room ≤ 256
+  pub cells : c ≤ 256
+  pub places : c * (room * 4 + 1) ≤ 256 * 1025
+  pub floats : c * (room * 10) ≤ 256 * 2560
+
 module _ (b : Domain) (n room r : ℕ) (e : r ≡ refusedBy b n room) (z : r ≡ 0) where
   both : (boxOk b ≡ true) × (countsOk room n ≡ true)
   both = passed (boxOk b) (countsOk room n) (sym e ∙ z)
@@ -37,24 +45,27 @@ module _ (b : Domain) (n room r : ℕ) (e : r ≡ refusedBy b n room) (z : r ≡
   pub laid : (g : Grid) → g ≡ gridOf b → Laid b g
   laid g f = record { box = both .0; grid = f }
 
-  pub few-grains : n ≤ 256
+  few-grains : n ≤ 256
   few-grains = leb-true _ _ (and-l (leb n 256) _ (both .1))
 
-  pub small-room : room ≤ 256
+  small-room : room ≤ 256
   small-room = leb-true _ _ (and-r (leb 16 room) _ (and-r (leb n 256) _ (both .1)))
 
   module _ (g : Grid) (c : ℕ) (f : g ≡ gridOf b) (k : c ≡ g .n0 * g .n1) where
     counted : c ≡ cells b
     counted = cells-counted b g c f k
 
-    pub few-cells : c ≤ 256
+    few-cells : c ≤ 256
     few-cells = subst (λ m. m ≤ 256) (sym counted) (cells-max b (both .0))
 
-    pub few-places : c * (room * 4 + 1) ≤ 256 * 1025
-    few-places = mul-le-mul {m₁ = room * 4 + 1} {n₂ = 256} {m₂ = 1025} few-cells (let h = small-room in omega (arith, h))
-
-    pub few-floats : c * (room * 10) ≤ 256 * 2560
-    few-floats = mul-le-mul {m₁ = room * 10} {n₂ = 256} {m₂ = 2560} few-cells (let h = small-room in omega (arith, h))
+    pub few : Few n room c
+    few = record {
+      grains = few-grains;
+      small = small-room;
+      cells = few-cells;
+      places = mul-le-mul {m₁ = room * 4 + 1} {n₂ = 256} {m₂ = 1025} few-cells (let h = small-room in omega (arith, h));
+      floats = mul-le-mul {m₁ = room * 10} {n₂ = 256} {m₂ = 2560} few-cells (let h = small-room in omega (arith, h));
+    }
 
     pub all-needed : neededBy n (record { grains = n; cells = c; room = room }) ≡ neededFor b n room
     all-needed = ap (λ (m : ℕ). neededBy n (record { grains = n; cells = m; room = room })) counted ∙ rw (both .0, both .1)
