@@ -1,59 +1,51 @@
+-- `put_grain` meets its contract. Assumes nothing.
+use Prim.Native.Nat.{_+_, _*_}
 use native.Mathlib.Omega.{arith}
+use lib.ListN.{length-set}
+use Rattle.listing_text.proofs.Putting.{put-one, put-then, put-length, pair-as}
 use borrow.Author.Needs.{needs}
 use Rattle.listing_text.proofs.writer.put_grain.Statement.{statement}
 use Rattle.listing_text.proofs.writer.put_grain.Tie as tie
-use Rattle.listing_text.proofs.writer.put_grain.Reads as reads
-use Rattle.listing_text.proofs.writer.put_grain.Lts as lts
-use Rattle.listing_text.proofs.writer.put_field.Reads as put-field-reads
-use Rattle.listing_text.proofs.writer.put_pair.Reads as put-pair-reads
 
--- src/writer.rt:84:13
 mul-j : tie.Need-mul-j
 mul-j c = search needs
 
--- src/writer.rt:85:9
 put-pair-requires : tie.Need-put-pair-requires
 put-pair-requires c κs = search needs
 
--- src/writer.rt:86:50
 add-put-pair : tie.Need-add-put-pair
 add-put-pair c = search needs
 
--- src/writer.rt:86:9
 put-pair-requires-2 : tie.Need-put-pair-requires-2
 put-pair-requires-2 c κs = search needs
 
--- src/writer.rt:87:45
 add-put-field : tie.Need-add-put-field
 add-put-field c = search needs
 
--- src/writer.rt:87:37
 mul-put-field : tie.Need-mul-put-field
 mul-put-field c = search needs
 
--- src/writer.rt:87:37
 shared-slice-read-put-field : tie.Need-shared-slice-read-put-field
 shared-slice-read-put-field c = search needs
 
--- src/writer.rt:87:9
 put-field-requires : tie.Need-put-field-requires
 put-field-requires c κs = search needs
 
--- src/writer.rt:88:5
 slice-write-out : tie.Need-slice-write-out
 slice-write-out c = search needs
 
--- src/writer.rt:89:5
 add-result : tie.Need-add-result
 add-result c = search needs
 
--- src/writer.rt:80:1
 same-length : tie.Need-same-length
-same-length c = search needs
+same-length c = simp length-set (put-length (put-then (put-then (c .before .before .before .before .before .before .before .before .before .before .before .put-pair .ensures) (c .before .before .before .before .before .before .before .put-pair2 .ensures)) (c .before .before .put-field .ensures)))
 
--- src/writer.rt:80:1
 returns : tie.Need-returns
-returns c = ?
+returns c =
+    let a = c .before .before .before .before .before .before .before .before .before .before .before .before .before .before .before .args in
+    let j = a .i * 5 in
+    let second = pair-as (a .numbers .now) (j + 2) (j + 2 + 1) (j + 3) (omega arith) (c .before .before .before .before .before .before .before .put-pair2 .ensures) in
+    put-then (put-then (put-then (c .before .before .before .before .before .before .before .before .before .before .before .put-pair .ensures) second) (c .before .before .put-field .ensures)) (put-one (c .before .before .put-field .result) 10 (c .before .before .put-field .last .0) (search needs))
 
 pub put-grain-spec : {M : Type 1} → statement M
 put-grain-spec =
