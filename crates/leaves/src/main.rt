@@ -31,20 +31,11 @@ use model::Plan;
 use myvec::MyVec;
 use particle::Spans;
 use tables::places;
+use words::NONE;
 use words::Word;
+use words::next;
 
 // ---- what is read
-
-// A word that is no count and no answer.
-const NONE: u64 = 18446744073709551615;
-
-fn next() -> u64 {
-    let word = words::read();
-    match word {
-        Word::Bits(bits) => bits,
-        _ => NONE,
-    }
-}
 
 fn vec(x: u64, y: u64) -> MyVec {
     MyVec::new(float_of_bits(x), float_of_bits(y))
@@ -116,12 +107,14 @@ fn same_numbers(s: Place, w: &[u64; 14]) -> bool {
     s.kind == w[0] && (s.p == w[1] && (s.q == w[2] && s.cell == w[3]))
 }
 
+fn same_vecs(s: Place, w: &[u64; 14]) -> bool {
+    same_vec(s.a, w[5], w[6])
+        && (same_vec(s.b, w[7], w[8])
+            && (same_vec(s.c, w[9], w[10]) && same_vec(s.d, w[11], w[12])))
+}
+
 fn same_floats(s: Place, w: &[u64; 14]) -> bool {
-    bits_of_float(s.time) == w[4]
-        && (same_vec(s.a, w[5], w[6])
-            && (same_vec(s.b, w[7], w[8])
-                && (same_vec(s.c, w[9], w[10])
-                    && (same_vec(s.d, w[11], w[12]) && bits_of_float(s.val) == w[13]))))
+    bits_of_float(s.time) == w[4] && (same_vecs(s, w) && bits_of_float(s.val) == w[13])
 }
 
 fn due_as_wanted(s: Place, want: Want) -> bool {

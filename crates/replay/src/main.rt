@@ -16,20 +16,9 @@ use model::Domain;
 use model::Report;
 use model::Started;
 use myvec::MyVec;
-use words::Word;
+use words::next;
 
 // ---- what is read
-
-// A word that is no length, no count and no command.
-const NONE: u64 = 18446744073709551615;
-
-fn next() -> u64 {
-    let word = words::read();
-    match word {
-        Word::Bits(bits) => bits,
-        _ => NONE,
-    }
-}
 
 fn next_float() -> f64 {
     float_of_bits(next())
