@@ -1,4 +1,4 @@
--- What a report or an answer says, as an outcome; and the answers' bytes. Assumes nothing.
+-- Two runs behind a start, and the answers' bytes. Assumes nothing.
 use Prim.Native.Nat.{ℕ, _*_, _≤_}
 use mathlib.Core.Path.{_≡_, refl, sym, ap, _∙_}
 use mathlib.Core.List.{List, _++_, map}
@@ -12,69 +12,64 @@ use Rattle.order.specs.Numbers.{fzero}
 use Rattle.chunks.specs.Flat.{flat}
 use Rattle.model.specs.declared.Domain.{Domain}
 use Rattle.model.specs.declared.Report.{Report}
+use Rattle.model.specs.declared.Report.the-variants.{Synchronised, Spent, Refused}
 use Rattle.model.specs.declared.Started.{Started}
 use Rattle.checks.specs.Decode.{Tables, tables, grainsOf, grainsPart}
-use Rattle.simulator.specs.Start.{StartedWith, with, startAll}
-use Rattle.running.specs.Ran.{toldTables}
+use Rattle.running.specs.Ran.{RanTables, toldTables}
+use Rattle.simulator.specs.Start.{with, startAll}
 use Rattle.simulator.specs.Run.{runTables}
 use Rattle.listing_text.specs.declared.writer.Answer.the-variants as answer
 use Rattle.listing_text.specs.Rows.{fiveOf}
 use Rattle.listing_text.specs.Size.{longLength, tooLarge}
 use Rattle.listing_text.specs.Answers.{Put, listed, answerOf}
 use Rattle.listing_text.proofs.Putting.{put-as}
-use Rattle.answers.specs.declared.runs.Outcome.{Outcome}
-use Rattle.answers.specs.declared.runs.Outcome.the-variants.{Synchronised}
 use Rattle.answers.specs.Answer.{float, shown, room, budget}
-use Rattle.answers.specs.Runs.{Ended, ended, ending, once, again, goOn, twice, byAnswer, begun, simulated, blank, spelt, boxed, spelling, served, judged}
+use Rattle.answers.specs.Runs.{byAnswer, begun, goOn, simulated, reportOf, blank, spelt, boxed, spelling, served, judged}
 
--- ---- one run
-pub reported : (r q : Report) (rate : Float) (t u : Tables) → toldTables r u ≡ runTables rate budget t → r ≡ q → ending (toldTables q u) ≡ once rate t
-reported r q rate t u e h = ap ending (sym (ap (λ (x : Report). toldTables x u) h) ∙ e)
+-- ---- no run behind what did not synchronise, one behind what did, two behind a start
+pub kept : (o p : Report) (rate : Float) (t : Tables) → o ≡ p → toldTables p t ≡ goOn rate (toldTables p t) → toldTables p t ≡ goOn rate (toldTables o t)
+kept o p rate t e k = k ∙ sym (ap (λ (x : Report). goOn rate (toldTables x t)) e)
 
--- ---- and another
-pub once-more : (o p : Outcome) (rate : Float) (t u : Tables) → ended o u ≡ once rate t → o ≡ p → again p rate u ≡ twice rate t
-once-more o p rate t u e h = ap (λ (x : Outcome). again x rate u) (sym h) ∙ ap (λ (x : Ended). goOn x rate) e
+pub ran : (o p : Report) (c : Float) (n : ℕ) (rate : Float) (t u : Tables) → o ≡ Synchronised c n → toldTables p u ≡ runTables rate budget t → toldTables p u ≡ goOn rate (toldTables o t)
+ran o p c n rate t u h e = e ∙ sym (ap (λ (x : Report). goOn rate (toldTables x t)) h)
 
--- ---- behind a start
-pub began : (a s : Started) (b : Domain) (n : ℕ) (rate : Float) (inputs : List Float) (t u : Tables) → with a u ≡ startAll b n room inputs t → a ≡ s → byAnswer s rate u ≡ simulated b n rate inputs t
-unfolding simulated
-began a s b n rate inputs t u e h = ap (λ (x : Started). byAnswer x rate u) (sym h) ∙ ap (λ (x : StartedWith). begun x rate) e
+module _ (b : Domain) (n : ℕ) (rate : Float) (inputs : List Float) (t : Tables) where
+  pub simulated-by : (a : Started) (o p q : Report) (u v w : Tables) → with a u ≡ startAll b n room inputs t → o ≡ byAnswer a → toldTables p v ≡ goOn rate (toldTables o u) → toldTables q w ≡ goOn rate (toldTables p v) → toldTables q w ≡ simulated b n rate inputs t
+  unfolding simulated
+  simulated-by a o p q u v w e h f g = g ∙ ap (goOn rate) (f ∙ ap (goOn rate) (ap (λ (x : Report). toldTables x u) h ∙ ap begun e))
 
 -- ---- what is written
-pub listing-put : (o : Outcome) (t : Float) (b n : ℕ) (l s u : List ℕ) (k : ℕ) → o ≡ Synchronised t → b ≡ toBits binary64 t → Put 0 (listed b n l) s u k → Put 0 (spelt o n l) s u k
-listing-put o t b n l s u k e h p = put-as (ap (λ (x : ℕ). listed x n l) h ∙ sym (ap (λ (x : Outcome). spelt x n l) e)) p
+pub listing-put : (o : Report) (t : Float) (b m n : ℕ) (l s u : List ℕ) (k : ℕ) → o ≡ Synchronised t m → b ≡ toBits binary64 t → Put 0 (listed b n l) s u k → Put 0 (spelt o n l) s u k
+listing-put o t b m n l s u k e h p = put-as (ap (λ (x : ℕ). listed x n l) h ∙ sym (ap (λ (x : Report). spelt x n l) e)) p
 
-pub outcome-put : (o q : Outcome) (n : ℕ) (l s u : List ℕ) (k : ℕ) → o ≡ q → Put 0 (spelt q n l) s u k → Put 0 (spelt o n l) s u k
-outcome-put o q n l s u k e p = put-as (sym (ap (λ (x : Outcome). spelt x n l) e)) p
+pub report-put : (o q : Report) (n : ℕ) (l s u : List ℕ) (k : ℕ) → o ≡ q → Put 0 (spelt q n l) s u k → Put 0 (spelt o n l) s u k
+report-put o q n l s u k e p = put-as (sym (ap (λ (x : Report). spelt x n l) e)) p
 
-module _ (o : Outcome) (b : Domain) (n : ℕ) (rate : Float) (inputs : List Float) (u : Tables)
-    (e : ended o u ≡ simulated b n rate inputs (tables (replicate 591 0) (replicate 195 fzero) (replicate 2313 0) (replicate 5760 fzero) (replicate 512 0))) where
-  pub serve-outcome : o ≡ (simulated b n rate inputs blank) .outcome
-  unfolding blank
-  serve-outcome = ap (λ (x : Ended). x .outcome) e
+told-back : (r : Report) (t : Tables) → reportOf (toldTables r t) ≡ r
+told-back (Synchronised c n) t = refl
+told-back (Spent c n) t = refl
+told-back (Refused k c n) t = refl
 
-  pub serve-rows : (v s : List ℕ) → v ≡ flat fiveOf (map shown (grainsOf n (grainsPart (u .grains)))) ++ drop (n * 5) s
-      → v ≡ flat fiveOf (map shown (grainsOf n (grainsPart ((simulated b n rate inputs blank) .after .grains)))) ++ drop (n * 5) s
-  unfolding blank
-  serve-rows v s h = h ∙ ap (λ (x : Ended). flat fiveOf (map shown (grainsOf n (grainsPart (x .after .grains)))) ++ drop (n * 5) s) e
+pub serve-ends : (o : Report) (b : Domain) (n : ℕ) (rate : Float) (inputs : List Float) (u : Tables) (v s : List ℕ)
+    → toldTables o u ≡ simulated b n rate inputs (tables (replicate 591 0) (replicate 195 fzero) (replicate 2313 0) (replicate 5760 fzero) (replicate 512 0))
+    → v ≡ flat fiveOf (map shown (grainsOf n (grainsPart (u .grains)))) ++ drop (n * 5) s
+    → (o ≡ reportOf (simulated b n rate inputs blank)) × (v ≡ flat fiveOf (map shown (grainsOf n (grainsPart ((simulated b n rate inputs blank) .after .grains)))) ++ drop (n * 5) s)
+unfolding blank
+serve-ends o b n rate inputs u v s e h =
+    (sym (told-back o u) ∙ ap reportOf e, h ∙ ap (λ (x : RanTables). flat fiveOf (map shown (grainsOf n (grainsPart (x .after .grains)))) ++ drop (n * 5) s) e)
 
-pub served-put : (numbers grains : List ℕ) (n : ℕ) (b : Domain) (rate : Float) (inputs : List Float) (o : Outcome) (v s u : List ℕ) (k : ℕ) → b ≡ boxed numbers → rate ≡ float (getD numbers 4 0) → inputs ≡ map float grains
-    → o ≡ (simulated b n rate inputs blank) .outcome → v ≡ flat fiveOf (map shown (grainsOf n (grainsPart ((simulated b n rate inputs blank) .after .grains)))) ++ drop (n * 5) (replicate 160 0)
-    → Put 0 (spelt o n v) s u k → Put 0 (served numbers grains n) s u k
+pub served-put : (b : Domain) (rate : Float) (grains : List ℕ) (n : ℕ) (inputs : List Float) (o : Report) (v s u : List ℕ) (k : ℕ) → inputs ≡ map float grains
+    → (o ≡ reportOf (simulated b n rate inputs blank)) × (v ≡ flat fiveOf (map shown (grainsOf n (grainsPart ((simulated b n rate inputs blank) .after .grains)))) ++ drop (n * 5) (replicate 160 0))
+    → Put 0 (spelt o n v) s u k → Put 0 (served b rate grains n) s u k
 unfolding served
-served-put numbers grains n b rate inputs o v s u k eb er ei eo ev p =
-    put-as ((λ i. spelt (eo i) n (ev i)) ∙ (λ i. spelling (simulated (eb i) n (er i) (ei i) blank) n)) p
+served-put b rate grains n inputs o v s u k ei e p = put-as ((λ i. spelt (e .0 i) n (e .1 i)) ∙ (λ i. spelling (simulated b n rate (ei i) blank) n)) p
 
--- ---- too large, or served
-pub large-put : (numbers grains : List ℕ) (n : ℕ) (x : Bool) (a b : Float) (s u : List ℕ) (k : ℕ) → a ≡ float (getD numbers 0 0) → b ≡ float (getD numbers 1 0) → x ≡ tooLarge n a b → x ≡ true
-    → Put 0 (answerOf answer.TooLarge) s u k → Put 0 (judged numbers grains n) s u k
+-- ---- too large, or served: by the test x, which is y
+pub judged-put : (numbers grains : List ℕ) (n : ℕ) (x y : Bool) (b : Domain) (s u : List ℕ) (k : ℕ) → b ≡ boxed numbers → x ≡ tooLarge n (b .lengths .x) (b .lengths .y) → x ≡ y
+    → Put 0 (pick y (answerOf answer.TooLarge) (served (boxed numbers) (float (getD numbers 4 0)) grains n)) s u k → Put 0 (judged numbers grains n) s u k
 unfolding judged
-large-put numbers grains n x a b s u k ea eb e h p = put-as (sym (ap (λ (y : Bool). pick y (answerOf answer.TooLarge) (served numbers grains n)) ((λ i. tooLarge n (sym ea i) (sym eb i)) ∙ sym e ∙ h))) p
-
-pub small-put : (numbers grains : List ℕ) (n : ℕ) (x : Bool) (a b : Float) (s u : List ℕ) (k : ℕ) → a ≡ float (getD numbers 0 0) → b ≡ float (getD numbers 1 0) → x ≡ tooLarge n a b → x ≡ false
-    → Put 0 (served numbers grains n) s u k → Put 0 (judged numbers grains n) s u k
-unfolding judged
-small-put numbers grains n x a b s u k ea eb e h p = put-as (sym (ap (λ (y : Bool). pick y (answerOf answer.TooLarge) (served numbers grains n)) ((λ i. tooLarge n (sym ea i) (sym eb i)) ∙ sym e ∙ h))) p
+judged-put numbers grains n x y b s u k eb e h p =
+    put-as (ap (λ (z : Bool). pick z (answerOf answer.TooLarge) (served (boxed numbers) (float (getD numbers 4 0)) grains n)) (sym h ∙ e ∙ ap (λ (w : Domain). tooLarge n (w .lengths .x) (w .lengths .y)) eb)) p
 
 pub few : (n : ℕ) (a b : Float) (x : Bool) → x ≡ tooLarge n a b → x ≡ false → n ≤ 32
 few n a b x e h = ltb-false 32 n (by (ltb 32 n) (sym e ∙ h))

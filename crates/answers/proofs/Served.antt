@@ -32,6 +32,7 @@ use Rattle.starting.specs.Cleared.{sizesFor, cleared}
 use Rattle.simulator.specs.Start.{fits, StartedWith, with, leaving, startAll}
 use Rattle.simulator.specs.Start as simulator
 use Rattle.running.specs.Ran.{RanTables}
+use Rattle.simulator.specs.Run.{runTables}
 use Rattle.simulator.proofs.Kept.{all-kept}
 use Rattle.simulator.proofs.Encoded.{Long, decoded-encoded}
 use Rattle.simulator.proofs.Ran.{sizes-same, run-over}
@@ -43,7 +44,7 @@ use Rattle.listing_text.specs.Reading.{closedOf, fineOf}
 use Rattle.listing_text.specs.Answers.{listingOf, answerOf}
 use Rattle.listing_text.specs.Size.{longLength, tooLarge}
 use Rattle.answers.specs.Answer.{float, shown, grainIn, room, budget, byHow, listing, toNext, byMark, afterStart, answerTo, inputFrom, inputOf, answered}
-use Rattle.answers.specs.Runs.{ending, again, goOn, twice, begun, simulated, blank, spelt, boxed, rows, spelling, served, judged}
+use Rattle.answers.specs.Runs.{begun, goOn, simulated, blank, spelt, boxed, rows, spelling, served, judged}
 use Rattle.answers.specs.Runs as runs
 use Rattle.answers.proofs.RowLaws.{inputs-are, shown-back}
 use Rattle.answers.proofs.NineCells.{nine-cells}
@@ -147,31 +148,34 @@ module _ (b : Domain) (F : Fits b) (n : ℕ) (few : n ≤ 32) (nine : cells b �
       ap (λ (ps : List Particle). grainsFrom (flat fiveOf (map shown ps) ++ drop (n * 5) (replicate {A = ℕ} 160 0)) 0 n) grains-read
       ∙ shown-back (map shown (v .grains)) n (length-map (v .grains) shown ∙ many) few
 
-  listing-is : (h : How) → spelt (runs.byHow h (second .clock)) n (rows n (encoded v ground)) ≡ byHow h (listingOf (toBits binary64 (second .clock)) (map shown (v .grains)))
+  listing-is : (h : How) → spelt (runs.byHow h (second .clock) (second .count)) n (rows n (encoded v ground)) ≡ byHow h (listingOf (toBits binary64 (second .clock)) (map shown (v .grains)))
   listing-is synchronised = ap (λ (x : Bool). cond x [] (listingOf (toBits binary64 (second .clock)) (grainsFrom (rows n (encoded v ground)) 0 n))) (le-ltb 32 n few) ∙ ap (listingOf (toBits binary64 (second .clock))) shown-read
   listing-is spent = refl
   listing-is (refusedBy r) = refl
 
-  next-is : (h : How) (t : Float) → spelling (again (runs.byHow h t) rate (encoded u ground)) n ≡ byHow h (listing second)
-  next-is synchronised t = ap (λ (x : RanTables). spelling (ending x) n) (run-over u ground (well-u .sound) long-u rate budget) ∙ listing-is (second .how)
-  next-is spent t = refl
-  next-is (refusedBy r) t = refl
+  next-is : (h : How) (t : Float) (k : ℕ) → spelling (goOn rate (record { how = h; clock = t; count = k; after = encoded u ground })) n ≡ byHow h (listing second)
+  next-is synchronised t k = ap (λ (x : RanTables). spelling x n) (run-over u ground (well-u .sound) long-u rate budget) ∙ listing-is (second .how)
+  next-is spent t k = refl
+  next-is (refusedBy r) t k = refl
 
-  twice-is : spelling (twice rate (encoded s ground)) n ≡ toNext rate first
-  twice-is = ap (λ (x : RanTables). spelling (goOn (ending x) rate) n) (run-over s ground (well .sound) long-s rate budget) ∙ next-is (first .how) (first .clock)
+  runs-are : spelling (goOn rate (runTables rate budget (encoded s ground))) n ≡ toNext rate first
+  runs-are = ap (λ (x : RanTables). spelling (goOn rate x) n) (run-over s ground (well .sound) long-s rate budget) ∙ next-is (first .how) (first .clock) (first .count)
 
 -- ---- a start
 module _ (b : Domain) (F : Fits b) (n : ℕ) (few : n ≤ 32) (inputs : List Float) (rate : Float) where
-  begun-is : cells b ≡ 9 → (x : Begun) → start b room (inputsOf n inputs) ≡ x → spelling (begun (leaving x blank) rate) n ≡ afterStart rate x
+  abbrev bothRuns : StartedWith → RanTables
+  bothRuns w = goOn rate (goOn rate (begun w))
+
+  begun-is : cells b ≡ 9 → (x : Begun) → start b room (inputsOf n inputs) ≡ x → spelling (bothRuns (leaving x blank)) n ≡ afterStart rate x
   begun-is nine (refused r g) e = by (eqb r 4) refl
     where
-      by : (y : Bool) → eqb r 4 ≡ y → spelling (begun (with (pick y (start-answer.BadGrain g) (start-answer.Refused r)) blank) rate) n ≡ answerOf (Refused r)
+      by : (y : Bool) → eqb r 4 ≡ y → spelling (bothRuns (with (pick y (start-answer.BadGrain g) (start-answer.Refused r)) blank)) n ≡ answerOf (Refused r)
       by true h = ap (λ (k : ℕ). answerOf (Refused k)) (sym (eqb-true r 4 h))
       by false h = refl
   begun-is nine (started s) e = by (s .mark)
     where
-      by : (m : ℕ) → spelling (begun (with (simulator.byMark m) (encoded s ground)) rate) n ≡ byMark m (toNext rate (runAll rate budget s))
-      by zero = twice-is b F n few nine inputs rate s e
+      by : (m : ℕ) → spelling (bothRuns (with (simulator.byMark m) (encoded s ground))) n ≡ byMark m (toNext rate (runAll rate budget s))
+      by zero = runs-are b F n few nine inputs rate s e
       by (suc r) = refl
 
   open-start : boxOk b ≡ true → cells b ≡ 9 → n * 5 ≤ length inputs → startAll b n room inputs blank ≡ leaving (start b room (inputsOf n inputs)) blank
@@ -190,9 +194,9 @@ module _ (b : Domain) (F : Fits b) (n : ℕ) (few : n ≤ 32) (inputs : List Flo
   unfolding simulated
   served-is k p q = by (boxOk b) refl
     where
-      by : (x : Bool) → boxOk b ≡ x → spelling (begun (startAll b n room inputs blank) rate) n ≡ afterStart rate (start b room (inputsOf n inputs))
-      by true h = let nine = nine-cells b (F .first) (F .second) h p q in ap (λ (w : StartedWith). spelling (begun w rate) n) (open-start h nine k) ∙ begun-is nine (start b room (inputsOf n inputs)) refl
-      by false h = ap (λ (w : StartedWith). spelling (begun w rate) n) (shut-tables h) ∙ sym (ap (afterStart rate) (shut-start h))
+      by : (x : Bool) → boxOk b ≡ x → spelling (bothRuns (startAll b n room inputs blank)) n ≡ afterStart rate (start b room (inputsOf n inputs))
+      by true h = let nine = nine-cells b (F .first) (F .second) h p q in ap (λ (w : StartedWith). spelling (bothRuns w) n) (open-start h nine k) ∙ begun-is nine (start b room (inputsOf n inputs)) refl
+      by false h = ap (λ (w : StartedWith). spelling (bothRuns w) n) (shut-tables h) ∙ sym (ap (afterStart rate) (shut-start h))
 
 -- ---- the numbers that were read
 pub counted : (k i : ℕ) (l : List ℕ) → length (grainsFrom l i k) ≡ k
@@ -212,7 +216,7 @@ module _ (numbers grains : List ℕ) (n : ℕ) (long : length grains ≡ 160) wh
   box-fits : Fits (boxed numbers)
   box-fits = record { first = ofBits-fits binary64 (getD numbers 0 0); second = ofBits-fits binary64 (getD numbers 1 0) }
 
-  small-is : ltb 32 n ≡ false → longLength (float (getD numbers 0 0)) ≡ false → longLength (float (getD numbers 1 0)) ≡ false → served numbers grains n ≡ afterStart rate (start (boxed numbers) room (map grainIn (grainsFrom grains 0 n)))
+  small-is : ltb 32 n ≡ false → longLength (float (getD numbers 0 0)) ≡ false → longLength (float (getD numbers 1 0)) ≡ false → served (boxed numbers) rate grains n ≡ afterStart rate (start (boxed numbers) room (map grainIn (grainsFrom grains 0 n)))
   unfolding served
   small-is h p q =
       let few = ltb-false 32 n h in
@@ -224,7 +228,7 @@ module _ (numbers grains : List ℕ) (n : ℕ) (long : length grains ≡ 160) wh
   judged-is = by (tooLarge n (float (getD numbers 0 0)) (float (getD numbers 1 0))) refl ∙ ap (λ (k : ℕ). pick (tooLarge k (float (getD numbers 0 0)) (float (getD numbers 1 0))) (answerOf TooLarge) (afterStart rate (start (boxed numbers) room (map grainIn (grainsFrom grains 0 n))))) (sym (counted n 0 grains))
     where
       by : (x : Bool) → tooLarge n (float (getD numbers 0 0)) (float (getD numbers 1 0)) ≡ x
-          → pick (tooLarge n (float (getD numbers 0 0)) (float (getD numbers 1 0))) (answerOf TooLarge) (served numbers grains n)
+          → pick (tooLarge n (float (getD numbers 0 0)) (float (getD numbers 1 0))) (answerOf TooLarge) (served (boxed numbers) rate grains n)
           ≡ pick (tooLarge n (float (getD numbers 0 0)) (float (getD numbers 1 0))) (answerOf TooLarge) (afterStart rate (start (boxed numbers) room (map grainIn (grainsFrom grains 0 n))))
       by true e = rw e
       by false e = let k = split (ltb 32 n) (longLength (float (getD numbers 0 0))) (longLength (float (getD numbers 1 0))) e in rw e (small-is (k .0) (k .1) (k .2))

@@ -6,7 +6,6 @@ ghost use Rattle.answers.specs.Answer.{answered};
 ghost use Rattle.answers.specs.Runs.{boxed, spelt, served, judged};
 use crate::rows;
 use crate::runs;
-use crate::runs::Outcome;
 use listing_text::Answer;
 use listing_text::Reader;
 use listing_text::bits_of_float;
@@ -15,6 +14,7 @@ use listing_text::put_answer;
 use listing_text::put_listing;
 use listing_text::too_large;
 use model::Domain;
+use model::Report;
 use myvec::MyVec;
 
 // The box that was read.
@@ -26,37 +26,55 @@ fn box_of(numbers: &[u64; 10]) -> Domain
 }
 
 // The listing of n grains, or the line that says why there is none.
-fn put_outcome(out: &mut [u8; 4096], outcome: Outcome, bits: &[u64; 160], n: usize) -> usize
-    ensures { λ r. ⌜ Put 0 (spelt outcome n (now (bits .entry))) (now (out .entry)) (now (out .exit)) r ⌝ }
+fn put_report(out: &mut [u8; 4096], report: Report, bits: &[u64; 160], n: usize) -> usize
+    ensures { λ r. ⌜ Put 0 (spelt report n (now (bits .entry))) (now (out .entry)) (now (out .exit)) r ⌝ }
 {
-    match outcome {
-        Outcome::Synchronised(clock) => put_listing(out, bits_of_float(clock), bits, n),
-        Outcome::Spent => put_answer(out, Answer::Spent),
-        Outcome::Refused(number) => put_answer(out, Answer::Refused(number)),
+    match report {
+        Report::Synchronised { clock, events: _ } => put_listing(
+            out,
+            bits_of_float(clock),
+            bits,
+            n,
+        ),
+        Report::Spent {
+            clock: _,
+            events: _,
+        } => put_answer(out, Answer::Spent),
+        Report::Refused {
+            number,
+            clock: _,
+            events: _,
+        } => put_answer(out, Answer::Refused(number)),
     }
 }
 
-// The answer to n grains in a box, of the numbers that were read.
-fn put_served(out: &mut [u8; 4096], numbers: &[u64; 10], grains: &[u64; 160], n: usize) -> usize
+// The answer to n grains in a box.
+fn put_served(
+    out: &mut [u8; 4096],
+    domain: Domain,
+    rate: f64,
+    grains: &[u64; 160],
+    n: usize,
+) -> usize
     requires { ⌜ n ≤ 32 ⌝ }
-    ensures { λ r. ⌜ Put 0 (served (now (numbers .entry)) (now (grains .entry)) n) (now (out .entry)) (now (out .exit)) r ⌝ }
+    ensures { λ r. ⌜ Put 0 (served domain rate (now (grains .entry)) n) (now (out .entry)) (now (out .exit)) r ⌝ }
 {
     let mut inputs = [0f64; 160];
     rows::floats(grains, &mut inputs);
     let mut bits = [0u64; 160];
-    let rate = float_of_bits(numbers[4]);
-    let outcome = runs::serve(box_of(numbers), n, rate, &inputs, &mut bits);
-    put_outcome(out, outcome, &bits, n)
+    let report = runs::serve(domain, n, rate, &inputs, &mut bits);
+    put_report(out, report, &bits, n)
 }
 
-// The answer to a text of the form.
+// The answer to a text of the form, of the numbers that were read.
 fn put_judged(out: &mut [u8; 4096], numbers: &[u64; 10], grains: &[u64; 160], n: u64) -> usize
     ensures { λ r. ⌜ Put 0 (judged (now (numbers .entry)) (now (grains .entry)) n) (now (out .entry)) (now (out .exit)) r ⌝ }
 {
-    if too_large(n, float_of_bits(numbers[0]), float_of_bits(numbers[1])) {
+    let domain = box_of(numbers);
+    if too_large(n, domain.lengths.x, domain.lengths.y) {
         return put_answer(out, Answer::TooLarge);
     }
-    put_served(out, numbers, grains, n as usize)
+    put_served(out, domain, float_of_bits(numbers[4]), grains, n as usize)
 }
 
 // The answer to the text that the reader was fed, written to the start of `out`; how many bytes it has.

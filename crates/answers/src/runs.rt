@@ -3,11 +3,13 @@ ghost use mathlib.Core.Path.{_≡_};
 ghost use mathlib.Core.List.{_++_, map};
 ghost use Prim.Native.Nat.{_*_, _≤_};
 ghost use lib.ListN.{drop};
+ghost use Rattle.order.specs.Numbers.{fzero};
 ghost use Rattle.chunks.specs.Flat.{flat};
 ghost use Rattle.checks.specs.Decode.{tables, grainsOf, grainsPart};
+ghost use Rattle.simulator.specs.Run.{toldTables};
 ghost use Rattle.listing_text.specs.Rows.{fiveOf};
 ghost use Rattle.answers.specs.Answer.{shown};
-ghost use Rattle.answers.specs.Runs.{ended, once, twice, simulated, blank};
+ghost use Rattle.answers.specs.Runs.{byAnswer, goOn, simulated, reportOf, blank};
 use crate::rows;
 use model::Domain;
 use model::Report;
@@ -18,61 +20,69 @@ const ROOM: u64 = 64;
 
 const BUDGET: u32 = 65536;
 
-// How it ended: synchronised, at a clock; the budget was spent; or refused or halted, by a number.
-pub(crate) enum Outcome {
-    Synchronised(f64),
-    Spent,
-    Refused(u64),
+// A start's answer, as a run's report. One that is accepted stands where a run can begin, at the clock 0.
+fn begun(started: Started) -> Report
+    ensures { λ r. ⌜ r ≡ byAnswer started ⌝ }
+{
+    match started {
+        Started::Accepted => Report::Synchronised {
+            clock: 0.0,
+            events: 0,
+        },
+        Started::Halted { number } => refused(number),
+        Started::Refused { number } => refused(number),
+        Started::BadGrain { grain: _ } => refused(4),
+    }
 }
 
-// One run.
-fn run_once(
+fn refused(number: u64) -> Report
+    ensures { λ r. ⌜ r ≡ Report.Refused number fzero 0 ⌝ }
+{
+    Report::Refused {
+        number,
+        clock: 0.0,
+        events: 0,
+    }
+}
+
+// A run, behind a start or a run that synchronised.
+fn go_on(
+    report: Report,
     lists: &mut [u64],
     grains: &mut [f64],
     queue: &mut [u64],
     events: &mut [f64],
     order: &mut [u8],
     rate: f64,
-) -> Outcome
-    ensures { λ r. ⌜ ended r (tables (now (lists .exit)) (now (grains .exit)) (now (queue .exit)) (now (events .exit)) (now (order .exit)))
-        ≡ once rate (tables (now (lists .entry)) (now (grains .entry)) (now (queue .entry)) (now (events .entry)) (now (order .entry))) ⌝ }
+) -> Report
+    ensures { λ r. ⌜ toldTables r (tables (now (lists .exit)) (now (grains .exit)) (now (queue .exit)) (now (events .exit)) (now (order .exit)))
+        ≡ goOn rate (toldTables report (tables (now (lists .entry)) (now (grains .entry)) (now (queue .entry)) (now (events .entry)) (now (order .entry)))) ⌝ }
 {
-    let report = simulator::run::run(lists, grains, queue, events, order, rate, BUDGET);
     match report {
-        Report::Synchronised { clock, events: _ } => Outcome::Synchronised(clock),
-        Report::Spent {
+        Report::Synchronised {
             clock: _,
             events: _,
-        } => Outcome::Spent,
+        } => simulator::run::run(lists, grains, queue, events, order, rate, BUDGET),
+        Report::Spent {
+            clock,
+            events: done,
+        } => Report::Spent {
+            clock,
+            events: done,
+        },
         Report::Refused {
             number,
-            clock: _,
-            events: _,
-        } => Outcome::Refused(number),
+            clock,
+            events: done,
+        } => Report::Refused {
+            number,
+            clock,
+            events: done,
+        },
     }
 }
 
-// One run, and if it synchronised another.
-fn run_twice(
-    lists: &mut [u64],
-    grains: &mut [f64],
-    queue: &mut [u64],
-    events: &mut [f64],
-    order: &mut [u8],
-    rate: f64,
-) -> Outcome
-    ensures { λ r. ⌜ ended r (tables (now (lists .exit)) (now (grains .exit)) (now (queue .exit)) (now (events .exit)) (now (order .exit)))
-        ≡ twice rate (tables (now (lists .entry)) (now (grains .entry)) (now (queue .entry)) (now (events .entry)) (now (order .entry))) ⌝ }
-{
-    let first = run_once(lists, grains, queue, events, order, rate);
-    match first {
-        Outcome::Synchronised(_) => run_once(lists, grains, queue, events, order, rate),
-        Outcome::Spent => Outcome::Spent,
-        Outcome::Refused(number) => Outcome::Refused(number),
-    }
-}
-
-// The start, and if it was accepted and did not halt both runs.
+// A start, and both runs behind it.
 fn simulate(
     domain: Domain,
     count: u64,
@@ -83,11 +93,11 @@ fn simulate(
     queue: &mut [u64],
     events: &mut [f64],
     order: &mut [u8],
-) -> Outcome
-    ensures { λ r. ⌜ ended r (tables (now (lists .exit)) (now (grains .exit)) (now (queue .exit)) (now (events .exit)) (now (order .exit)))
+) -> Report
+    ensures { λ r. ⌜ toldTables r (tables (now (lists .exit)) (now (grains .exit)) (now (queue .exit)) (now (events .exit)) (now (order .exit)))
         ≡ simulated domain count rate (now (inputs .entry)) (tables (now (lists .entry)) (now (grains .entry)) (now (queue .entry)) (now (events .entry)) (now (order .entry))) ⌝ }
 {
-    let started = simulator::start::start(
+    let started = begun(simulator::start::start(
         domain,
         count,
         ROOM,
@@ -97,13 +107,9 @@ fn simulate(
         queue,
         events,
         order,
-    );
-    match started {
-        Started::Accepted => run_twice(lists, grains, queue, events, order, rate),
-        Started::Halted { number } => Outcome::Refused(number),
-        Started::Refused { number } => Outcome::Refused(number),
-        Started::BadGrain { grain: _ } => Outcome::Refused(4),
-    }
+    ));
+    let first = go_on(started, lists, grains, queue, events, order, rate);
+    go_on(first, lists, grains, queue, events, order, rate)
 }
 
 // The same on tables of nine cells, 32 grains and room for 64 events, and the grains' numbers as bits.
@@ -113,9 +119,9 @@ pub(crate) fn serve(
     rate: f64,
     inputs: &[f64; 160],
     bits: &mut [u64; 160],
-) -> Outcome
+) -> Report
     requires { ⌜ n ≤ 32 ⌝ }
-    ensures { λ r. ⌜ r ≡ (simulated domain n rate (now (inputs .entry)) blank) .outcome ⌝ }
+    ensures { λ r. ⌜ r ≡ reportOf (simulated domain n rate (now (inputs .entry)) blank) ⌝ }
     ensures { λ r. ⌜ now (bits .exit) ≡ flat fiveOf (map shown (grainsOf n (grainsPart ((simulated domain n rate (now (inputs .entry)) blank) .after .grains)))) ++ drop (n * 5) (now (bits .entry)) ⌝ }
 {
     let mut lists = [0u64; 591];
@@ -123,7 +129,7 @@ pub(crate) fn serve(
     let mut queue = [0u64; 2313];
     let mut events = [0f64; 5760];
     let mut order = [0u8; 512];
-    let outcome = simulate(
+    let report = simulate(
         domain,
         n as u64,
         rate,
@@ -135,5 +141,5 @@ pub(crate) fn serve(
         &mut order,
     );
     rows::show(&grains, n, bits);
-    outcome
+    report
 }

@@ -1,16 +1,15 @@
 -- What the program tests of a case before it asks. Assumes nothing: these are definitions.
-use Prim.Native.Nat.{ℕ, _≤_, _<_}
-use mathlib.Core.Path.{_≡_}
-use mathlib.Core.Bool.{true}
+use Prim.Native.Nat.{_≤_}
 use Rattle.model.specs.declared.Domain.{Domain}
-use Rattle.model.specs.Sizes.{boxOk}
-use Rattle.model.specs.Grid.{cells}
+use Rattle.cell.specs.Cell.{IsCell}
 use Rattle.particle.specs.declared.Spans.{Spans}
+use Rattle.leaves.specs.declared.Named.{Named}
+use Rattle.leaves.specs.declared.Named.the-variants as named
 
--- a box is in range, and has a cell
-pub record Has (b : Domain) (c : ℕ) : Type 0 where
-  pub box : boxOk b ≡ true
-  pub cell : c < cells b
+-- the cell that a case names is one of the box
+abbrev pub OfBox : Domain → Named → Type 0
+OfBox b (named.Cell c) = IsCell b c
+OfBox b named.Nothing = Unit
 
 -- spans of cells are in order and short
 pub record Small (s : Spans) : Type 0 where

@@ -14,7 +14,7 @@ ghost use mathlib.Core.Path.{_≡_};
 ghost use mathlib.Core.Bool.{true};
 ghost use Prim.Native.Nat.{_≤_};
 ghost use Rattle.cell.specs.Cell.{IsCell};
-ghost use Rattle.leaves.specs.Tested.{Has, Small};
+ghost use Rattle.leaves.specs.Tested.{OfBox, Small};
 use cell::Cell;
 use cell::Grid;
 use event::inter_particle_collision;
@@ -31,20 +31,11 @@ use model::Plan;
 use myvec::MyVec;
 use particle::Spans;
 use tables::places;
+use words::NONE;
 use words::Word;
+use words::next;
 
 // ---- what is read
-
-// A word that is no count and no answer.
-const NONE: u64 = 18446744073709551615;
-
-fn next() -> u64 {
-    let word = words::read();
-    match word {
-        Word::Bits(bits) => bits,
-        _ => NONE,
-    }
-}
 
 fn vec(x: u64, y: u64) -> MyVec {
     MyVec::new(float_of_bits(x), float_of_bits(y))
@@ -68,18 +59,25 @@ fn flagged(w: &[u64; 20]) -> bool {
     w[2] < 2 && w[3] < 2
 }
 
-// Whether a box is in range and has a cell.
-fn has_cell(domain: Domain, cell: u64) -> bool
-    ensures { λ r. ⌜ (r ≡ true → Has domain cell) ⌝ }
+// The cell that a case names.
+enum Named {
+    Cell(Cell),
+    Nothing,
+}
+
+// The box's cell of this index; nothing where the box is out of range or has fewer.
+fn cell_of(domain: Domain, index: u64) -> Named
+    ensures { λ r. ⌜ OfBox domain r ⌝ }
 {
     if !cell::box_ok(domain) {
-        return false;
+        return Named::Nothing;
     }
-    let cells = Grid::new(domain).cells();
-    if cell < cells as u64 {
-        return true;
+    let grid = Grid::new(domain);
+    let cells = grid.cells();
+    if index < cells as u64 {
+        return Named::Cell(Cell::new(domain, grid, index as usize));
     }
-    false
+    Named::Nothing
 }
 
 // ---- what was planned
@@ -109,12 +107,14 @@ fn same_numbers(s: Place, w: &[u64; 14]) -> bool {
     s.kind == w[0] && (s.p == w[1] && (s.q == w[2] && s.cell == w[3]))
 }
 
+fn same_vecs(s: Place, w: &[u64; 14]) -> bool {
+    same_vec(s.a, w[5], w[6])
+        && (same_vec(s.b, w[7], w[8])
+            && (same_vec(s.c, w[9], w[10]) && same_vec(s.d, w[11], w[12])))
+}
+
 fn same_floats(s: Place, w: &[u64; 14]) -> bool {
-    bits_of_float(s.time) == w[4]
-        && (same_vec(s.a, w[5], w[6])
-            && (same_vec(s.b, w[7], w[8])
-                && (same_vec(s.c, w[9], w[10])
-                    && (same_vec(s.d, w[11], w[12]) && bits_of_float(s.val) == w[13]))))
+    bits_of_float(s.time) == w[4] && (same_vecs(s, w) && bits_of_float(s.val) == w[13])
 }
 
 fn due_as_wanted(s: Place, want: Want) -> bool {
@@ -135,27 +135,11 @@ fn as_wanted(plan: Plan, want: Want) -> bool {
 
 // ---- one case of each section; all its words are read
 
-fn cell_of(domain: Domain, index: u64) -> Cell
-    requires { ⌜ Has domain index ⌝ }
-    ensures { λ r. ⌜ IsCell domain r ⌝ }
+fn collision_holds(domain: Domain, cell: Cell, w: &[u64; 20], want: Want) -> bool
+    requires { ⌜ IsCell domain cell ⌝ }
 {
-    Cell::new(domain, Grid::new(domain), index as usize)
-}
-
-fn collision_holds() -> bool {
-    let mut w = [0u64; 20];
-    let full = words::fill(&mut w);
-    let want = wanted();
-    let domain = domain_of(&w);
-    if !full || !flagged(&w) {
-        return false;
-    }
-    if !has_cell(domain, w[5]) {
-        return false;
-    }
-    let cell = cell_of(domain, w[5]);
-    let p = grain_of(&w, 6);
-    let q = grain_of(&w, 11);
+    let p = grain_of(w, 6);
+    let q = grain_of(w, 11);
     let plan = inter_particle_collision::schedule(domain, p.time, cell, 0, 1, p, q);
     same_vec(cell.apart(domain, q.pos.sub(p.pos)), w[16], w[17])
         && (same_vec(q.vel.sub(p.vel), w[18], w[19]) && as_wanted(plan, want))
@@ -171,22 +155,42 @@ fn border(kind: u64, domain: Domain, cell: Cell, dim: usize, p: Particle) -> Pla
     }
 }
 
-fn border_holds(kind: u64) -> bool {
+fn border_holds(kind: u64, domain: Domain, cell: Cell, w: &[u64; 20], want: Want) -> bool
+    requires { ⌜ IsCell domain cell ⌝ }
+{
+    if w[6] > 1 {
+        return false;
+    }
+    let plan = border(kind, domain, cell, w[6] as usize, grain_of(w, 7));
+    as_wanted(plan, want)
+}
+
+fn plan_holds(kind: u64, domain: Domain, named: Named, w: &[u64; 20], want: Want) -> bool
+    requires { ⌜ OfBox domain named ⌝ }
+{
+    let Named::Cell(cell) = named else {
+        return false;
+    };
+    if kind == 1 {
+        return collision_holds(domain, cell, w, want);
+    }
+    border_holds(kind, domain, cell, w, want)
+}
+
+// A scheduling: a collision's case has 20 words before what is wanted, any other's 12.
+fn schedule_holds(kind: u64) -> bool {
     let mut w = [0u64; 20];
-    let full = words::fill(&mut w[..12]);
+    let full = if kind == 1 {
+        words::fill(&mut w)
+    } else {
+        words::fill(&mut w[..12])
+    };
     let want = wanted();
+    if !full || !flagged(&w) {
+        return false;
+    }
     let domain = domain_of(&w);
-    if !full || (!flagged(&w) || w[6] > 1) {
-        return false;
-    }
-    if !has_cell(domain, w[5]) {
-        return false;
-    }
-    let cell = cell_of(domain, w[5]);
-    as_wanted(
-        border(kind, domain, cell, w[6] as usize, grain_of(&w, 7)),
-        want,
-    )
+    plan_holds(kind, domain, cell_of(domain, w[5]), &w, want)
 }
 
 fn stepping_holds() -> bool {
@@ -298,8 +302,7 @@ fn box_holds() -> bool {
 
 fn holds(kind: u64) -> bool {
     match kind {
-        1 => collision_holds(),
-        2 | 3 | 4 => border_holds(kind),
+        1 | 2 | 3 | 4 => schedule_holds(kind),
         5 => stepping_holds(),
         6 => cells_hold(),
         _ => box_holds(),

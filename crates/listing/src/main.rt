@@ -4,8 +4,8 @@ ghost use mathlib.Core.List.{List};
 ghost use mathlib.Core.Path.{_≡_};
 ghost use Prim.Native.Nat.{ℕ};
 ghost use Rattle.listing_text.specs.Reading.{startOf, feedAll};
+use answers::write_answer;
 use libc::STDIN_FILENO;
-use libc::STDOUT_FILENO;
 use listing_text::Reader;
 use listing_text::feed_all;
 use listing_text::start;
@@ -56,15 +56,6 @@ fn read_all() -> Turn
         turns -= 1;
     }
     turn
-}
-
-// The text is over: its answer is written.
-fn write_answer(reader: Reader) {
-    let mut out = io::buffer();
-    let n = answers::answer(reader, &mut out);
-    if !io::write_all(STDOUT_FILENO, &out[..n]) {
-        os::fail(b"standard output");
-    }
 }
 
 fn main() {

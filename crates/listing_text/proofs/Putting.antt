@@ -68,6 +68,10 @@ put-length {at} {m} {t} {s} {u} p = ap length (p .written) ∙ length-laid at t 
 pub put-as : {at m : ℕ} {t v s u : List ℕ} → t ≡ v → Put at t s u m → Put at v s u m
 put-as {at} {m} {t} {v} {s} {u} e p = subst (λ (z : List ℕ). Put at z s u m) e p
 
+-- two fields of a list, the second at a place that has another name
+pub pair-as : {at m : ℕ} {s u : List ℕ} (l : List ℕ) (a b c : ℕ) → b ≡ c → Put at ((hex (getD l a 0) ++ (44 ∷ [])) ++ (hex (getD l b 0) ++ (44 ∷ []))) s u m → Put at ((hex (getD l a 0) ++ (44 ∷ [])) ++ (hex (getD l c 0) ++ (44 ∷ []))) s u m
+pair-as l a b c e p = put-as (ap (λ (k : ℕ). (hex (getD l a 0) ++ (44 ∷ [])) ++ (hex (getD l k 0) ++ (44 ∷ []))) e) p
+
 -- ---- hexadecimal digits
 pow-sixteen : (k : ℕ) → 2 ^ (k * 4) ≡ 16 ^ k
 pow-sixteen zero = refl

@@ -2,7 +2,7 @@
 ghost use mathlib.Core.Path.{_≡_};
 ghost use mathlib.Core.List.{[], _∷_, _++_};
 ghost use Prim.Native.Nat.{_+_, _-_, _*_, _<_, _≤_};
-ghost use lib.ListN.{length, drop};
+ghost use lib.ListN.{length, getD, drop};
 ghost use Rattle.listing_text.specs.Numerals.{spell, hex, decimal};
 ghost use Rattle.listing_text.specs.Bytes.{bytes};
 ghost use Rattle.listing_text.specs.Grammar.{line, grainLine};
@@ -67,19 +67,26 @@ fn put_field(out: &mut [u8], at: usize, v: u64, end: u8) -> usize
     next + 1
 }
 
+// Two numbers, those from j on, with a comma behind each.
+fn put_pair(out: &mut [u8], at: usize, numbers: &[u64], j: usize) -> usize
+    requires { ⌜ (at + 34 ≤ length (now out)) × (j + 2 ≤ length (now numbers)) ⌝ }
+    ensures { λ r. ⌜ Put at ((hex (getD (now (numbers .entry)) j 0) ++ (44 ∷ [])) ++ (hex (getD (now (numbers .entry)) (j + 1) 0) ++ (44 ∷ []))) (now (out .entry)) (now (out .exit)) r ⌝ }
+{
+    let next = put_field(out, at, numbers[j], 44);
+    put_field(out, next, numbers[j + 1], 44)
+}
+
 // A grain's line of five numbers, those of row i.
 fn put_grain(out: &mut [u8], at: usize, numbers: &[u64], i: usize) -> usize
     requires { ⌜ (at + 86 ≤ length (now out)) × (i * 5 + 5 ≤ length (now numbers)) ⌝ }
     ensures { λ r. ⌜ Put at (grainLine (grainAt (now (numbers .entry)) i)) (now (out .entry)) (now (out .exit)) r ⌝ }
 {
     let j = i * 5;
-    let x = put_field(out, at, numbers[j], 44);
-    let y = put_field(out, x, numbers[j + 1], 44);
-    let vx = put_field(out, y, numbers[j + 2], 44);
-    let vy = put_field(out, vx, numbers[j + 3], 44);
-    let val = put_field(out, vy, numbers[j + 4], 13);
-    out[val] = 10;
-    val + 1
+    let velocity = put_pair(out, at, numbers, j);
+    let value = put_pair(out, velocity, numbers, j + 2);
+    let end = put_field(out, value, numbers[j + 4], 13);
+    out[end] = 10;
+    end + 1
 }
 
 // The listing's line for row i.

@@ -1,7 +1,7 @@
 // Answers many texts, those that the oracle writes (tools/vectors). On standard input a byte 0 ends each text, a byte 1 stands for a thousand lines
 // of one grain, and any other byte for itself. The answers follow one another on standard output.
+use answers::write_answer;
 use libc::STDIN_FILENO;
-use libc::STDOUT_FILENO;
 use listing_text::Reader;
 use listing_text::feed_all;
 use listing_text::start;
@@ -16,15 +16,6 @@ fn feed_lines(reader: Reader) -> Reader {
         );
     }
     state
-}
-
-// The text is over: its answer is written.
-fn write_answer(reader: Reader) {
-    let mut out = io::buffer();
-    let n = answers::answer(reader, &mut out);
-    if !io::write_all(STDOUT_FILENO, &out[..n]) {
-        os::fail(b"standard output");
-    }
 }
 
 // One byte.
@@ -50,36 +41,16 @@ fn take_all(reader: Reader, s: &[u8]) -> Reader {
     state
 }
 
-// What has been read so far, and whether more may follow.
-struct Turn {
-    reader: Reader,
-    more: bool,
-}
-
-// Reads once.
-fn read_some(reader: Reader) -> Turn {
-    let mut buf = io::buffer();
-    let got = libc::read(STDIN_FILENO, &mut buf);
-    if got < 0 {
-        os::fail(b"standard input");
-    }
-    let n = io::count(got, &buf);
-    let next = take_all(reader, &buf[..n]);
-    Turn {
-        reader: next,
-        more: got > 0,
-    }
-}
-
 fn main() {
-    let mut turn = Turn {
-        reader: start(),
-        more: true,
-    };
+    let mut state = start();
     let mut turns = u64::MAX;
-    while turns > 0 && turn.more {
-        let reader = turn.reader;
-        turn = read_some(reader);
+    while turns > 0 {
+        let mut buf = io::buffer();
+        let n = io::read_full(STDIN_FILENO, &mut buf);
+        if n == 0 {
+            break;
+        }
+        state = take_all(state, &buf[..n]);
         turns -= 1;
     }
 }

@@ -16,20 +16,9 @@ use model::Domain;
 use model::Report;
 use model::Started;
 use myvec::MyVec;
-use words::Word;
+use words::next;
 
 // ---- what is read
-
-// A word that is no length, no count and no command.
-const NONE: u64 = 18446744073709551615;
-
-fn next() -> u64 {
-    let word = words::read();
-    match word {
-        Word::Bits(bits) => bits,
-        _ => NONE,
-    }
-}
 
 fn next_float() -> f64 {
     float_of_bits(next())
@@ -49,6 +38,24 @@ fn next_domain() -> Domain {
     let periodic0 = next() == 1;
     let periodic1 = next() == 1;
     Domain::new(MyVec::new(x, y), periodic0, periodic1)
+}
+
+// What a start is asked for, but for its inputs.
+struct Asked {
+    domain: Domain,
+    count: u64,
+    room: u64,
+}
+
+fn next_start() -> Asked {
+    let domain = next_domain();
+    let count = next();
+    let room = next();
+    Asked {
+        domain,
+        count,
+        room,
+    }
 }
 
 fn fill_floats(t: &mut [f64]) {
@@ -145,21 +152,18 @@ fn close(lists: &[u64], grains: &[f64], queue: &[u64], events: &[f64], order: &[
     text(b"\n");
 }
 
+// An answer's name, and what stands beside it.
+fn answer(name: &[u8], n: u64) {
+    text(name);
+    number(n);
+}
+
 fn answer_start(started: Started) {
     match started {
         Started::Accepted => text(b"accepted"),
-        Started::Halted { number: n } => {
-            text(b"halted");
-            number(n);
-        }
-        Started::Refused { number: n } => {
-            text(b"refused");
-            number(n);
-        }
-        Started::BadGrain { grain } => {
-            text(b"grain");
-            number(grain);
-        }
+        Started::Halted { number } => answer(b"halted", number),
+        Started::Refused { number } => answer(b"refused", number),
+        Started::BadGrain { grain } => answer(b"grain", grain),
     }
 }
 
@@ -179,12 +183,11 @@ fn answer_run(report: Report) {
             done(clock, events);
         }
         Report::Refused {
-            number: n,
+            number,
             clock,
             events,
         } => {
-            text(b"refused");
-            number(n);
+            answer(b"refused", number);
             done(clock, events);
         }
     }
@@ -288,14 +291,12 @@ fn start(
     events: &mut [f64],
     order: &mut [u8],
 ) {
-    let domain = next_domain();
-    let count = next();
-    let room = next();
+    let asked = next_start();
     fill_floats(inputs);
     answer_start(simulator::start::start(
-        domain,
-        count,
-        room,
+        asked.domain,
+        asked.count,
+        asked.room,
         inputs,
         lists,
         grains,

@@ -37,6 +37,18 @@ pub fn read() -> Word {
     spelled(&text)
 }
 
+// A word that is no length, no count and no answer.
+pub const NONE: u64 = 18446744073709551615;
+
+// The next word, or NONE where it is none.
+pub fn next() -> u64 {
+    let word = read();
+    match word {
+        Word::Bits(bits) => bits,
+        _ => NONE,
+    }
+}
+
 // Fills a table with the next words; false at the first that is none.
 pub fn fill(t: &mut [u64]) -> bool {
     let mut i = 0;

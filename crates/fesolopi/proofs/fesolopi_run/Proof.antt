@@ -17,19 +17,19 @@ run-number-requires : tie.Need-run-number-requires
 run-number-requires c κs = search needs
 
 same-length : tie.Need-same-length
-same-length c = search needs
+same-length c = c .before .before .before .before .before .before .before .before .before .before .before .before .lists .given
 
 same-length-2 : tie.Need-same-length-2
-same-length-2 c = search needs
+same-length-2 c = c .before .before .before .before .before .before .before .before .before .before .grains .given
 
 same-length-3 : tie.Need-same-length-3
-same-length-3 c = search needs
+same-length-3 c = c .before .before .before .before .before .before .before .before .queue .given
 
 same-length-4 : tie.Need-same-length-4
-same-length-4 c = search needs
+same-length-4 c = c .before .before .before .before .before .before .events .given
 
 same-length-5 : tie.Need-same-length-5
-same-length-5 c = search needs
+same-length-5 c = c .before .before .before .before .order .given
 
 returns : tie.Need-returns
 returns c = run-told (c .before .before .before .before .before .before .before .before .before .before .before .before .before .run .result) _ _ _ _ _ (c .run-number .ensures) (c .before .before .clock-told .ensures) (c .before .events-told .ensures) (c .before .before .before .before .before .before .before .before .before .before .before .before .before .run .ensures)

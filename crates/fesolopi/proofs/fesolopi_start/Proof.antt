@@ -14,19 +14,19 @@ start-number-requires : tie.Need-start-number-requires
 start-number-requires c κs = search needs
 
 same-length : tie.Need-same-length
-same-length c = search needs
+same-length c = c .before .before .before .before .before .before .before .before .before .before .before .lists .given
 
 same-length-2 : tie.Need-same-length-2
-same-length-2 c = search needs
+same-length-2 c = c .before .before .before .before .before .before .before .before .before .grains .given
 
 same-length-3 : tie.Need-same-length-3
-same-length-3 c = search needs
+same-length-3 c = c .before .before .before .before .before .before .before .queue .given
 
 same-length-4 : tie.Need-same-length-4
-same-length-4 c = search needs
+same-length-4 c = c .before .before .before .before .before .events .given
 
 same-length-5 : tie.Need-same-length-5
-same-length-5 c = search needs
+same-length-5 c = c .before .before .before .order .given
 
 returns : tie.Need-returns
 returns c = start-told (c .before .before .before .before .before .before .before .before .before .before .before .before .start .result) _ _ _ _ (c .start-number .ensures) (c .before .grain-named .ensures) (c .before .before .before .before .before .before .before .before .before .before .before .before .start .ensures)

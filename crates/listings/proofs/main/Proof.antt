@@ -4,10 +4,10 @@ use Rattle.listings.proofs.main.Statement.{statement}
 use Rattle.listings.proofs.main.Tie as tie
 
 abbrev Inv-loop : tie.InvT-loop
-Inv-loop turn₀ turns₀ turn turns = Unit {0}
+Inv-loop state₀ turns₀ state turns = Unit {0}
 
 abbrev μ-loop : tie.MeasureT-loop
-μ-loop turn₀ turns₀ turn turns = turns
+μ-loop state₀ turns₀ state turns = turns
 
 start-requires : tie.Need-start-requires Inv-loop μ-loop
 start-requires c κs = search needs
@@ -15,8 +15,23 @@ start-requires c κs = search needs
 loop-holds : tie.Need-loop-holds Inv-loop μ-loop
 loop-holds c = search needs
 
-read-some-requires : tie.Need-read-some-requires Inv-loop μ-loop
-read-some-requires c κs = search needs
+buffer-requires : tie.Need-buffer-requires Inv-loop μ-loop
+buffer-requires c κs = search needs
+
+slice-aggregate-read-full : tie.Need-slice-aggregate-read-full Inv-loop μ-loop
+slice-aggregate-read-full c = search needs
+
+read-full-requires : tie.Need-read-full-requires Inv-loop μ-loop
+read-full-requires c κs = search needs
+
+array-share-prefix-buf : tie.Need-array-share-prefix-buf Inv-loop μ-loop
+array-share-prefix-buf c = search needs
+
+slice-aggregate-take-all : tie.Need-slice-aggregate-take-all Inv-loop μ-loop
+slice-aggregate-take-all c = search needs
+
+take-all-requires : tie.Need-take-all-requires Inv-loop μ-loop
+take-all-requires c κs = search needs
 
 sub-turns : tie.Need-sub-turns Inv-loop μ-loop
 sub-turns c = search needs
@@ -41,7 +56,12 @@ main-spec =
     μ-loop
     start-requires
     loop-holds
-    read-some-requires
+    buffer-requires
+    slice-aggregate-read-full
+    read-full-requires
+    array-share-prefix-buf
+    slice-aggregate-take-all
+    take-all-requires
     sub-turns
     loop-less
     loop-again

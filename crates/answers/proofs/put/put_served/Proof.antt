@@ -10,36 +10,16 @@ slice-aggregate-floats c = search needs
 floats-requires : tie.Need-floats-requires
 floats-requires c κs = search needs
 
-element-copy-out-float-of-bits : tie.Need-element-copy-out-float-of-bits
-element-copy-out-float-of-bits c = search needs
-
-float-of-bits-requires : tie.Need-float-of-bits-requires
-float-of-bits-requires c κs = search needs
-
-box-of-requires : tie.Need-box-of-requires
-box-of-requires c κs = search needs
-
 serve-requires : tie.Need-serve-requires
 serve-requires c κs = search needs
 
-put-outcome-requires : tie.Need-put-outcome-requires
-put-outcome-requires c κs = search needs
+put-report-requires : tie.Need-put-report-requires
+put-report-requires c κs = search needs
 
 returns : tie.Need-returns
-returns c =
-    let a = c .before .before .before .before .before .before .before .before .before .before .before .before .before .args in
-    let s = c .before .before .before .serve .ensures in
-    served-put (a .numbers .now) (a .grains .now) (a .n) _ _ _ _ _ _ _ _ (c .before .before .before .before .before .before .box-of .ensures) (c .before .before .before .before .before .before .before .float-of-bits .ensures) (c .before .before .before .before .before .before .before .before .before .before .floats .ensures) (s .0) (s .1) (c .put-outcome .ensures)
+returns c = let a = c .before .before .before .before .before .before .before .before .before .before .args in served-put (a .domain) (a .rate) (a .grains .now) (a .n) _ (c .before .before .before .serve .result) _ _ _ _ (c .before .before .before .before .before .before .before .floats .ensures) (c .before .before .before .serve .ensures) (c .put-report .ensures)
 
 pub put-served-spec : {M : Type 1} → statement M
 put-served-spec =
     tie.close
-    (tie.spec
-    slice-aggregate-floats
-    floats-requires
-    element-copy-out-float-of-bits
-    float-of-bits-requires
-    box-of-requires
-    serve-requires
-    put-outcome-requires
-    returns)
+    (tie.spec slice-aggregate-floats floats-requires serve-requires put-report-requires returns)

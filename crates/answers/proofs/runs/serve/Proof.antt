@@ -1,5 +1,5 @@
 -- `serve` meets its contract. Assumes nothing.
-use Rattle.answers.proofs.RunLaws.{serve-outcome, serve-rows}
+use Rattle.answers.proofs.RunLaws.{serve-ends}
 use borrow.Author.Needs.{needs}
 use Rattle.answers.proofs.runs.serve.Statement.{statement}
 use Rattle.answers.proofs.runs.serve.Tie as tie
@@ -29,7 +29,7 @@ show-requires : tie.Need-show-requires
 show-requires c κs = search needs
 
 returns : tie.Need-returns
-returns c = let e = c .before .before .before .before .before .before .before .before .simulate .ensures in (serve-outcome _ _ _ _ _ _ e, serve-rows _ _ _ _ _ _ e _ _ (c .show .ensures))
+returns c = let s = c .before .before .before .before .before .before .before .before .simulate in serve-ends (s .result) _ _ _ _ _ _ _ (s .ensures) (c .show .ensures)
 
 pub serve-spec : {M : Type 1} → statement M
 serve-spec =

@@ -1,6 +1,6 @@
 -- `simulate` meets its contract. Assumes nothing.
 use mathlib.Core.Path.{_∙_}
-use Rattle.answers.proofs.RunLaws.{began}
+use Rattle.answers.proofs.RunLaws.{simulated-by}
 use borrow.Author.Needs.{needs}
 use Rattle.answers.proofs.runs.simulate.Statement.{statement}
 use Rattle.answers.proofs.runs.simulate.Tie as tie
@@ -8,124 +8,44 @@ use Rattle.answers.proofs.runs.simulate.Tie as tie
 start-requires : tie.Need-start-requires
 start-requires c κs = search needs
 
-enum-told : tie.Need-enum-told
-enum-told c = search needs
+begun-requires : tie.Need-begun-requires
+begun-requires c κs = search needs
 
-run-twice-requires : tie.Need-run-twice-requires
-run-twice-requires c κs = search needs
+go-on-requires : tie.Need-go-on-requires
+go-on-requires c κs = search needs
 
-enum-known-started : tie.Need-enum-known-started
-enum-known-started c = search needs
-
-enum-known-started-2 : tie.Need-enum-known-started-2
-enum-known-started-2 c = search needs
-
-enum-told-2 : tie.Need-enum-told-2
-enum-told-2 c = search needs
+go-on-requires-2 : tie.Need-go-on-requires-2
+go-on-requires-2 c κs = search needs
 
 same-length : tie.Need-same-length
-same-length c = search needs
+same-length c = c .before .before .before .before .before .before .before .before .before .lists3 .given ∙ c .before .before .before .before .before .before .before .before .before .before .before .before .before .before .before .before .before .before .before .before .before .before .before .before .before .lists2 .given ∙ c .before .before .before .before .before .before .before .before .before .before .before .before .before .before .before .before .before .before .before .before .before .before .before .before .before .before .before .before .before .before .before .before .before .before .before .before .before .before .before .before .before .before .lists .given
 
 same-length-2 : tie.Need-same-length-2
-same-length-2 c = search needs
+same-length-2 c = c .before .before .before .before .before .before .before .grains3 .given ∙ c .before .before .before .before .before .before .before .before .before .before .before .before .before .before .before .before .before .before .before .before .before .before .before .grains2 .given ∙ c .before .before .before .before .before .before .before .before .before .before .before .before .before .before .before .before .before .before .before .before .before .before .before .before .before .before .before .before .before .before .before .before .before .before .before .before .before .before .before .before .grains .given
 
 same-length-3 : tie.Need-same-length-3
-same-length-3 c = search needs
+same-length-3 c = c .before .before .before .before .before .queue3 .given ∙ c .before .before .before .before .before .before .before .before .before .before .before .before .before .before .before .before .before .before .before .before .before .queue2 .given ∙ c .before .before .before .before .before .before .before .before .before .before .before .before .before .before .before .before .before .before .before .before .before .before .before .before .before .before .before .before .before .before .before .before .before .before .before .before .before .before .queue .given
 
 same-length-4 : tie.Need-same-length-4
-same-length-4 c = search needs
+same-length-4 c = c .before .before .before .events3 .given ∙ c .before .before .before .before .before .before .before .before .before .before .before .before .before .before .before .before .before .before .before .events2 .given ∙ c .before .before .before .before .before .before .before .before .before .before .before .before .before .before .before .before .before .before .before .before .before .before .before .before .before .before .before .before .before .before .before .before .before .before .before .before .events .given
 
 same-length-5 : tie.Need-same-length-5
-same-length-5 c = search needs
+same-length-5 c = c .before .order3 .given ∙ c .before .before .before .before .before .before .before .before .before .before .before .before .before .before .before .before .before .order2 .given ∙ c .before .before .before .before .before .before .before .before .before .before .before .before .before .before .before .before .before .before .before .before .before .before .before .before .before .before .before .before .before .before .before .before .before .before .order .given
 
 returns : tie.Need-returns
-returns c = c .before .before .before .before .before .before .before .before .before .before .run-twice .ensures ∙ began _ _ _ _ _ _ _ _ (c .before .before .before .before .before .before .before .before .before .before .before .before .before .before .before .before .before .before .before .before .before .before .before .before .before .before .before .before .start .ensures) (c .before .before .before .before .before .before .before .before .before .before .before .before .before .before .before .before .enum-told .given .1)
-
-same-length-6 : tie.Need-same-length-6
-same-length-6 c = search needs
-
-same-length-7 : tie.Need-same-length-7
-same-length-7 c = search needs
-
-same-length-8 : tie.Need-same-length-8
-same-length-8 c = search needs
-
-same-length-9 : tie.Need-same-length-9
-same-length-9 c = search needs
-
-same-length-10 : tie.Need-same-length-10
-same-length-10 c = search needs
-
-returns-2 : tie.Need-returns-2
-returns-2 c = began _ _ _ _ _ _ _ _ (c .before .before .before .before .before .before .before .before .before .before .before .before .before .start .ensures) (c .before .started .given .1)
-
-same-length-11 : tie.Need-same-length-11
-same-length-11 c = search needs
-
-same-length-12 : tie.Need-same-length-12
-same-length-12 c = search needs
-
-same-length-13 : tie.Need-same-length-13
-same-length-13 c = search needs
-
-same-length-14 : tie.Need-same-length-14
-same-length-14 c = search needs
-
-same-length-15 : tie.Need-same-length-15
-same-length-15 c = search needs
-
-returns-3 : tie.Need-returns-3
-returns-3 c = began _ _ _ _ _ _ _ _ (c .before .before .before .before .before .before .before .before .before .before .before .before .before .start .ensures) (c .before .started2 .given .1)
-
-same-length-16 : tie.Need-same-length-16
-same-length-16 c = search needs
-
-same-length-17 : tie.Need-same-length-17
-same-length-17 c = search needs
-
-same-length-18 : tie.Need-same-length-18
-same-length-18 c = search needs
-
-same-length-19 : tie.Need-same-length-19
-same-length-19 c = search needs
-
-same-length-20 : tie.Need-same-length-20
-same-length-20 c = search needs
-
-returns-4 : tie.Need-returns-4
-returns-4 c = began _ _ _ _ _ _ _ _ (c .before .before .before .before .before .before .before .before .before .before .before .before .start .ensures) (c .enum-told2 .given .1)
+returns c = simulated-by _ _ _ _ _ (c .before .before .before .before .before .before .before .before .before .before .before .before .before .before .before .before .before .before .before .before .before .before .before .before .before .before .before .before .before .before .before .before .before .before .before .before .before .before .before .before .before .before .before .start .result) (c .before .before .before .before .before .before .before .before .before .before .before .before .before .before .before .before .before .before .before .before .before .before .before .before .before .before .before .before .before .before .before .before .begun .result) (c .before .before .before .before .before .before .before .before .before .before .before .before .before .before .before .before .before .before .before .before .before .before .before .before .before .before .go-on .result) (c .before .before .before .before .before .before .before .before .before .before .go-on2 .result) _ _ _ (c .before .before .before .before .before .before .before .before .before .before .before .before .before .before .before .before .before .before .before .before .before .before .before .before .before .before .before .before .before .before .before .before .before .before .before .before .before .before .before .before .before .before .before .start .ensures) (c .before .before .before .before .before .before .before .before .before .before .before .before .before .before .before .before .before .before .before .before .before .before .before .before .before .before .before .before .before .before .before .before .begun .ensures) (c .before .before .before .before .before .before .before .before .before .before .before .before .before .before .before .before .before .before .before .before .before .before .before .before .before .before .go-on .ensures) (c .before .before .before .before .before .before .before .before .before .before .go-on2 .ensures)
 
 pub simulate-spec : {M : Type 1} → statement M
 simulate-spec =
     tie.close
     (tie.spec
     start-requires
-    enum-told
-    run-twice-requires
-    enum-known-started
-    enum-known-started-2
-    enum-told-2
+    begun-requires
+    go-on-requires
+    go-on-requires-2
     same-length
     same-length-2
     same-length-3
     same-length-4
     same-length-5
-    returns
-    same-length-6
-    same-length-7
-    same-length-8
-    same-length-9
-    same-length-10
-    returns-2
-    same-length-11
-    same-length-12
-    same-length-13
-    same-length-14
-    same-length-15
-    returns-3
-    same-length-16
-    same-length-17
-    same-length-18
-    same-length-19
-    same-length-20
-    returns-4)
+    returns)

@@ -4,8 +4,8 @@ use lib.Seq.{length-take-le}
 use Rattle.listing_text.proofs.Putting.{put-length}
 use native.Mathlib.Omega.{arith}
 use borrow.Author.Needs.{needs}
-use Rattle.listing.proofs.write_answer.Statement.{statement}
-use Rattle.listing.proofs.write_answer.Tie as tie
+use Rattle.answers.proofs.output.write_answer.Statement.{statement}
+use Rattle.answers.proofs.output.write_answer.Tie as tie
 
 buffer-requires : tie.Need-buffer-requires
 buffer-requires c κs = search needs
