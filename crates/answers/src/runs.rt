@@ -6,7 +6,7 @@ ghost use lib.ListN.{drop};
 ghost use Rattle.order.specs.Numbers.{fzero};
 ghost use Rattle.chunks.specs.Flat.{flat};
 ghost use Rattle.checks.specs.Decode.{tables, grainsOf, grainsPart};
-ghost use Rattle.simulator.specs.Run.{toldTables};
+ghost use Rattle.running.specs.Ran.{toldTables};
 ghost use Rattle.listing_text.specs.Rows.{fiveOf};
 ghost use Rattle.answers.specs.Answer.{shown};
 ghost use Rattle.answers.specs.Runs.{byAnswer, goOn, simulated, reportOf, blank};
