@@ -20,13 +20,13 @@ use Rattle.scheduler.specs.declared.Scheduler.{Scheduler}
 use Rattle.scheduler.specs.Heap.{headIn, updated, Fit}
 use Rattle.model.specs.declared.Place.{Place}
 use Rattle.model.specs.Events.{headTime, headPlace, finePlace, insertBy, keepBy, goneBy, zeroP}
-use Rattle.model.specs.State.{Row, row, none, State, queue, heads, liveAt, requeued, withClock}
+use Rattle.model.specs.State.{Row, none, State, queue, heads, liveAt, requeued, withClock}
 use Rattle.model.specs.Acts.{insert, inserted, cancelled, first, head, taken}
 use Rattle.model.proofs.Lists.{clash}
 use Rattle.model.proofs.Queue.{length-insert}
 use Rattle.tables.specs.declared.Sizes.{Sizes}
 use Rattle.tables.specs.Layout.{places, placeNums, placeReals, queueNums, queueReals, orderBytes}
-use Rattle.tables.specs.Holds.{Ranged, Run, Good, Tabled, Heaped, Queued, Told}
+use Rattle.tables.specs.Holds.{Ranged, Run, Good, Tabled, Queued, Told}
 use Rattle.tables.proofs.Runs.{nums-long, reals-long}
 use Rattle.acts.specs.declared.queue.CellRow.{CellRow}
 use Rattle.acts.specs.Queues.{placed, without, headless, RowOf, loaded}

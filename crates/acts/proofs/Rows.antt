@@ -1,15 +1,13 @@
 -- One cell's row of events: what the acts make of its places, and that it stays a good one. Assumes nothing.
-use mathlib.Core.Path.{_≡_, refl, sym, ap, _∙_, subst}
-use Prim.Native.Nat.{ℕ, zero, suc, _+_, _-_, _*_, _≤_, _<_}
+use mathlib.Core.Path.{_≡_, refl, ap}
+use Prim.Native.Nat.{ℕ, suc, _+_, _<_}
 use native.Mathlib.Nat.{not-suc-le-zero}
 use native.Mathlib.Omega.{arith}
 use mathlib.Core.List.{List, [], _∷_, _++_, append-nil}
 use mathlib.Core.Bool.{true, false}
-use lib.ListN.{length, getD, set, replicate, length-append, length-replicate}
+use lib.ListN.{length, replicate, length-append, length-replicate}
 use lib.Ieee.{Float, lt}
-use borrow.Rule.Slice.PartMut.{midOf, putMid}
-use Rattle.chunks.specs.Flat.{flat, Every}
-use Rattle.chunks.proofs.Laws.{mid-tail, put-tail}
+use Rattle.chunks.specs.Flat.{Every}
 use Rattle.order.specs.Numbers.{last}
 use Rattle.order.proofs.Compare.{lt-asym}
 use Rattle.model.specs.declared.Place.{Place}
@@ -17,9 +15,8 @@ use Rattle.model.specs.Events.{insertBy, keepBy, goneBy, zeroP, headPlace, fine
 use Rattle.model.specs.State.{Row, row}
 use Rattle.model.specs.Standing.{All}
 use Rattle.model.proofs.Queue.{of-T, fine-top, all-insert, all-keep, length-insert, length-keep}
-use Rattle.tables.specs.Layout.{places, placeNums, placeReals}
-use Rattle.tables.specs.Holds.{Run, InRow, Good}
-use Rattle.tables.proofs.Runs.{nums-long, reals-long}
+use Rattle.tables.specs.Layout.{places}
+use Rattle.tables.specs.Holds.{Run, Good}
 use Rattle.acts.specs.Queues.{placed, without, headless}
 
 -- ---- what the leaves make of its places

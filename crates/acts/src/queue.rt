@@ -1,6 +1,6 @@
 // The acts on the cells' queues, each with its heap update.
 ghost use mathlib.Core.Path.{_≡_};
-ghost use Prim.Native.Nat.{ℕ, _+_, _*_, _<_, _≤_};
+ghost use Prim.Native.Nat.{ℕ, _+_, _*_, _<_};
 ghost use lib.ListN.{length, getD};
 ghost use Rattle.halting.specs.Out.{eachOf};
 ghost use Rattle.chunks.specs.Flat.{Every};
