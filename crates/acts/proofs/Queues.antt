@@ -13,7 +13,7 @@ use borrow.Author.Tests.{le-ltb, lt-ltb, ne-eqb}
 use borrow.Rule.Slice.PartMut.{midOf, putMid, same-len-mid}
 use Rattle.halting.specs.Out.{Out, out, pick}
 use Rattle.chunks.specs.Flat.{flat, Every}
-use Rattle.chunks.proofs.Laws.{every-at, every-set, length-flat, length-front, flat-cut, flat-set, mid-at, put-at, chunk-mid, chunk-put, chunk-in}
+use Rattle.chunks.proofs.Laws.{every-at, every-set, length-flat, length-front, flat-cut, flat-set, mid-at, put-at, chunk-mid, chunk-put}
 use Rattle.order.specs.Numbers.{last}
 use Rattle.order.proofs.Compare.{lt-irrefl}
 use Rattle.scheduler.specs.declared.Scheduler.{Scheduler}
@@ -147,6 +147,11 @@ nums-kept k nums ns n e = length-set (putMid (k .a) (k .b - k .a) nums ns) (k .a
 pub reals-kept : (k : CellRow) (reals rs : List Float) → length rs ≡ length (realsAt k reals) → length (realsPut k reals rs) ≡ length reals
 reals-kept k = same-len-mid (k .p) (k .q - k .p)
 
+-- its count is within them, where its places were changed
+pub at-in : {z : Sizes} {c : ℕ} {nums : List ℕ} {reals : List Float} {k : CellRow} → RowOf z nums reals c k → (ns : List ℕ) → length ns ≡ length (numsAt k nums)
+    → k .at < length (putMid (k .a) (k .b - k .a) nums ns)
+at-in {nums = nums} {k = k} K ns e = let m = same-len-mid (k .a) (k .b - k .a) nums ns e in omega arith
+
 module _ {z : Sizes} {nums : List ℕ} {reals : List Float} {qs : List (Row Place)} (t : Tabled z nums reals qs) {c : ℕ} {k : CellRow} (K : RowOf z nums reals c k) (h : c < z .cells) where
   abbrev old : Row Place
   old = getD qs c none
@@ -156,17 +161,6 @@ module _ {z : Sizes} {nums : List ℕ} {reals : List Float} {qs : List (Row Plac
 
   abbrev rest : List ℕ
   rest = flat queueNums (drop (suc c) qs)
-
-  -- it is within the tables
-  pub in-nums : k .b ≤ length nums
-  in-nums = let e = chunk-in c (z .cells) (wideN z) h in let l = queue-long t in omega arith
-
-  pub in-reals : k .q ≤ length reals
-  in-reals = let e = chunk-in c (z .cells) (wideR z) h in let l = events-long t in omega arith
-
-  -- its count too, where its places were changed
-  pub at-in : (ns : List ℕ) → length ns ≡ length (numsAt k nums) → k .at < length (putMid (k .a) (k .b - k .a) nums ns)
-  at-in ns e = let m = same-len-mid (k .a) (k .b - k .a) nums ns e in let l = in-nums in omega arith
 
   -- its count, and its places
   pub counted : k .n ≡ length (old .live)

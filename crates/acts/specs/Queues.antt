@@ -1,9 +1,9 @@
 -- Where one cell's row of events stands, what the acts make of it, and the scheduler that a table of 512 bytes holds. Assumes nothing: these are definitions.
-use Prim.Native.Nat.{ℕ, _+_, _*_}
+use Prim.Native.Nat.{ℕ, _+_, _*_, _≤_}
 use mathlib.Core.Path.{_≡_}
 use mathlib.Core.Bool.{Bool, cond}
 use mathlib.Core.List.{List, _∷_, _++_}
-use lib.ListN.{getD, take, drop, replicate}
+use lib.ListN.{length, getD, take, drop, replicate}
 use lib.Ieee.{Float}
 use Rattle.scheduler.specs.declared.Scheduler.{Scheduler}
 use Rattle.scheduler.specs.Heap.{headIn, childIn, parentIn}
@@ -23,7 +23,7 @@ without g r = row (keepBy g (r .live)) (replicate (goneBy g (r .live)) zeroP ++ 
 abbrev pub headless : Row Place → Row Place
 headless r = row (drop 1 (r .live)) (zeroP ∷ r .spare)
 
--- where cell c's row stands in the two tables, how many events it holds, and its head time
+-- where cell c's row stands within the two tables, how many events it holds, and its head time
 pub record RowOf (z : Sizes) (nums : List ℕ) (reals : List Float) (c : ℕ) (k : CellRow) : Type 0 where
   pub at-is : k .at ≡ c * (z .room * 4 + 1)
   pub n-is : k .n ≡ getD nums (c * (z .room * 4 + 1)) 0
@@ -32,6 +32,8 @@ pub record RowOf (z : Sizes) (nums : List ℕ) (reals : List Float) (c : ℕ) (k
   pub p-is : k .p ≡ c * (z .room * 10)
   pub q-is : k .q ≡ c * (z .room * 10) + z .room * 10
   pub head-is : k .head ≡ headIn reals nums (z .room) c
+  pub b-in : k .b ≤ length nums
+  pub q-in : k .q ≤ length reals
 
 -- ---- the scheduler of n cells that a table holds
 abbrev pub loaded : List ℕ → ℕ → Scheduler

@@ -1,4 +1,4 @@
-use Rattle.acts.proofs.Queues.{in-nums, in-reals, at-in, nums-kept, reals-kept, row-asks, update-asks, all-asks, cancel-tables, cancel-done}
+use Rattle.acts.proofs.Queues.{at-in, nums-kept, reals-kept, row-asks, update-asks, all-asks, cancel-tables, cancel-done}
 use native.Mathlib.Omega.{arith}
 use Rattle.acts.proofs.queue.cancel.Statement.{statement}
 use Rattle.acts.proofs.queue.cancel.Tie as tie
@@ -12,7 +12,7 @@ row-of-requires : tie.Need-row-of-requires
 row-of-requires c κs = let b = c .before .before .before .before .before in row-asks (b .pre .0 .1) (b .pre .1)
 
 mul-cancel : tie.Need-mul-cancel
-mul-cancel c = let b = c .before .before .before .before .before .before in let h = b .pre .1 in let q = b .pre .0 .1 in let K = c .row-of .ensures in omega (arith, in-nums (q .tables) K h)
+mul-cancel c = omega arith
 
 sub-cancel : tie.Need-sub-cancel
 sub-cancel c = omega arith
@@ -21,10 +21,10 @@ part-cancel-start : tie.Need-part-cancel-start
 part-cancel-start c = omega arith
 
 part-cancel-end : tie.Need-part-cancel-end
-part-cancel-end c = let b = c .before .before .before .before .before .before in let h = b .pre .1 in let q = b .pre .0 .1 in let K = c .row-of .ensures in in-nums (q .tables) K h
+part-cancel-end c = c .row-of .ensures .b-in
 
 mul-cancel-2 : tie.Need-mul-cancel-2
-mul-cancel-2 c = let b = c .before .before .before .before .before .before .before in let h = b .pre .1 in let q = b .pre .0 .1 in let K = c .before .row-of .ensures in omega (arith, in-reals (q .tables) K h)
+mul-cancel-2 c = omega arith
 
 sub-cancel-2 : tie.Need-sub-cancel-2
 sub-cancel-2 c = omega arith
@@ -33,16 +33,16 @@ part-cancel-start-2 : tie.Need-part-cancel-start-2
 part-cancel-start-2 c = omega arith
 
 part-cancel-end-2 : tie.Need-part-cancel-end-2
-part-cancel-end-2 c = let b = c .before .before .before .before .before .before .before in let h = b .pre .1 in let q = b .pre .0 .1 in let K = c .before .row-of .ensures in in-reals (q .tables) K h
+part-cancel-end-2 c = c .before .row-of .ensures .q-in
 
 cancel-requires : tie.Need-cancel-requires
 cancel-requires c κs = let b = c .before .before .before .before .before .before .before .before in let h = b .pre .1 in let q = b .pre .0 .1 in let K = c .before .before .row-of .ensures in all-asks q h K
 
 mul-queue : tie.Need-mul-queue
-mul-queue c = let b = c .before .before .before .before .before .before .before .before .before .before .before .before .before in let h = b .pre .1 in let q = b .pre .0 .1 in let K = c .before .before .before .before .before .before .before .row-of .ensures in omega (arith, in-nums (q .tables) K h)
+mul-queue c = omega arith
 
 slice-write-queue : tie.Need-slice-write-queue
-slice-write-queue c = let b = c .before .before .before .before .before .before .before .before .before .before .before .before .before in let h = b .pre .1 in let q = b .pre .0 .1 in let K = c .before .before .before .before .before .before .before .row-of .ensures in at-in (q .tables) K h (c .before .before .before .before .cancel .last .0) (c .before .before .before .before .cancel .kept .0)
+slice-write-queue c = at-in (c .before .before .before .before .before .before .before .row-of .ensures) (c .before .before .before .before .cancel .last .0) (c .before .before .before .before .cancel .kept .0)
 
 update-requires : tie.Need-update-requires
 update-requires c κs = let b = c .before .before .before .before .before .before .before .before .before .before .before .before .before .before .before .before in let h = b .pre .1 in let q = b .pre .0 .1 in let K = c .before .before .before .before .before .before .before .before .before .before .row-of .ensures in update-asks q h (cancel-tables (b .args .cell) (b .args .g) (b .pre .0 .0) q K h (c .before .before .before .before .before .before .before .cancel .ensures .1))

@@ -1,4 +1,4 @@
-use Rattle.acts.proofs.Queues.{no-of, yes-of, in-nums, in-reals, at-in, nums-kept, reals-kept, row-asks, update-asks, more-asks, insert-five, insert-six, insert-tables, insert-done}
+use Rattle.acts.proofs.Queues.{no-of, yes-of, at-in, nums-kept, reals-kept, row-asks, update-asks, more-asks, insert-five, insert-six, insert-tables, insert-done}
 use Rattle.model.specs.Events.{finePlace}
 use Prim.Native.Nat.{_+_}
 use mathlib.Core.Bool.{true}
@@ -33,7 +33,7 @@ returns-2 : tie.Need-returns-2
 returns-2 c = let b = c .before .before .before .before .before .before .before .before .before .before in let f : finePlace (b .args .e) ≡ true = yes-of (c .before .before .before .before .before .before .fine-place .result) (c .before .before .before .before .before .before .fine-place .ensures) (c .before .before .before .before .before .if1 .left) in λ s q. insert-six (b .args .cell) (b .args .e) s q (c .before .before .row-of .ensures) (b .pre .1) f (c .if2 .taken)
 
 mul-insert : tie.Need-mul-insert
-mul-insert c = let b = c .before .before .before .before .before .before .before .before .before .before in let h = b .pre .1 in let q = b .pre .0 .1 in let K = c .before .before .row-of .ensures in omega (arith, in-nums (q .tables) K h)
+mul-insert c = omega arith
 
 sub-insert : tie.Need-sub-insert
 sub-insert c = omega arith
@@ -42,10 +42,10 @@ part-insert-start : tie.Need-part-insert-start
 part-insert-start c = omega arith
 
 part-insert-end : tie.Need-part-insert-end
-part-insert-end c = let b = c .before .before .before .before .before .before .before .before .before .before in let h = b .pre .1 in let q = b .pre .0 .1 in let K = c .before .before .row-of .ensures in in-nums (q .tables) K h
+part-insert-end c = c .before .before .row-of .ensures .b-in
 
 mul-insert-2 : tie.Need-mul-insert-2
-mul-insert-2 c = let b = c .before .before .before .before .before .before .before .before .before .before .before in let h = b .pre .1 in let q = b .pre .0 .1 in let K = c .before .before .before .row-of .ensures in omega (arith, in-reals (q .tables) K h)
+mul-insert-2 c = omega arith
 
 sub-insert-2 : tie.Need-sub-insert-2
 sub-insert-2 c = omega arith
@@ -54,7 +54,7 @@ part-insert-start-2 : tie.Need-part-insert-start-2
 part-insert-start-2 c = omega arith
 
 part-insert-end-2 : tie.Need-part-insert-end-2
-part-insert-end-2 c = let b = c .before .before .before .before .before .before .before .before .before .before .before in let h = b .pre .1 in let q = b .pre .0 .1 in let K = c .before .before .before .row-of .ensures in in-reals (q .tables) K h
+part-insert-end-2 c = c .before .before .before .row-of .ensures .q-in
 
 insert-requires : tie.Need-insert-requires
 insert-requires c κs = let b = c .before .before .before .before .before .before .before .before .before .before .before .before in let h = b .pre .1 in let q = b .pre .0 .1 in let K = c .before .before .before .before .row-of .ensures in more-asks q h K (c .before .before .before .before .row-of .result .n) (c .before .before .if2 .left)
@@ -63,10 +63,10 @@ add-queue : tie.Need-add-queue
 add-queue c = let b = c .before .before .before .before .before .before .before .before .before .before .before .before .before .before .before .before .before in let h = b .pre .1 in let q = b .pre .0 .1 in let K = c .before .before .before .before .before .before .before .before .before .row-of .ensures in omega (arith, q .ranged .room-most)
 
 mul-queue : tie.Need-mul-queue
-mul-queue c = let b = c .before .before .before .before .before .before .before .before .before .before .before .before .before .before .before .before .before in let h = b .pre .1 in let q = b .pre .0 .1 in let K = c .before .before .before .before .before .before .before .before .before .row-of .ensures in omega (arith, in-nums (q .tables) K h)
+mul-queue c = omega arith
 
 slice-write-queue : tie.Need-slice-write-queue
-slice-write-queue c = let b = c .before .before .before .before .before .before .before .before .before .before .before .before .before .before .before .before .before in let h = b .pre .1 in let q = b .pre .0 .1 in let K = c .before .before .before .before .before .before .before .before .before .row-of .ensures in at-in (q .tables) K h (c .before .before .before .before .insert .last .0) (c .before .before .before .before .insert .kept .0)
+slice-write-queue c = at-in (c .before .before .before .before .before .before .before .before .before .row-of .ensures) (c .before .before .before .before .insert .last .0) (c .before .before .before .before .insert .kept .0)
 
 update-requires : tie.Need-update-requires
 update-requires c κs = let b = c .before .before .before .before .before .before .before .before .before .before .before .before .before .before .before .before .before .before .before .before in let h = b .pre .1 in let q = b .pre .0 .1 in let K = c .before .before .before .before .before .before .before .before .before .before .before .before .row-of .ensures in let f : finePlace (b .args .e) ≡ true = yes-of (c .before .before .before .before .before .before .before .before .before .before .before .before .before .before .before .before .fine-place .result) (c .before .before .before .before .before .before .before .before .before .before .before .before .before .before .before .before .fine-place .ensures) (c .before .before .before .before .before .before .before .before .before .before .before .before .before .before .before .if1 .left) in update-asks q h (insert-tables (b .args .cell) (b .args .e) (b .pre .0 .0) q K h f (c .before .before .before .before .before .before .before .before .before .before .if2 .left) (c .before .before .before .before .before .before .before .insert .ensures))

@@ -1,5 +1,6 @@
 use Rattle.chunks.proofs.Laws.{chunk-in}
 use Prim.Native.Nat.{_+_, _*_}
+use mathlib.Core.Path.{refl}
 use native.Mathlib.Omega.{arith}
 use borrow.Author.Needs.{needs}
 use Rattle.acts.proofs.queue.row_of.Statement.{statement}
@@ -42,7 +43,7 @@ head-time-requires : tie.Need-head-time-requires
 head-time-requires c κs = search needs
 
 returns : tie.Need-returns
-returns c = search needs
+returns c = let b = c .before .before .before .before .before .before in let a = b .args in let m = chunk-in (a .cell) (a .z .cells) (a .z .room * 4 + 1) (b .pre .1) in let n = chunk-in (a .cell) (a .z .cells) (a .z .room * 10) (b .pre .1) in record { at-is = refl; n-is = refl; a-is = refl; b-is = refl; p-is = refl; q-is = refl; head-is = c .head-time .ensures; b-in = omega arith; q-in = omega arith }
 
 pub row-of-spec : {M : Type 1} → statement M
 row-of-spec =

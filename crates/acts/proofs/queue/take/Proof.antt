@@ -1,4 +1,4 @@
-use Rattle.acts.proofs.Queues.{in-nums, in-reals, at-in, nums-kept, reals-kept, count-most, row-asks, update-asks, more-asks, head-asks, take-tables, take-done}
+use Rattle.acts.proofs.Queues.{at-in, nums-kept, reals-kept, count-most, row-asks, update-asks, more-asks, head-asks, take-tables, take-done}
 use Prim.Native.Nat.{_-_}
 use native.Mathlib.Omega.{arith}
 use Rattle.acts.proofs.queue.take.Statement.{statement}
@@ -14,7 +14,7 @@ row-of-requires : tie.Need-row-of-requires
 row-of-requires c κs = let b = c .before .before .before .before .before in row-asks (b .pre .0 .1) (b .pre .1)
 
 mul-get-head : tie.Need-mul-get-head
-mul-get-head c = let b = c .before .before .before .before .before .before in let h = b .pre .1 in let q = b .pre .0 .1 in let K = c .row-of .ensures in omega (arith, in-nums (q .tables) K h)
+mul-get-head c = omega arith
 
 sub-get-head : tie.Need-sub-get-head
 sub-get-head c = omega arith
@@ -23,10 +23,10 @@ part-get-head-start : tie.Need-part-get-head-start
 part-get-head-start c = omega arith
 
 part-get-head-end : tie.Need-part-get-head-end
-part-get-head-end c = let b = c .before .before .before .before .before .before .before in let h = b .pre .1 in let q = b .pre .0 .1 in let K = c .before .row-of .ensures in in-nums (q .tables) K h
+part-get-head-end c = c .before .row-of .ensures .b-in
 
 mul-get-head-2 : tie.Need-mul-get-head-2
-mul-get-head-2 c = let b = c .before .before .before .before .before .before .before .before in let h = b .pre .1 in let q = b .pre .0 .1 in let K = c .before .before .row-of .ensures in omega (arith, in-reals (q .tables) K h)
+mul-get-head-2 c = omega arith
 
 sub-get-head-2 : tie.Need-sub-get-head-2
 sub-get-head-2 c = omega arith
@@ -35,13 +35,13 @@ part-get-head-start-2 : tie.Need-part-get-head-start-2
 part-get-head-start-2 c = omega arith
 
 part-get-head-end-2 : tie.Need-part-get-head-end-2
-part-get-head-end-2 c = let b = c .before .before .before .before .before .before .before .before .before in let h = b .pre .1 in let q = b .pre .0 .1 in let K = c .before .before .before .row-of .ensures in in-reals (q .tables) K h
+part-get-head-end-2 c = c .before .before .before .row-of .ensures .q-in
 
 get-head-requires : tie.Need-get-head-requires
 get-head-requires c κs = let b = c .before .before .before .before .before .before .before .before .before .before in let h = b .pre .1 in let q = b .pre .0 .1 in let K = c .before .before .before .before .row-of .ensures in head-asks q h K
 
 mul-pull : tie.Need-mul-pull
-mul-pull c = let b = c .before .before .before .before .before .before .before .before .before .before .before in let h = b .pre .1 in let q = b .pre .0 .1 in let K = c .before .before .before .before .before .row-of .ensures in omega (arith, in-nums (q .tables) K h)
+mul-pull c = omega arith
 
 sub-pull : tie.Need-sub-pull
 sub-pull c = omega arith
@@ -50,10 +50,10 @@ part-pull-start : tie.Need-part-pull-start
 part-pull-start c = omega arith
 
 part-pull-end : tie.Need-part-pull-end
-part-pull-end c = let b = c .before .before .before .before .before .before .before .before .before .before .before in let h = b .pre .1 in let q = b .pre .0 .1 in let K = c .before .before .before .before .before .row-of .ensures in in-nums (q .tables) K h
+part-pull-end c = c .before .before .before .before .before .row-of .ensures .b-in
 
 mul-pull-2 : tie.Need-mul-pull-2
-mul-pull-2 c = let b = c .before .before .before .before .before .before .before .before .before .before .before .before in let h = b .pre .1 in let q = b .pre .0 .1 in let K = c .before .before .before .before .before .before .row-of .ensures in omega (arith, in-reals (q .tables) K h)
+mul-pull-2 c = let b = c .before .before .before .before .before .before .before .before .before .before .before .before in let K = c .before .before .before .before .before .before .row-of .ensures in omega arith
 
 sub-pull-2 : tie.Need-sub-pull-2
 sub-pull-2 c = omega arith
@@ -62,7 +62,7 @@ part-pull-start-2 : tie.Need-part-pull-start-2
 part-pull-start-2 c = omega arith
 
 part-pull-end-2 : tie.Need-part-pull-end-2
-part-pull-end-2 c = let b = c .before .before .before .before .before .before .before .before .before .before .before .before in let h = b .pre .1 in let q = b .pre .0 .1 in let K = c .before .before .before .before .before .before .row-of .ensures in in-reals (q .tables) K h
+part-pull-end-2 c = c .before .before .before .before .before .before .row-of .ensures .q-in
 
 sub-pull-3 : tie.Need-sub-pull-3
 sub-pull-3 c = let b = c .before .before .before .before .before .before .before .before .before .before .before .before .before in let h = b .pre .1 in let q = b .pre .0 .1 in let K = c .before .before .before .before .before .before .before .row-of .ensures in let l = b .pre .2 in omega (arith, K .n-is)
@@ -74,10 +74,10 @@ sub-queue : tie.Need-sub-queue
 sub-queue c = let b = c .before .before .before .before .before .before .before .before .before .before .before .before .before .before .before .before .before .before in let h = b .pre .1 in let q = b .pre .0 .1 in let K = c .before .before .before .before .before .before .before .before .before .before .before .before .row-of .ensures in let l = b .pre .2 in omega (arith, K .n-is)
 
 mul-queue : tie.Need-mul-queue
-mul-queue c = let b = c .before .before .before .before .before .before .before .before .before .before .before .before .before .before .before .before .before .before in let h = b .pre .1 in let q = b .pre .0 .1 in let K = c .before .before .before .before .before .before .before .before .before .before .before .before .row-of .ensures in omega (arith, in-nums (q .tables) K h)
+mul-queue c = let b = c .before .before .before .before .before .before .before .before .before .before .before .before .before .before .before .before .before .before in let K = c .before .before .before .before .before .before .before .before .before .before .before .before .row-of .ensures in omega arith
 
 slice-write-queue : tie.Need-slice-write-queue
-slice-write-queue c = let b = c .before .before .before .before .before .before .before .before .before .before .before .before .before .before .before .before .before .before in let h = b .pre .1 in let q = b .pre .0 .1 in let K = c .before .before .before .before .before .before .before .before .before .before .before .before .row-of .ensures in at-in (q .tables) K h (c .before .before .before .before .pull .last .0) (c .before .before .before .before .pull .kept .0)
+slice-write-queue c = at-in (c .before .before .before .before .before .before .before .before .before .before .before .before .row-of .ensures) (c .before .before .before .before .pull .last .0) (c .before .before .before .before .pull .kept .0)
 
 update-requires : tie.Need-update-requires
 update-requires c κs = let b = c .before .before .before .before .before .before .before .before .before .before .before .before .before .before .before .before .before .before .before .before .before in let h = b .pre .1 in let q = b .pre .0 .1 in let K = c .before .before .before .before .before .before .before .before .before .before .before .before .before .before .before .row-of .ensures in let l = b .pre .2 in update-asks q h (take-tables (b .args .cell) (b .pre .0 .0) q K h l (c .before .before .before .before .before .before .before .pull .ensures))
