@@ -6,17 +6,15 @@ use mathlib.Core.Bool.{Bool, true, false}
 use lib.Dec.{ltb}
 use lib.ListN.{length, getD}
 use lib.Ieee.{Float}
-use Rattle.halting.specs.Out.{Out, out, eachOf, pick}
-use Rattle.model.specs.declared.Domain.{Domain}
+use Rattle.halting.specs.Out.{out, eachOf, pick}
 use Rattle.model.specs.declared.Place.{Place}
 use Rattle.model.specs.declared.Plan.{Plan}
 use Rattle.model.specs.declared.Plan.the-variants.{Nothing, Due, Refused}
 use Rattle.model.specs.Events.{placeOf, finePlace}
-use Rattle.model.specs.State.{Row, none, State, queue, withClock, withQueues, requeued}
-use Rattle.model.specs.Acts.{insert, inserted, put, cancel, cancelled, head, taken}
+use Rattle.model.specs.State.{Row, none, State, queue, withQueues, requeued}
+use Rattle.model.specs.Acts.{insert, inserted, put, cancel, cancelled, taken}
 use Rattle.tables.specs.declared.Sizes.{Sizes}
-use Rattle.tables.specs.Holds.{Queued, Holds, Told, AllTold}
-use Rattle.acts.specs.Tell.{At, InLists, InGrains}
+use Rattle.tables.specs.Holds.{Queued, Holds}
 use Rattle.acts.specs.Queues.{without}
 use Rattle.acts.proofs.Touch.{touch-of}
 
@@ -56,30 +54,11 @@ cancelled-only g c s = requeued-only c (without g (getD (s .queues) c none)) s
 pub each-cancel-only : (g : ℕ) (l : List ℕ) (s : State) → OnlyQueues s ((eachOf (λ c. cancel g c) l s) .st)
 each-cancel-only g l s = touch-of OnlyQueues queues-none queues-both (λ c. cancel g c) (λ c u. cancelled-only g c u) l s
 
--- taking the head also sets the clock
-pub taken-only : (s : State) → OnlyQueues (withClock ((head s) .time) s) (taken s)
-unfolding taken requeued
-taken-only s = refl
-
 -- ---- a fact of the state that speaks neither of the queues nor of the scheduler goes along
 pub queues-along : (P : State → Type 0) (s u : State) → OnlyQueues s u → P (withQueues (u .queues) (u .sched) s) → P u
 queues-along P s u o p = subst P (sym o) p
 
-pub queues-at : (b : Domain) (t : Float) (s u : State) → OnlyQueues s u → At b t s → At b t u
-queues-at b t s u o a = queues-along (At b t) s u o a
-
--- ---- all tables hold the outcome, where those that the act touched do
-pub queues-all : {z : Sizes} {l : List ℕ} {t : List Float} {q q′ : List ℕ} {e e′ : List Float} {o o′ : List ℕ} {r : ℕ} (s : State) (a : Out State) → Holds z l t q e o s → OnlyQueues s (a .st)
-    → Told z q′ e′ o′ r a → AllTold z l t q′ e′ o′ r a
-queues-all {z} {l} {t} s a h only told = (
-  told .0,
-  record {
-    listed = queues-along (InLists z l) s (a .st) only (h .listed);
-    grained = queues-along (InGrains z t) s (a .st) only (h .grained);
-    queued = told .1;
-  },
-)
-
+-- ---- all tables hold the state without its head, where those that the act touched do
 pub taken-all : {z : Sizes} {l : List ℕ} {t : List Float} {q q′ : List ℕ} {e e′ : List Float} {o o′ : List ℕ} (s : State) → Holds z l t q e o s → Queued z q′ e′ o′ (taken s)
     → Holds z l t q′ e′ o′ (taken s)
 unfolding taken requeued

@@ -1,24 +1,22 @@
 -- Entering and leaving, from what the leaves on rows say of the parts of the table. Assumes nothing.
-use mathlib.Core.Path.{_≡_, refl, sym, ap, _∙_, subst}
-use Prim.Native.Nat.{ℕ, zero, suc, _+_, _-_, _*_, _≤_, _<_}
+use mathlib.Core.Path.{_≡_, refl, sym, _∙_, subst}
+use Prim.Native.Nat.{ℕ, _+_, _≤_, _<_}
 use native.Mathlib.Omega.{arith}
-use mathlib.Core.List.{List, [], _∷_, _++_}
+use mathlib.Core.List.{List}
 use mathlib.Core.Bool.{Bool, true, false}
 use lib.Dec.{ltb, leb}
-use lib.ListN.{length, getD, set, take, drop}
-use lib.Seq.{take-at}
+use lib.ListN.{length, getD, set}
 use borrow.Author.Tests.{le-leb, lt-leb, lt-ltb, le-ltb}
-use borrow.Rule.Slice.PartMut.{midOf}
 use Rattle.halting.specs.Every.{All}
-use Rattle.halting.specs.Out.{Out, out, pick}
+use Rattle.halting.specs.Out.{Out}
 use Rattle.model.specs.Sizes.{memberRoom, homeRoom}
-use Rattle.model.specs.State.{Row, none, State, withLists, home, listed, has, pushed, pulled}
-use Rattle.model.specs.Acts.{enter, entered, leave, gone}
+use Rattle.model.specs.State.{Row, none, State, home, listed, has, pushed, pulled}
+use Rattle.model.specs.Acts.{enter, leave}
 use Rattle.tables.specs.declared.Sizes.{Sizes}
 use Rattle.tables.specs.Layout.{places, rowNums}
 use Rattle.tables.specs.Holds.{Listed}
 use Rattle.tables.specs.Rows.{InNums}
-use Rattle.tables.proofs.ListLaws.{homeFrom, memberFrom, homePart, homeBack, memberPart, memberBack, home-part, member-part, home-back, member-back, home-count, member-count, home-below, member-below, row-room, row-below, pushed-room, pushed-below, pulled-room, pulled-below}
+use Rattle.tables.proofs.ListLaws.{homeFrom, memberFrom, homePart, homeBack, memberPart, memberBack, home-part, member-part, home-back, member-back, home-in, member-in, home-count, member-count, home-most, member-most, row-room, row-below, pushed-room, pushed-below, pulled-room, pulled-below}
 use Rattle.acts.specs.Tell.{InLists, Pair, ListsTold}
 
 -- what the leaves say
@@ -127,9 +125,9 @@ module _ {z : Sizes} {g c : ℕ} {l : List ℕ} (hg : g < z .grains) (hc : c < z
             (pulled-below (z .cells) c (homeRow s g) (row-below (S .homes) g hg)),
       )
 
--- ---- a part that shows a list names grains, or cells
-pub members-named : {z : Sizes} {l k : List ℕ} (c : ℕ) (s : State) → InLists z l s → c < z .cells → k ≡ listed s c → All (λ (g : ℕ). g < z .grains) k
-members-named {z} c s S h e = subst (All (λ (g : ℕ). g < z .grains)) (sym e) (member-below S c h)
+-- ---- the cells and the grains in use stand within the table
+pub cells-in : {z : Sizes} {l : List ℕ} {hs ms : List (Row ℕ)} (S : Listed z l hs ms) (g : ℕ) → g < z .grains → homeFrom g + 1 + getD l (homeFrom g) 0 ≤ length l
+cells-in S g h = omega (arith, home-in S g h, home-count S g h, home-most S g h)
 
-pub cells-named : {z : Sizes} {l k : List ℕ} (g : ℕ) (s : State) → InLists z l s → g < z .grains → k ≡ home s g → All (λ (c : ℕ). c < z .cells) k
-cells-named {z} g s S h e = subst (All (λ (c : ℕ). c < z .cells)) (sym e) (home-below S g h)
+pub members-in : {z : Sizes} {l : List ℕ} {hs ms : List (Row ℕ)} (S : Listed z l hs ms) (c : ℕ) → c < z .cells → memberFrom z c + 1 + getD l (memberFrom z c) 0 ≤ length l
+members-in S c h = omega (arith, member-in S c h, member-count S c h, member-most S c h)

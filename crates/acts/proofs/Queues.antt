@@ -3,34 +3,36 @@ use mathlib.Core.Path.{_≡_, refl, sym, ap, _∙_, subst}
 use Prim.Native.Nat.{ℕ, zero, suc, _+_, _-_, _*_, _≤_, _<_}
 use native.Mathlib.Nat.{suc-ne-zero, suc-mul, zero-mul}
 use native.Mathlib.Omega.{arith}
-use mathlib.Core.List.{List, [], _∷_, _++_}
+use mathlib.Core.List.{List, [], _∷_, _++_, append-assoc}
 use mathlib.Core.Bool.{Bool, true, false, not, cond}
 use lib.Dec.{eqb, ltb}
-use lib.ListN.{length, getD, set, length-set, List·getD-append}
-use lib.Seq.{getD-set-same, getD-append-add}
+use lib.ListN.{length, getD, set, take, drop, replicate, length-set, length-append, length-drop, List·getD-append}
+use lib.Seq.{getD-set-same, getD-append-add, set-at}
 use lib.Ieee.{Float, lt}
 use borrow.Author.Tests.{le-ltb, lt-ltb, ne-eqb}
-use borrow.Rule.Slice.PartMut.{midOf, putMid}
+use borrow.Rule.Slice.PartMut.{midOf, putMid, same-len-mid}
 use Rattle.halting.specs.Out.{Out, out, pick}
 use Rattle.halting.specs.Every.{All}
-use Rattle.chunks.specs.Flat.{flat}
 use Rattle.halting.proofs.All.{all-at, all-set}
-use Rattle.chunks.proofs.Laws.{length-flat, chunk-mid, chunk-put, chunk-in}
+use Rattle.halting.proofs.Bools.{clash}
+use Rattle.chunks.specs.Flat.{flat}
+use Rattle.chunks.proofs.Laws.{length-flat, length-front, flat-cut, flat-set, mid-at, put-at, chunk-mid, chunk-put}
 use Rattle.order.specs.Numbers.{last}
 use Rattle.order.proofs.Compare.{lt-irrefl}
 use Rattle.scheduler.specs.declared.Scheduler.{Scheduler}
 use Rattle.scheduler.specs.Heap.{headIn, updated, Fit}
 use Rattle.model.specs.declared.Place.{Place}
-use Rattle.model.specs.Events.{headTime, headPlace, finePlace}
-use Rattle.model.specs.State.{Row, row, none, State, queue, heads, liveAt, requeued, withClock}
+use Rattle.model.specs.Events.{headTime, headPlace, finePlace, insertBy, keepBy, goneBy, zeroP}
+use Rattle.model.specs.State.{Row, none, State, queue, heads, liveAt, requeued, withClock}
 use Rattle.model.specs.Acts.{insert, inserted, cancelled, first, head, taken}
-use Rattle.halting.proofs.Bools.{clash}
+use Rattle.model.proofs.Queue.{length-insert}
 use Rattle.tables.specs.declared.Sizes.{Sizes}
-use Rattle.tables.specs.Layout.{places, placeReals, queueNums, queueReals, orderBytes}
-use Rattle.tables.specs.Holds.{Ranged, InRow, Good, Tabled, Heaped, Queued, Told}
+use Rattle.tables.specs.Layout.{places, placeNums, placeReals, queueNums, queueReals, orderBytes}
+use Rattle.tables.specs.Holds.{Ranged, Run, Good, Tabled, Queued, Told}
 use Rattle.tables.proofs.Runs.{nums-long, reals-long}
-use Rattle.acts.specs.Queues.{placed, without, headless, Rowed, loaded}
-use Rattle.acts.proofs.Rows.{good-placed, good-without, good-headless}
+use Rattle.acts.specs.declared.queue.CellRow.{CellRow}
+use Rattle.acts.specs.Queues.{placed, without, headless, RowOf, loaded}
+use Rattle.acts.proofs.Rows.{placed-run, headless-run, head-run, good-placed, good-without, good-headless}
 use Rattle.acts.proofs.Loaded.{heaped-is, heaped-long, heaped-new}
 
 -- what a negated test says of the definition that a call's answer is
@@ -66,22 +68,19 @@ wideN z = z .room * 4 + 1
 abbrev pub wideR : Sizes → ℕ
 wideR z = z .room * 10
 
--- a cell's parts, as they are lent
-abbrev pub numsAt : Sizes → ℕ → List ℕ → List ℕ
-numsAt z c l = midOf (c * wideN z) (c * wideN z + wideN z - c * wideN z) l
+-- a cell's places, as they are lent
+abbrev pub numsAt : CellRow → List ℕ → List ℕ
+numsAt k l = midOf (k .a) (k .b - k .a) l
 
-abbrev pub realsAt : Sizes → ℕ → List Float → List Float
-realsAt z c l = midOf (c * wideR z) (c * wideR z + wideR z - c * wideR z) l
+abbrev pub realsAt : CellRow → List Float → List Float
+realsAt k l = midOf (k .p) (k .q - k .p) l
 
--- the tables with others put there
-abbrev pub numsPut : Sizes → ℕ → List ℕ → List ℕ → List ℕ
-numsPut z c l ys = putMid (c * wideN z) (c * wideN z + wideN z - c * wideN z) l ys
+-- the tables with others there, and another count
+abbrev pub numsPut : CellRow → List ℕ → List ℕ → ℕ → List ℕ
+numsPut k l ys n = set (putMid (k .a) (k .b - k .a) l ys) (k .at) n
 
-abbrev pub realsPut : Sizes → ℕ → List Float → List Float → List Float
-realsPut z c l ys = putMid (c * wideR z) (c * wideR z + wideR z - c * wideR z) l ys
-
-span-is : (c w : ℕ) → c * w + w - c * w ≡ w
-span-is c w = omega arith
+abbrev pub realsPut : CellRow → List Float → List Float → List Float
+realsPut k l ys = putMid (k .p) (k .q - k .p) l ys
 
 wide-nums : (room : ℕ) (qs : List (Row Place)) → All (Good room) qs → All (λ (r : Row Place). length (queueNums r) ≡ room * 4 + 1) qs
 wide-nums room [] v = tt
@@ -115,31 +114,8 @@ module _ {z : Sizes} {nums : List ℕ} {reals : List Float} {qs : List (Row Plac
   pub events-long : length reals ≡ z .cells * wideR z
   events-long = ap length (t .events-is) ∙ length-flat queueReals (wideR z) qs (wide-reals (z .room) qs (t .good)) ∙ ap (λ (m : ℕ). m * wideR z) (t .many)
 
-  -- a cell's parts are within them
-  pub in-nums : (c : ℕ) → c < z .cells → c * wideN z + wideN z ≤ length nums
-  in-nums c h = let k = chunk-in c (z .cells) (wideN z) h in let e = queue-long in omega arith
-
-  pub in-reals : (c : ℕ) → c < z .cells → c * wideR z + wideR z ≤ length reals
-  in-reals c h = let k = chunk-in c (z .cells) (wideR z) h in let e = events-long in omega arith
-
   pub good-at : (c : ℕ) → c < z .cells → Good (z .room) (getD qs c none)
   good-at c h = all-at (Good (z .room)) qs c none (t .good) (inside c h)
-
-  -- and hold its row; with another row put there the tables hold that one
-  pub row-at : (c : ℕ) → c < z .cells → InRow (numsAt z c nums) (realsAt z c reals) (getD qs c none)
-  row-at c h = record {
-    nums-is = chunk-mid queueNums (wideN z) qs c none (c * wideN z) (c * wideN z + wideN z - c * wideN z) (wide-nums (z .room) qs (t .good)) (inside c h) (t .queue-is) refl (span-is c (wideN z));
-    reals-is = chunk-mid queueReals (wideR z) qs c none (c * wideR z) (c * wideR z + wideR z - c * wideR z) (wide-reals (z .room) qs (t .good)) (inside c h) (t .events-is) refl (span-is c (wideR z));
-  }
-
-  pub put-row : (c : ℕ) (r : Row Place) {ns : List ℕ} {rs : List Float} → c < z .cells → Good (z .room) r → InRow ns rs r
-      → Tabled z (numsPut z c nums ns) (realsPut z c reals rs) (set qs c r)
-  put-row c r h g k = record {
-    queue-is = chunk-put queueNums (wideN z) qs c none r (c * wideN z) (c * wideN z + wideN z - c * wideN z) (wide-nums (z .room) qs (t .good)) (inside c h) (t .queue-is) refl (span-is c (wideN z)) (k .nums-is);
-    events-is = chunk-put queueReals (wideR z) qs c none r (c * wideR z) (c * wideR z + wideR z - c * wideR z) (wide-reals (z .room) qs (t .good)) (inside c h) (t .events-is) refl (span-is c (wideR z)) (k .reals-is);
-    many = length-set qs c r ∙ t .many;
-    good = all-set (Good (z .room)) qs c r (t .good) g;
-  }
 
   -- how many events a cell holds
   pub count-at : (c : ℕ) → getD nums (c * wideN z) 0 ≡ length (liveAt qs c)
@@ -162,6 +138,81 @@ module _ {z : Sizes} {nums : List ℕ} {reals : List Float} {qs : List (Row Plac
   heads-fit k h e = record {
     room = omega (arith, k .cells-most);
     top = λ c. subst (λ (x : Float). lt last x ≡ false) (sym (heads-at (k .room-some) c)) (tops-at (z .room) qs (t .good) c);
+  }
+
+-- ---- one cell's row
+
+-- the tables stay as long
+pub nums-kept : (k : CellRow) (nums ns : List ℕ) (n : ℕ) → length ns ≡ length (numsAt k nums) → length (numsPut k nums ns n) ≡ length nums
+nums-kept k nums ns n e = length-set (putMid (k .a) (k .b - k .a) nums ns) (k .at) n ∙ same-len-mid (k .a) (k .b - k .a) nums ns e
+
+pub reals-kept : (k : CellRow) (reals rs : List Float) → length rs ≡ length (realsAt k reals) → length (realsPut k reals rs) ≡ length reals
+reals-kept k = same-len-mid (k .p) (k .q - k .p)
+
+-- its count is within them, where its places were changed
+pub at-in : {z : Sizes} {c : ℕ} {nums : List ℕ} {reals : List Float} {k : CellRow} → RowOf z nums reals c k → (ns : List ℕ) → length ns ≡ length (numsAt k nums)
+    → k .at < length (putMid (k .a) (k .b - k .a) nums ns)
+at-in {nums = nums} {k = k} K ns e = let m = same-len-mid (k .a) (k .b - k .a) nums ns e in omega arith
+
+module _ {z : Sizes} {nums : List ℕ} {reals : List Float} {qs : List (Row Place)} (t : Tabled z nums reals qs) {c : ℕ} {k : CellRow} (K : RowOf z nums reals c k) (h : c < z .cells) where
+  abbrev old : Row Place
+  old = getD qs c none
+
+  abbrev front : List ℕ
+  front = flat queueNums (take c qs)
+
+  abbrev rest : List ℕ
+  rest = flat queueNums (drop (suc c) qs)
+
+  -- its count, and its places
+  pub counted : k .n ≡ length (old .live)
+  counted = K .n-is ∙ count-at t c
+
+  pub count-most : k .n ≤ z .room
+  count-most = let e = counted in let f = good-at t c h .full in let l = length-append (old .live) (old .spare) in omega arith
+
+  at-long : length front ≡ k .at
+  at-long = length-front queueNums (wideN z) qs c (wide-nums (z .room) qs (t .good)) (inside t c h) ∙ sym (K .at-is)
+
+  front-long : length (front ++ (length (old .live) ∷ [])) ≡ k .a
+  front-long = length-append front (length (old .live) ∷ []) ∙ (let e = at-long in omega arith)
+
+  places-long : length (flat placeNums (places old)) ≡ k .b - k .a
+  places-long = let e = nums-long (places old) in let f = good-at t c h .full in omega arith
+
+  nums-cut : nums ≡ (front ++ (length (old .live) ∷ [])) ++ (flat placeNums (places old) ++ rest)
+  nums-cut = t .queue-is ∙ flat-cut queueNums (wideN z) qs c none (inside t c h) ∙ sym (append-assoc front (length (old .live) ∷ []) (flat placeNums (places old) ++ rest))
+
+  wide-p : k .q - k .p ≡ wideR z
+  wide-p = omega arith
+
+  pub run-at : Run (numsAt k nums) (realsAt k reals) (places old)
+  run-at = record {
+    nums-is = mid-at (front ++ (length (old .live) ∷ [])) (flat placeNums (places old)) rest (k .a) (k .b - k .a) nums-cut front-long places-long;
+    reals-is = chunk-mid queueReals (wideR z) qs c none (k .p) (k .q - k .p) (wide-reals (z .room) qs (t .good)) (inside t c h) (t .events-is) (K .p-is) wide-p;
+  }
+
+  pub nums-part : length (numsAt k nums) ≡ z .room * 4
+  nums-part = ap length (run-at .nums-is) ∙ (let e = nums-long (places old) in let f = good-at t c h .full in omega arith)
+
+  pub reals-part : length (realsAt k reals) ≡ z .room * 10
+  reals-part = ap length (run-at .reals-is) ∙ (let e = reals-long (places old) in let f = good-at t c h .full in omega arith)
+
+  -- with another row put there the tables hold that one
+  pub put-run : (n : ℕ) (r : Row Place) {ns : List ℕ} {rs : List Float} → Good (z .room) r → n ≡ length (r .live) → Run ns rs (places r)
+      → Tabled z (numsPut k nums ns n) (realsPut k reals rs) (set qs c r)
+  put-run n r {ns} g e u = record {
+    queue-is =
+        ap (λ (l : List ℕ). set l (k .at) n)
+        (put-at (front ++ (length (old .live) ∷ [])) (flat placeNums (places old)) rest (k .a) (k .b - k .a) ns nums-cut front-long places-long
+        ∙ append-assoc front (length (old .live) ∷ []) (ns ++ rest))
+        ∙ set-at front (length (old .live)) (ns ++ rest) n (k .at) at-long
+        ∙ ap (λ (l : List ℕ). front ++ (n ∷ (l ++ rest))) (u .nums-is)
+        ∙ ap (λ (m : ℕ). front ++ (m ∷ (flat placeNums (places r) ++ rest))) e
+        ∙ sym (flat-set queueNums (wideN z) qs c r (inside t c h));
+    events-is = chunk-put queueReals (wideR z) qs c none r (k .p) (k .q - k .p) (wide-reals (z .room) qs (t .good)) (inside t c h) (t .events-is) (K .p-is) wide-p (u .reals-is);
+    many = length-set qs c r ∙ t .many;
+    good = every-set (Good (z .room)) qs c r (t .good) g;
   }
 
 -- ---- the state, after one cell's row and the heap are renewed
@@ -192,28 +243,29 @@ requeued-held {z = z} {order = order} s c r before q h eb t e =
       room-is = q .room-is;
     }
 
--- ---- what every act asks of those it calls
+-- ---- what the acts ask of those they call
 
-module _ {z : Sizes} {nums : List ℕ} {reals : List Float} {order : List ℕ} {s : State} (q : Queued z nums reals order s) where
-  pub order-long : length order ≡ 512
-  order-long = heaped-long (q .heap)
+module _ {z : Sizes} {nums : List ℕ} {reals : List Float} {order : List ℕ} {s : State} (q : Queued z nums reals order s) {c : ℕ} (h : c < z .cells) where
+  pub row-asks : Ranged z × (c < z .cells) × (length nums ≡ z .cells * wideN z) × (length reals ≡ z .cells * wideR z)
+  row-asks = (q .ranged, h, queue-long (q .tables), events-long (q .tables))
 
-  pub rowed : (c : ℕ) (P : Row Place → Type 0) → c < z .cells → P (getD (s .queues) c none) → Rowed (numsAt z c nums) (realsAt z c reals) P
-  rowed c P h p = record { some = getD (s .queues) c none; held = row-at (q .tables) c h; most = omega (arith, good-at (q .tables) c h .full, q .ranged .room-most); so = p }
+  pub update-asks : {ns : List ℕ} {rs : List Float} {qs : List (Row Place)} → Tabled z ns rs qs
+      → (length order ≡ 512) × Fit (headIn rs ns (z .room)) (loaded order (z .cells)) × (c < 256) × (z .room ≤ 256)
+  update-asks t = (heaped-long (q .heap), heads-fit t (q .ranged) (loaded order (z .cells)) refl, omega (arith, q .ranged .cells-most), q .ranged .room-most)
 
-  -- a cell that has room, and one that holds an event
-  pub roomy : (c : ℕ) → c < z .cells → getD nums (c * wideN z) 0 < z .room → length (liveAt (s .queues) c) < length (places (getD (s .queues) c none))
-  roomy c h l = let g = good-at (q .tables) c h .full in let k = count-at (q .tables) c in omega arith
+module _ {z : Sizes} {nums : List ℕ} {reals : List Float} {order : List ℕ} {s : State} (q : Queued z nums reals order s) {c : ℕ} (h : c < z .cells)
+    {k : CellRow} (K : RowOf z nums reals c k) where
+  -- a leaf that uses n places and one more, or n of them
+  pub more-asks : (n : ℕ) → n < z .room → (n < 256) × (4 * (n + 1) ≤ length (numsAt k nums)) × (10 * (n + 1) ≤ length (realsAt k reals))
+  more-asks n l = let a = nums-part (q .tables) K h in let b = reals-part (q .tables) K h in let m = q .ranged .room-most in (omega arith, omega arith, omega arith)
 
-  pub held : (c : ℕ) → 0 < getD nums (c * wideN z) 0 → 0 < length (liveAt (s .queues) c)
-  held c l = omega (arith, count-at (q .tables) c)
+  pub all-asks : (k .n ≤ 256) × (4 * k .n ≤ length (numsAt k nums)) × (10 * k .n ≤ length (realsAt k reals))
+  all-asks =
+      let a = nums-part (q .tables) K h in let b = reals-part (q .tables) K h in let m = q .ranged .room-most in let n = count-most (q .tables) K h in
+      (omega arith, omega arith, omega arith)
 
--- what the heap's update asks
-pub update-fits : {z : Sizes} {nums ns : List ℕ} {reals rs : List Float} {order : List ℕ} {s : State} {qs : List (Row Place)} (c : ℕ) → Queued z nums reals order s → c < z .cells
-    → Tabled z ns rs qs
-    → (length order ≡ 512) × Fit (headIn rs ns (z .room)) (loaded order (z .cells)) × (c < 256) × (z .room ≤ 256)
-update-fits {z = z} {order = order} c q h t =
-    (heaped-long (q .heap), heads-fit t (q .ranged) (loaded order (z .cells)) refl, omega (arith, q .ranged .cells-most), q .ranged .room-most)
+  pub head-asks : (4 ≤ length (numsAt k nums)) × (10 ≤ length (realsAt k reals))
+  head-asks = let a = nums-part (q .tables) K h in let b = reals-part (q .tables) K h in let m = q .ranged .room-some in (omega arith, omega arith)
 
 -- ---- insertion
 
@@ -225,75 +277,81 @@ module _ {z : Sizes} {nums : List ℕ} {reals : List Float} {order : List ℕ} (
   unfolding insert
   insert-five f = on-no (Told z nums reals order 5) (finePlace e) full (out 5 s) f (refl, q)
 
-  pub insert-six : finePlace e ≡ true → z .room ≤ getD nums (c * wideN z) 0 → Told z nums reals order 6 (insert c e s)
-  unfolding insert
-  insert-six f l =
-      on-yes (Told z nums reals order 6) (finePlace e) full (out 5 s) f
-      (on-no (Told z nums reals order 6) (ltb (length (queue s c)) (s .room)) (out 0 (inserted c e s)) (out 6 s)
-      (le-ltb (length (queue s c)) (s .room) (let k = count-at (q .tables) c in let m = q .room-is in omega arith)) (refl, q))
+  module _ {k : CellRow} (K : RowOf z nums reals c k) (h : c < z .cells) (f : finePlace e ≡ true) where
+    pub insert-six : z .room ≤ k .n → Told z nums reals order 6 (insert c e s)
+    unfolding insert
+    insert-six l =
+        on-yes (Told z nums reals order 6) (finePlace e) full (out 5 s) f
+        (on-no (Told z nums reals order 6) (ltb (length (queue s c)) (s .room)) (out 0 (inserted c e s)) (out 6 s)
+        (le-ltb (length (queue s c)) (s .room) (let n = counted (q .tables) K h in let m = q .room-is in omega arith)) (refl, q))
 
-  -- what the tables hold once the row is in
-  pub insert-tables : {ns : List ℕ} {rs : List Float} → finePlace e ≡ true → c < z .cells → getD nums (c * wideN z) 0 < z .room
-      → ((r : Row Place) → InRow (numsAt z c nums) (realsAt z c reals) r → length (r .live) < length (places r) → InRow ns rs (placed e r))
-      → Tabled z (numsPut z c nums ns) (realsPut z c reals rs) (set (s .queues) c (placed e (getD (s .queues) c none)))
-  insert-tables f h l done =
-      let r : Row Place = getD (s .queues) c none in
-      let k : length (r .live) < z .room = (let m = count-at (q .tables) c in omega arith) in
-      put-row (q .tables) c (placed e r) h (good-placed e (r .live) (r .spare) (good-at (q .tables) c h) f k) (done r (row-at (q .tables) c h) (roomy q c h l))
+    -- what the tables hold once the row is in
+    pub insert-tables : {ns : List ℕ} {rs : List Float} → k .n < z .room
+        → ((live spare : List Place) (x : Place) → k .n ≡ length live → Run (numsAt k nums) (realsAt k reals) (live ++ x ∷ spare) → Run ns rs (insertBy e live ++ spare))
+        → Tabled z (numsPut k nums ns (k .n + 1)) (realsPut k reals rs) (set (s .queues) c (placed e (getD (s .queues) c none)))
+    insert-tables l done =
+        let r : Row Place = getD (s .queues) c none in
+        let n : k .n ≡ length (r .live) = counted (q .tables) K h in
+        let g : Good (z .room) r = good-at (q .tables) c h in
+        put-run (q .tables) K h (k .n + 1) (placed e r) (good-placed e (r .live) (r .spare) g f (omega arith)) (let m = length-insert e (r .live) in omega arith)
+        (placed-run e (r .live) (r .spare) (let m = g .full in omega arith) (λ sp x u. done (r .live) sp x n u) (run-at (q .tables) K h))
 
-  pub insert-done : {ns : List ℕ} {rs : List Float} {order₁ : List ℕ} {before : Float} → finePlace e ≡ true → c < z .cells → getD nums (c * wideN z) 0 < z .room
-      → before ≡ headIn reals nums (z .room) c
-      → Tabled z ns rs (set (s .queues) c (placed e (getD (s .queues) c none)))
-      → order₁ ≡ orderBytes (updated (headIn rs ns (z .room)) (loaded order (z .cells)) c before (headIn rs ns (z .room) c))
-      → Told z ns rs order₁ 0 (insert c e s)
-  unfolding insert
-  insert-done {ns} {rs} {order₁} {before} f h l eb t ea =
-      on-yes (Told z ns rs order₁ 0) (finePlace e) full (out 5 s) f
-      (on-yes (Told z ns rs order₁ 0) (ltb (length (queue s c)) (s .room)) (out 0 (inserted c e s)) (out 6 s)
-      (lt-ltb (length (queue s c)) (s .room) (let k = count-at (q .tables) c in let m = q .room-is in omega arith))
-      (refl, requeued-held s c (placed e (getD (s .queues) c none)) before q h eb t ea))
+    pub insert-done : {ns : List ℕ} {rs : List Float} {order₁ : List ℕ} → k .n < z .room
+        → Tabled z ns rs (set (s .queues) c (placed e (getD (s .queues) c none)))
+        → order₁ ≡ orderBytes (updated (headIn rs ns (z .room)) (loaded order (z .cells)) c (k .head) (headIn rs ns (z .room) c))
+        → Told z ns rs order₁ 0 (insert c e s)
+    unfolding insert
+    insert-done {ns} {rs} {order₁} l t ea =
+        on-yes (Told z ns rs order₁ 0) (finePlace e) full (out 5 s) f
+        (on-yes (Told z ns rs order₁ 0) (ltb (length (queue s c)) (s .room)) (out 0 (inserted c e s)) (out 6 s)
+        (lt-ltb (length (queue s c)) (s .room) (let n = counted (q .tables) K h in let m = q .room-is in omega arith))
+        (refl, requeued-held s c (placed e (getD (s .queues) c none)) (k .head) q h (K .head-is) t ea))
 
 -- ---- cancelling
 
-module _ {z : Sizes} {nums : List ℕ} {reals : List Float} {order : List ℕ} (c g : ℕ) (s : State) (q : Queued z nums reals order s) (h : c < z .cells) where
-  pub cancel-tables : {ns : List ℕ} {rs : List Float} → ((r : Row Place) → InRow (numsAt z c nums) (realsAt z c reals) r → InRow ns rs (without g r))
-      → Tabled z (numsPut z c nums ns) (realsPut z c reals rs) (set (s .queues) c (without g (getD (s .queues) c none)))
-  cancel-tables done =
+module _ {z : Sizes} {nums : List ℕ} {reals : List Float} {order : List ℕ} (c g : ℕ) (s : State) (q : Queued z nums reals order s) {k : CellRow} (K : RowOf z nums reals c k) (h : c < z .cells) where
+  pub cancel-tables : {ns : List ℕ} {rs : List Float} {m : ℕ}
+      → ((live spare : List Place) → k .n ≡ length live → Run (numsAt k nums) (realsAt k reals) (live ++ spare)
+      → (m ≡ length (keepBy g live)) × Run ns rs (keepBy g live ++ (replicate (goneBy g live) zeroP ++ spare)))
+      → Tabled z (numsPut k nums ns m) (realsPut k reals rs) (set (s .queues) c (without g (getD (s .queues) c none)))
+  cancel-tables {m = m} done =
       let r : Row Place = getD (s .queues) c none in
-      put-row (q .tables) c (without g r) h (good-without g r (good-at (q .tables) c h)) (done r (row-at (q .tables) c h))
+      let d = done (r .live) (r .spare) (counted (q .tables) K h) (run-at (q .tables) K h) in
+      put-run (q .tables) K h m (without g r) (good-without g r (good-at (q .tables) c h)) (d .0) (d .1)
 
-  pub cancel-done : {ns : List ℕ} {rs : List Float} {order₁ : List ℕ} {before : Float} → before ≡ headIn reals nums (z .room) c
-      → Tabled z ns rs (set (s .queues) c (without g (getD (s .queues) c none)))
-      → order₁ ≡ orderBytes (updated (headIn rs ns (z .room)) (loaded order (z .cells)) c before (headIn rs ns (z .room) c))
+  pub cancel-done : {ns : List ℕ} {rs : List Float} {order₁ : List ℕ} → Tabled z ns rs (set (s .queues) c (without g (getD (s .queues) c none)))
+      → order₁ ≡ orderBytes (updated (headIn rs ns (z .room)) (loaded order (z .cells)) c (k .head) (headIn rs ns (z .room) c))
       → (_≡_ {A = ℕ} 0 0) × Queued z ns rs order₁ (cancelled g c s)
   unfolding cancelled
-  cancel-done {before = before} eb t ea = (refl, requeued-held s c (without g (getD (s .queues) c none)) before q h eb t ea)
+  cancel-done t ea = (refl, requeued-held s c (without g (getD (s .queues) c none)) (k .head) q h (K .head-is) t ea)
 
 -- ---- the head
-
-module _ {z : Sizes} {nums : List ℕ} {reals : List Float} {order : List ℕ} (c : ℕ) (s : State) (q : Queued z nums reals order s) (h : c < z .cells)
-    (l : 0 < getD nums (c * wideN z) 0) {ns : List ℕ} {rs : List Float} {x : Place}
-    (done : (r : Row Place) → InRow (numsAt z c nums) (realsAt z c reals) r → 0 < length (r .live) → (x ≡ headPlace (r .live)) × InRow ns rs (headless r)) where
-  pub take-tables : Tabled z (numsPut z c nums ns) (realsPut z c reals rs) (set (s .queues) c (headless (getD (s .queues) c none)))
-  take-tables =
-      let r : Row Place = getD (s .queues) c none in
-      put-row (q .tables) c (headless r) h (good-headless (r .live) (r .spare) (held q c l) (good-at (q .tables) c h)) (done r (row-at (q .tables) c h) (held q c l) .1)
-
-  pub take-head : x ≡ headPlace (queue s c)
-  take-head = done (getD (s .queues) c none) (row-at (q .tables) c h) (held q c l) .0
 
 -- the clock is not among what these tables hold
 pub clock-held : {z : Sizes} {nums : List ℕ} {reals : List Float} {order : List ℕ} {s : State} (t : Float) → Queued z nums reals order s → Queued z nums reals order (withClock t s)
 clock-held t q = record { ranged = q .ranged; tables = q .tables; heap = q .heap; room-is = q .room-is }
 
-pub take-done : {z : Sizes} {nums ns : List ℕ} {reals rs : List Float} {order order₁ : List ℕ} (c : ℕ) (s : State) {x : Place} {before : Float}
-    → Queued z nums reals order s → c < z .cells → before ≡ headIn reals nums (z .room) c
-    → Tabled z ns rs (set (s .queues) c (headless (getD (s .queues) c none))) → x ≡ headPlace (queue s c)
-    → order₁ ≡ orderBytes (updated (headIn rs ns (z .room)) (loaded order (z .cells)) c before (headIn rs ns (z .room) c))
-    → c ≡ first s → (x ≡ head s) × Queued z ns rs order₁ (taken s)
-unfolding taken
-take-done {z = z} {ns = ns} {rs = rs} {order₁ = order₁} c s {x} {before} q h eb t ex ea e = (
-  ex ∙ ap (λ (k : ℕ). headPlace (queue s k)) e,
-  clock-held ((head s) .time) (subst (λ (k : ℕ). Queued z ns rs order₁ (requeued k (headless (getD (s .queues) k none)) s)) e
-      (requeued-held s c (headless (getD (s .queues) c none)) before q h eb t ea)),
-)
+module _ {z : Sizes} {nums : List ℕ} {reals : List Float} {order : List ℕ} (c : ℕ) (s : State) (q : Queued z nums reals order s) {k : CellRow} (K : RowOf z nums reals c k) (h : c < z .cells)
+    (l : 0 < getD nums (c * wideN z) 0) where
+  pub some-there : 0 < length (queue s c)
+  some-there = omega (arith, count-at (q .tables) c)
+
+  pub take-tables : {ns : List ℕ} {rs : List Float}
+      → ((live spare : List Place) (x : Place) → k .n - 1 ≡ length live → Run (numsAt k nums) (realsAt k reals) (x ∷ live ++ spare) → Run ns rs (live ++ zeroP ∷ spare))
+      → Tabled z (numsPut k nums ns (k .n - 1)) (realsPut k reals rs) (set (s .queues) c (headless (getD (s .queues) c none)))
+  take-tables pulled =
+      let r : Row Place = getD (s .queues) c none in
+      let n : k .n ≡ length (r .live) = counted (q .tables) K h in
+      put-run (q .tables) K h (k .n - 1) (headless r) (good-headless (r .live) (r .spare) some-there (good-at (q .tables) c h)) (let d = length-drop 1 (r .live) in omega arith)
+      (headless-run (r .live) (r .spare) some-there (λ live x e u. pulled live (r .spare) x (omega arith) u) (run-at (q .tables) K h))
+
+  pub take-done : {ns : List ℕ} {rs : List Float} {order₁ : List ℕ} {x : Place} → ((y : Place) (ps : List Place) → Run (numsAt k nums) (realsAt k reals) (y ∷ ps) → x ≡ y)
+      → Tabled z ns rs (set (s .queues) c (headless (getD (s .queues) c none)))
+      → order₁ ≡ orderBytes (updated (headIn rs ns (z .room)) (loaded order (z .cells)) c (k .head) (headIn rs ns (z .room) c))
+      → c ≡ first s → (x ≡ head s) × Queued z ns rs order₁ (taken s)
+  unfolding taken
+  take-done {ns} {rs} {order₁} got t ea e = (
+    head-run (queue s c) ((getD (s .queues) c none) .spare) some-there got (run-at (q .tables) K h) ∙ ap (λ (n : ℕ). headPlace (queue s n)) e,
+    clock-held ((head s) .time) (subst (λ (n : ℕ). Queued z ns rs order₁ (requeued n (headless (getD (s .queues) n none)) s)) e
+        (requeued-held s c (headless (getD (s .queues) c none)) (k .head) q h (K .head-is) t ea)),
+  )

@@ -1,77 +1,40 @@
--- One cell's row of events: its two parts, what the acts make of it, and that it stays a good one. Assumes nothing.
-use mathlib.Core.Path.{_≡_, refl, sym, ap, _∙_, subst}
-use Prim.Native.Nat.{ℕ, zero, suc, _+_, _-_, _*_, _≤_, _<_}
+-- One cell's row of events: what the acts make of its places, and that it stays a good one. Assumes nothing.
+use mathlib.Core.Path.{_≡_, refl, ap}
+use Prim.Native.Nat.{ℕ, suc, _+_, _<_}
 use native.Mathlib.Nat.{not-suc-le-zero}
 use native.Mathlib.Omega.{arith}
 use mathlib.Core.List.{List, [], _∷_, _++_, append-nil}
 use mathlib.Core.Bool.{true, false}
-use lib.ListN.{length, getD, set, replicate, length-append, length-replicate}
+use lib.ListN.{length, replicate, length-append, length-replicate}
 use lib.Ieee.{Float, lt}
-use borrow.Rule.Slice.PartMut.{midOf, putMid}
-use Rattle.chunks.specs.Flat.{flat}
-use Rattle.chunks.proofs.Laws.{mid-tail, put-tail}
 use Rattle.order.specs.Numbers.{last}
 use Rattle.model.specs.declared.Place.{Place}
 use Rattle.model.specs.Events.{insertBy, keepBy, goneBy, zeroP, headPlace, finePlace}
 use Rattle.model.specs.State.{Row, row}
 use Rattle.model.proofs.Queue.{fine-low, all-insert, all-keep, length-insert, length-keep}
-use Rattle.tables.specs.Layout.{places, placeNums, placeReals}
-use Rattle.tables.specs.Holds.{Run, InRow, Good}
-use Rattle.tables.proofs.Runs.{nums-long, reals-long}
+use Rattle.tables.specs.Layout.{places}
+use Rattle.tables.specs.Holds.{Run, Good}
 use Rattle.acts.specs.Queues.{placed, without, headless}
 
--- ---- its two parts
+-- ---- what the leaves make of its places
 
-module _ {nums : List ℕ} {reals : List Float} {r : Row Place} (h : InRow nums reals r) where
-  pub row-nums : length nums ≡ length (places r) * 4 + 1
-  row-nums = ap length (h .nums-is) ∙ (let e = nums-long (places r) in omega arith)
+module _ {nums ns : List ℕ} {reals rs : List Float} where
+  pub placed-run : (e : Place) (live spare : List Place) → length live < length (live ++ spare)
+      → ((rest : List Place) (x : Place) → Run nums reals (live ++ x ∷ rest) → Run ns rs (insertBy e live ++ rest))
+      → Run nums reals (live ++ spare) → Run ns rs (places (placed e (row live spare)))
+  placed-run e live [] l done u = let k = ap length (append-nil live) in absurd (omega arith)
+  placed-run e live (x ∷ rest) l done u = done rest x u
 
-  pub row-reals : length reals ≡ length (places r) * 10
-  row-reals = ap length (h .reals-is) ∙ reals-long (places r)
+  pub headless-run : (live spare : List Place) → 0 < length live
+      → ((rest : List Place) (x : Place) → length live ≡ suc (length rest) → Run nums reals (x ∷ rest ++ spare) → Run ns rs (rest ++ zeroP ∷ spare))
+      → Run nums reals (live ++ spare) → Run ns rs (places (headless (row live spare)))
+  headless-run [] spare l pulled u = absurd (not-suc-le-zero l)
+  headless-run (x ∷ rest) spare l pulled u = pulled rest x refl u
 
-  pub row-count : getD nums 0 0 ≡ length (r .live)
-  row-count = ap (λ (l : List ℕ). getD l 0 0) (h .nums-is)
-
-  pub row-live : length (r .live) ≤ length (places r)
-  row-live = let e = length-append (r .live) (r .spare) in omega arith
-
-  row-tail : Run (midOf 1 (length nums - 1) nums) reals (places r)
-  row-tail = record { nums-is = mid-tail (length (r .live) ∷ []) (flat placeNums (places r)) 1 (h .nums-is) refl; reals-is = h .reals-is }
-
-  row-back : (n : ℕ) (live spare : List Place) {ns : List ℕ} {rs : List Float} → n ≡ length live → Run ns rs (live ++ spare)
-      → InRow (set (putMid 1 (length nums - 1) nums ns) 0 n) rs (row live spare)
-  row-back n live spare {ns} e k = record {
-    nums-is = ap (λ (l : List ℕ). set l 0 n) (put-tail (length (r .live) ∷ []) (flat placeNums (places r)) 1 ns (h .nums-is) refl)
-        ∙ ap (λ (m : ℕ). m ∷ ns) e ∙ ap (λ (l : List ℕ). length live ∷ l) (k .nums-is);
-    reals-is = k .reals-is;
-  }
-
-pub insert-row : (e : Place) (n : ℕ) (live spare : List Place) {nums ns : List ℕ} {reals rs : List Float} → n ≡ getD nums 0 0
-    → ((live rest : List Place) (x : Place) → n ≡ length live → Run (midOf 1 (length nums - 1) nums) reals (live ++ x ∷ rest) → Run ns rs (insertBy e live ++ rest))
-    → InRow nums reals (row live spare) → length live < length (live ++ spare)
-    → InRow (set (putMid 1 (length nums - 1) nums ns) 0 (n + 1)) rs (placed e (row live spare))
-insert-row e n live [] en done h l = let k = ap length (append-nil live) in absurd (omega arith)
-insert-row e n live (x ∷ rest) en done h l =
-    row-back h (n + 1) (insertBy e live) rest (let k = row-count h in let m = length-insert e live in omega arith)
-    (done live rest x (en ∙ row-count h) (row-tail h))
-
-pub cancel-row : (g n k : ℕ) (r : Row Place) {nums ns : List ℕ} {reals rs : List Float} → n ≡ getD nums 0 0
-    → ((live rest : List Place) → n ≡ length live → Run (midOf 1 (length nums - 1) nums) reals (live ++ rest)
-    → (k ≡ length (keepBy g live)) × Run ns rs (keepBy g live ++ (replicate (goneBy g live) zeroP ++ rest)))
-    → InRow nums reals r → InRow (set (putMid 1 (length nums - 1) nums ns) 0 k) rs (without g r)
-cancel-row g n k r en done h =
-    let d = done (r .live) (r .spare) (en ∙ row-count h) (row-tail h) in
-    row-back h k (keepBy g (r .live)) (replicate (goneBy g (r .live)) zeroP ++ r .spare) (d .0) (d .1)
-
-pub take-row : (n : ℕ) (live spare : List Place) {x : Place} {nums ns : List ℕ} {reals rs : List Float} → n ≡ getD nums 0 0
-    → ((y : Place) (ps : List Place) → Run (midOf 1 (length nums - 1) nums) reals (y ∷ ps) → x ≡ y)
-    → ((live rest : List Place) (y : Place) → n - 1 ≡ length live → Run (midOf 1 (length nums - 1) nums) reals (y ∷ live ++ rest) → Run ns rs (live ++ zeroP ∷ rest))
-    → InRow nums reals (row live spare) → 0 < length live
-    → (x ≡ headPlace live) × InRow (set (putMid 1 (length nums - 1) nums ns) 0 (n - 1)) rs (headless (row live spare))
-take-row n [] spare en got pulled h l = absurd (not-suc-le-zero l)
-take-row n (y ∷ live) spare en got pulled h l =
-    let e : n ≡ suc (length live) = en ∙ row-count h in
-    (got y (live ++ spare) (row-tail h), row-back h (n - 1) live (zeroP ∷ spare) (omega arith) (pulled live spare y (omega arith) (row-tail h)))
+pub head-run : {nums : List ℕ} {reals : List Float} (live spare : List Place) {y : Place} → 0 < length live → ((x : Place) (ps : List Place) → Run nums reals (x ∷ ps) → y ≡ x)
+    → Run nums reals (live ++ spare) → y ≡ headPlace live
+head-run [] spare l got u = absurd (not-suc-le-zero l)
+head-run (x ∷ rest) spare l got u = got x (rest ++ spare) u
 
 -- ---- good rows
 

@@ -14,9 +14,7 @@ use Rattle.model.specs.State.{State, withGrains, withLists, home, listed, has, 
 use Rattle.model.specs.Acts.{fineGrain, store, enter, entered, leave, gone}
 use Rattle.model.specs.Sizes.{memberRoom, homeRoom}
 use Rattle.model.specs.Doing.{stepGrain}
-use Rattle.tables.specs.declared.Sizes.{Sizes}
-use Rattle.tables.specs.Holds.{Queued, Holds, AllTold}
-use Rattle.acts.specs.Tell.{At, InLists, InGrains, ListsTold, GrainsTold}
+use Rattle.acts.specs.Tell.{At}
 
 -- ---- what one act leaves, and one leaves after another, a row of them leaves
 module _ (R : State → State → Type 0) (none : (s : State) → R s s) (both : (s u w : State) → R s u → R u w → R s w) where
@@ -102,36 +100,3 @@ each-step-only l s = touch-of OnlyGrains grains-none grains-both stepGrain step-
 
 pub all-step-only : (m c : ℕ) (s : State) → OnlyGrains s ((each stepGrain m c s) .st)
 all-step-only m c s = touch-each OnlyGrains grains-none grains-both stepGrain step-only m c s
-
--- ---- all tables hold the outcome, where the one that the act touched does
-pub grains-all : {z : Sizes} {l : List ℕ} {t t′ : List Float} {q : List ℕ} {e : List Float} {o : List ℕ} {r : ℕ} (s : State) (a : Out State) → Holds z l t q e o s → OnlyGrains s (a .st) → GrainsTold z t′ r a
-    → AllTold z l t′ q e o r a
-grains-all {z} {l} {t′ = t′} {q = q} {e = e} {o = o} s a h only told = (
-  told .0,
-  record {
-    listed = grains-along (InLists z l) s (a .st) only (h .listed);
-    grained = told .1;
-    queued = grains-along (Queued z q e o) s (a .st) only (record {
-      ranged = h .queued .ranged;
-      tables = h .queued .tables;
-      heap = h .queued .heap;
-      room-is = h .queued .room-is;
-    });
-  },
-)
-
-pub lists-all : {z : Sizes} {l l′ : List ℕ} {t : List Float} {q : List ℕ} {e : List Float} {o : List ℕ} {r : ℕ} (s : State) (a : Out State) → Holds z l t q e o s → OnlyLists s (a .st) → ListsTold z l′ r a
-    → AllTold z l′ t q e o r a
-lists-all {z} {t = t} {q = q} {e = e} {o = o} s a h only told = (
-  told .0,
-  record {
-    listed = told .1;
-    grained = lists-along (InGrains z t) s (a .st) only (h .grained);
-    queued = lists-along (Queued z q e o) s (a .st) only (record {
-      ranged = h .queued .ranged;
-      tables = h .queued .tables;
-      heap = h .queued .heap;
-      room-is = h .queued .room-is;
-    });
-  },
-)

@@ -1,16 +1,17 @@
--- What the acts make of one cell's row of events, and the scheduler that a table of 512 bytes holds. Assumes nothing: these are definitions.
-use Prim.Native.Nat.{ℕ, _≤_, _<_}
+-- Where one cell's row of events stands, what the acts make of it, and the scheduler that a table of 512 bytes holds. Assumes nothing: these are definitions.
+use Prim.Native.Nat.{ℕ, _+_, _*_, _≤_}
+use mathlib.Core.Path.{_≡_}
 use mathlib.Core.Bool.{Bool, cond}
-use mathlib.Core.List.{List, [], _∷_, _++_}
-use lib.ListN.{length, take, drop, replicate}
+use mathlib.Core.List.{List, _∷_, _++_}
+use lib.ListN.{length, getD, take, drop, replicate}
 use lib.Ieee.{Float}
 use Rattle.scheduler.specs.declared.Scheduler.{Scheduler}
-use Rattle.scheduler.specs.Heap.{childIn, parentIn}
+use Rattle.scheduler.specs.Heap.{headIn, childIn, parentIn}
 use Rattle.model.specs.declared.Place.{Place}
 use Rattle.model.specs.Events.{insertBy, keepBy, goneBy, zeroP}
 use Rattle.model.specs.State.{Row, row}
-use Rattle.tables.specs.Layout.{places}
-use Rattle.tables.specs.Holds.{InRow}
+use Rattle.tables.specs.declared.Sizes.{Sizes}
+use Rattle.acts.specs.declared.queue.CellRow.{CellRow}
 
 -- ---- one cell's row: an event more, those that name a grain gone, the first gone
 abbrev pub placed : Place → Row Place → Row Place
@@ -22,12 +23,17 @@ without g r = row (keepBy g (r .live)) (replicate (goneBy g (r .live)) zeroP ++ 
 abbrev pub headless : Row Place → Row Place
 headless r = row (drop 1 (r .live)) (zeroP ∷ r .spare)
 
--- two parts hold some row of at most 256 places, of which P is so
-pub record Rowed (nums : List ℕ) (reals : List Float) (P : Row Place → Type 0) : Type 0 where
-  pub some : Row Place
-  pub held : InRow nums reals some
-  pub most : length (places some) ≤ 256
-  pub so : P some
+-- where cell c's row stands within the two tables, how many events it holds, and its head time
+pub record RowOf (z : Sizes) (nums : List ℕ) (reals : List Float) (c : ℕ) (k : CellRow) : Type 0 where
+  pub at-is : k .at ≡ c * (z .room * 4 + 1)
+  pub n-is : k .n ≡ getD nums (c * (z .room * 4 + 1)) 0
+  pub a-is : k .a ≡ c * (z .room * 4 + 1) + 1
+  pub b-is : k .b ≡ c * (z .room * 4 + 1) + (z .room * 4 + 1)
+  pub p-is : k .p ≡ c * (z .room * 10)
+  pub q-is : k .q ≡ c * (z .room * 10) + z .room * 10
+  pub head-is : k .head ≡ headIn reals nums (z .room) c
+  pub b-in : k .b ≤ length nums
+  pub q-in : k .q ≤ length reals
 
 -- ---- the scheduler of n cells that a table holds
 abbrev pub loaded : List ℕ → ℕ → Scheduler

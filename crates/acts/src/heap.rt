@@ -1,6 +1,6 @@
 // The scheduler in its table: 256 bytes of heap, then 256 of lookups.
 ghost use mathlib.Core.Path.{_≡_};
-ghost use Prim.Native.Nat.{ℕ, _+_, _*_, _<_, _≤_};
+ghost use Prim.Native.Nat.{_+_, _<_, _≤_};
 ghost use lib.ListN.{length};
 ghost use Rattle.scheduler.specs.Heap.{headIn, updated, Fit};
 ghost use Rattle.tables.specs.Layout.{orderBytes};

@@ -1,6 +1,6 @@
 // Grains' lists of cells and cells' lists of grains: entering, leaving, and where each list stands.
 ghost use mathlib.Core.Path.{_≡_};
-ghost use Prim.Native.Nat.{ℕ, _+_, _-_, _<_, _≤_};
+ghost use Prim.Native.Nat.{_+_, _-_, _<_, _≤_};
 ghost use lib.ListN.{length};
 ghost use borrow.Rule.Slice.PartMut.{midOf};
 ghost use Rattle.model.specs.State.{State, home, listed};
@@ -13,15 +13,6 @@ use tables::Sizes;
 pub struct Part {
     pub from: usize,
     pub to: usize,
-}
-
-// How many grains a cell lists.
-pub fn member_count(lists: &[u64], z: Sizes, cell: usize) -> usize
-    requires { ⌜ Lists z (now lists) × Ranged z × (cell < z .cells) ⌝ }
-    ensures { λ r. ⌜ ((s : State) → InLists z (now (lists .entry)) s → r ≡ length (listed s cell)) ⌝ }
-{
-    let p = z.grains * 9 + cell * 33;
-    lists[p] as usize
 }
 
 // Where the grains stand that a cell lists.

@@ -1,53 +1,47 @@
 // The acts on the cells' queues, each with its heap update.
 ghost use mathlib.Core.Path.{_≡_};
-ghost use Prim.Native.Nat.{ℕ, _+_, _*_, _<_, _≤_};
+ghost use Prim.Native.Nat.{ℕ, _+_, _*_, _<_};
 ghost use lib.ListN.{length, getD};
 ghost use Rattle.halting.specs.Out.{eachOf};
 ghost use Rattle.halting.specs.Every.{All};
-ghost use Rattle.model.specs.declared.Place.{Place as PlaceV};
-ghost use Rattle.model.specs.Events.{headPlace};
-ghost use Rattle.model.specs.State.{State, Row};
+ghost use Rattle.model.specs.State.{State};
 ghost use Rattle.model.specs.Acts.{insert as insertAct, put as putAct, cancel as cancelAct, first, head, taken};
-ghost use Rattle.tables.specs.Layout.{places as placesOf};
-ghost use Rattle.tables.specs.Holds.{InRow, Queued, Ready, Told};
-ghost use Rattle.acts.specs.Queues.{placed, without, headless, Rowed};
+ghost use Rattle.tables.specs.Holds.{Ranged, Queued, Ready, Told};
+ghost use Rattle.acts.specs.Queues.{RowOf};
 use crate::heap;
 use model::Place;
 use model::Plan;
 use tables::Sizes;
 use tables::places;
 
-// One cell's parts: its count, then its places.
-fn row_insert(nums: &mut [u64], reals: &mut [f64], e: Place)
-    requires { ⌜ Rowed (now nums) (now reals) (λ r. length (r .live) < length (placesOf r)) ⌝ }
-    ensures { λ _. ⌜ ((r : Row PlaceV) → InRow (now (nums .entry)) (now (reals .entry)) r → length (r .live) < length (placesOf r)
-        → InRow (now (nums .exit)) (now (reals .exit)) (placed e r)) ⌝ }
-{
-    let n = nums[0] as usize;
-    places::insert(&mut nums[1..], reals, n, e);
-    nums[0] = (n + 1) as u64;
+// A cell's row before an act: its count `n` stands at `at`, its places' numbers from `a` to before `b`, their floats from `p` to before `q`; `head` is its head time.
+pub struct CellRow {
+    pub at: usize,
+    pub n: usize,
+    pub a: usize,
+    pub b: usize,
+    pub p: usize,
+    pub q: usize,
+    pub head: f64,
 }
 
-fn row_cancel(nums: &mut [u64], reals: &mut [f64], g: u64)
-    requires { ⌜ Rowed (now nums) (now reals) (λ r. 0 ≤ length (r .live)) ⌝ }
-    ensures { λ _. ⌜ ((r : Row PlaceV) → InRow (now (nums .entry)) (now (reals .entry)) r
-        → InRow (now (nums .exit)) (now (reals .exit)) (without g r)) ⌝ }
+fn row_of(queue: &[u64], events: &[f64], z: Sizes, cell: usize) -> CellRow
+    requires { ⌜ Ranged z × (cell < z .cells) × (length (now queue) ≡ z .cells * (z .room * 4 + 1)) × (length (now events) ≡ z .cells * (z .room * 10)) ⌝ }
+    ensures { λ k. ⌜ RowOf z (now (queue .entry)) (now (events .entry)) cell k ⌝ }
 {
-    let n = nums[0] as usize;
-    let kept = places::cancel(&mut nums[1..], reals, n, g);
-    nums[0] = kept as u64;
-}
-
-fn row_take(nums: &mut [u64], reals: &mut [f64]) -> Place
-    requires { ⌜ Rowed (now nums) (now reals) (λ r. 0 < length (r .live)) ⌝ }
-    ensures { λ x. ⌜ ((r : Row PlaceV) → InRow (now (nums .entry)) (now (reals .entry)) r → 0 < length (r .live)
-        → (x ≡ headPlace (r .live)) × InRow (now (nums .exit)) (now (reals .exit)) (headless r)) ⌝ }
-{
-    let n = nums[0] as usize;
-    let first = places::get_head(&nums[1..], reals);
-    places::pull(&mut nums[1..], reals, n - 1);
-    nums[0] = (n - 1) as u64;
-    first
+    let w = z.room * 4 + 1;
+    let v = z.room * 10;
+    let at = cell * w;
+    let p = cell * v;
+    CellRow {
+        at,
+        n: queue[at] as usize,
+        a: at + 1,
+        b: at + w,
+        p,
+        q: p + v,
+        head: scheduler::head_time(events, queue, z.room, cell),
+    }
 }
 
 // An insertion: 5 before 6, and nothing changed where it is refused.
@@ -66,19 +60,21 @@ pub fn insert(
     if !places::fine_place(e) {
         return 5;
     }
-    let room = z.room;
-    let w = room * 4 + 1;
-    let v = room * 10;
-    let a = cell * w;
-    if room <= queue[a] as usize {
+    let CellRow {
+        at,
+        n,
+        a,
+        b,
+        p,
+        q,
+        head,
+    } = row_of(queue, events, z, cell);
+    if z.room <= n {
         return 6;
     }
-    let p = cell * v;
-    let b = a + w;
-    let q = p + v;
-    let before = scheduler::head_time(events, queue, room, cell);
-    row_insert(&mut queue[a..b], &mut events[p..q], e);
-    heap::update(order, queue, events, z, cell, before);
+    places::insert(&mut queue[a..b], &mut events[p..q], n, e);
+    queue[at] = (n + 1) as u64;
+    heap::update(order, queue, events, z, cell, head);
     0
 }
 
@@ -115,16 +111,18 @@ pub fn cancel(
     ensures { λ r. ⌜ ((s : State) → Queued z (now (queue .entry)) (now (events .entry)) (now (order .entry)) s
         → Told z (now (queue .exit)) (now (events .exit)) (now (order .exit)) r (cancelAct g cell s)) ⌝ }
 {
-    let room = z.room;
-    let w = room * 4 + 1;
-    let v = room * 10;
-    let a = cell * w;
-    let p = cell * v;
-    let b = a + w;
-    let q = p + v;
-    let before = scheduler::head_time(events, queue, room, cell);
-    row_cancel(&mut queue[a..b], &mut events[p..q], g);
-    heap::update(order, queue, events, z, cell, before);
+    let CellRow {
+        at,
+        n,
+        a,
+        b,
+        p,
+        q,
+        head,
+    } = row_of(queue, events, z, cell);
+    let kept = places::cancel(&mut queue[a..b], &mut events[p..q], n, g);
+    queue[at] = kept as u64;
+    heap::update(order, queue, events, z, cell, head);
     0
 }
 
@@ -157,15 +155,18 @@ pub fn take(queue: &mut [u64], events: &mut [f64], order: &mut [u8], z: Sizes, c
     ensures { λ r. ⌜ ((s : State) → Queued z (now (queue .entry)) (now (events .entry)) (now (order .entry)) s → cell ≡ first s
         → (r ≡ head s) × Queued z (now (queue .exit)) (now (events .exit)) (now (order .exit)) (taken s)) ⌝ }
 {
-    let room = z.room;
-    let w = room * 4 + 1;
-    let v = room * 10;
-    let a = cell * w;
-    let p = cell * v;
-    let b = a + w;
-    let q = p + v;
-    let before = scheduler::head_time(events, queue, room, cell);
-    let place = row_take(&mut queue[a..b], &mut events[p..q]);
-    heap::update(order, queue, events, z, cell, before);
-    place
+    let CellRow {
+        at,
+        n,
+        a,
+        b,
+        p,
+        q,
+        head,
+    } = row_of(queue, events, z, cell);
+    let first = places::get_head(&queue[a..b], &events[p..q]);
+    places::pull(&mut queue[a..b], &mut events[p..q], n - 1);
+    queue[at] = (n - 1) as u64;
+    heap::update(order, queue, events, z, cell, head);
+    first
 }

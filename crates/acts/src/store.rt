@@ -1,5 +1,4 @@
 // The grains' numbers: storing them, and stepping one grain, those of a list or all to the clock.
-ghost use mathlib.Core.Path.{_≡_};
 ghost use Prim.Native.Nat.{ℕ, _+_, _-_, _<_, _≤_};
 ghost use lib.ListN.{length};
 ghost use Rattle.halting.specs.Every.{All};

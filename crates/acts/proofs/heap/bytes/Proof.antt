@@ -1,7 +1,7 @@
 use Rattle.acts.proofs.Loaded.{copied-more, copied-all}
 use lib.ListN.{length, take, length-set}
 use mathlib.Core.Path.{_≡_}
-use Prim.Native.Nat.{ℕ, _≤_, _-_, _<_}
+use Prim.Native.Nat.{_≤_, _-_}
 use native.Mathlib.Omega.{arith}
 use borrow.Author.Needs.{needs}
 use Rattle.acts.proofs.heap.bytes.Statement.{statement}
@@ -19,16 +19,16 @@ loop-holds : tie.Need-loop-holds Inv-loop μ-loop
 loop-holds c = search needs
 
 shared-slice-read-a : tie.Need-shared-slice-read-a Inv-loop μ-loop
-shared-slice-read-a c = search needs
+shared-slice-read-a c = omega arith
 
 array-write-a : tie.Need-array-write-a Inv-loop μ-loop
-array-write-a c = search needs
+array-write-a c = omega arith
 
 add-i : tie.Need-add-i Inv-loop μ-loop
-add-i c = search needs
+add-i c = omega arith
 
 loop-less : tie.Need-loop-less Inv-loop μ-loop
-loop-less c = search needs
+loop-less c = omega arith
 
 loop-again : tie.Need-loop-again Inv-loop μ-loop
 loop-again c = let l = c .before .before .loop in let a = c .before .before .before .args in (omega arith, simp length-set (l .inv .1), copied-more (l .i) (l .a) (a .t .now) (omega arith) (omega arith) (l .inv .2))

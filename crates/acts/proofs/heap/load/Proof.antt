@@ -10,25 +10,25 @@ use Rattle.acts.proofs.heap.load.Lts as lts
 use Rattle.acts.proofs.heap.bytes.Reads as bytes-reads
 
 sub-bytes : tie.Need-sub-bytes
-sub-bytes c = search needs
+sub-bytes c = omega arith
 
 part-bytes-start : tie.Need-part-bytes-start
-part-bytes-start c = search needs
+part-bytes-start c = omega arith
 
 part-bytes-end : tie.Need-part-bytes-end
-part-bytes-end c = search needs
+part-bytes-end c = omega arith
 
 bytes-requires : tie.Need-bytes-requires
 bytes-requires c κs = search needs
 
 sub-bytes-2 : tie.Need-sub-bytes-2
-sub-bytes-2 c = search needs
+sub-bytes-2 c = omega arith
 
 part-bytes-start-2 : tie.Need-part-bytes-start-2
-part-bytes-start-2 c = search needs
+part-bytes-start-2 c = omega arith
 
 part-bytes-end-2 : tie.Need-part-bytes-end-2
-part-bytes-end-2 c = search needs
+part-bytes-end-2 c = omega arith
 
 bytes-requires-2 : tie.Need-bytes-requires-2
 bytes-requires-2 c κs = search needs

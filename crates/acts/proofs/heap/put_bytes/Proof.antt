@@ -1,7 +1,7 @@
 use Rattle.acts.proofs.Loaded.{copied-more, copied-all}
 use lib.ListN.{length, take, length-set}
 use mathlib.Core.Path.{_≡_}
-use Prim.Native.Nat.{ℕ, _≤_, _-_, _<_}
+use Prim.Native.Nat.{_≤_, _-_}
 use native.Mathlib.Omega.{arith}
 use borrow.Author.Needs.{needs}
 use Rattle.acts.proofs.heap.put_bytes.Statement.{statement}
@@ -19,16 +19,16 @@ loop-holds : tie.Need-loop-holds Inv-loop μ-loop
 loop-holds c = search needs
 
 array-read-t : tie.Need-array-read-t Inv-loop μ-loop
-array-read-t c = search needs
+array-read-t c = omega arith
 
 slice-write-t : tie.Need-slice-write-t Inv-loop μ-loop
-slice-write-t c = search needs
+slice-write-t c = omega arith
 
 add-i : tie.Need-add-i Inv-loop μ-loop
-add-i c = search needs
+add-i c = omega arith
 
 loop-less : tie.Need-loop-less Inv-loop μ-loop
-loop-less c = search needs
+loop-less c = omega arith
 
 loop-again : tie.Need-loop-again Inv-loop μ-loop
 loop-again c = let l = c .before .loop in let b = c .before .before in let h : length (b .args .t2) ≡ 256 = search needs in (omega arith, simp length-set (l .inv .1), copied-more (l .i) (l .t) (b .args .t2) (omega arith) (omega arith) (l .inv .2))

@@ -1,8 +1,7 @@
 use Rattle.acts.specs.Queues.{shiftedTo}
 use Rattle.scheduler.specs.Heap.{headIn}
 use mathlib.Core.Bool.{Bool}
-use mathlib.Core.Path.{_≡_, sym, ap, _∙_}
-use native.Mathlib.Omega.{arith}
+use mathlib.Core.Path.{sym, ap, _∙_}
 use borrow.Author.Needs.{needs}
 use Rattle.acts.proofs.heap.shifted_to.Statement.{statement}
 use Rattle.acts.proofs.heap.shifted_to.Tie as tie

@@ -6,7 +6,7 @@ use Rattle.scheduler.specs.declared.Scheduler.{Scheduler}
 use lib.Ieee.{Float}
 use lib.ListN.{length}
 use Prim.Native.Nat.{_+_}
-use mathlib.Core.Path.{_≡_, sym, ap, subst, _∙_}
+use mathlib.Core.Path.{sym, ap, subst, _∙_}
 use native.Mathlib.Omega.{arith}
 use borrow.Author.Needs.{needs}
 use Rattle.acts.proofs.heap.update.Statement.{statement}
@@ -23,22 +23,22 @@ head-time-requires : tie.Need-head-time-requires
 head-time-requires c κs = search needs
 
 add-i : tie.Need-add-i
-add-i c = search needs
+add-i c = omega arith
 
 slice-read-at : tie.Need-slice-read-at
-slice-read-at c = search needs
+slice-read-at c = omega arith
 
 cast-at : tie.Need-cast-at
 cast-at c = let a = c .before .before .before .before .before .args in omega (arith, c .slice-known2 .given (256 + a .cell))
 
 sub-shifted-to : tie.Need-sub-shifted-to
-sub-shifted-to c = search needs
+sub-shifted-to c = omega arith
 
 part-shifted-to-start : tie.Need-part-shifted-to-start
-part-shifted-to-start c = search needs
+part-shifted-to-start c = omega arith
 
 part-shifted-to-end : tie.Need-part-shifted-to-end
-part-shifted-to-end c = search needs
+part-shifted-to-end c = omega arith
 
 shifted-to-requires : tie.Need-shifted-to-requires
 shifted-to-requires c κs = let b = c .before .before .before .before .before .before .before in let a = b .args in let t = a .order .now in let h = headIn (a .events .now) (a .queue .now) (a .z .room) in let f = b .pre .1 .room in (omega (arith, ap length (front-is t (b .pre .0)), front-long t (b .pre .0)), omega (arith, c .before .before .slice-known2 .given (256 + a .cell)), b .pre .3)

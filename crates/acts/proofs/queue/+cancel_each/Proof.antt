@@ -2,9 +2,8 @@ use Rattle.tables.specs.Holds.{Queued}
 use Rattle.acts.proofs.InTurn.{of-none, of-stop, of-on, every-tail, tail-less}
 use Rattle.model.specs.Acts.{cancel, cancelled}
 use lib.ListN.{length, getD}
-use mathlib.Core.Path.{_≡_, refl, sym, ap, _∙_}
+use mathlib.Core.Path.{_∙_}
 use native.Mathlib.Omega.{arith}
-use borrow.Author.Needs.{needs}
 use Prim.Native.Nat.{ℕ, _<_}
 use borrow.Fn.Kinds.{In}
 use borrow.Fn.PlainCycle.{Measures, is, falls, and}
@@ -33,7 +32,7 @@ cancel-each-returns : (t : ℕ) → cancel-each-lts.Need-returns (Rd t) (cancel-
 cancel-each-returns t c = let b = c .before .before .before .before .before in let a = b .args in λ s q. of-none (λ n. cancel (a .g) n) s (Queued (a .z) (a .queue .now) (a .events .now) (a .order .now)) (a .list .now) (c .if1 .taken) q
 
 cancel-each-shared-slice-read-cancel : (t : ℕ) → cancel-each-lts.Need-shared-slice-read-cancel (Rd t) (cancel-each-at t) cancel-each.Post
-cancel-each-shared-slice-read-cancel t c = search needs
+cancel-each-shared-slice-read-cancel t c = omega arith
 
 cancel-each-cancel-requires : (t : ℕ) → cancel-each-lts.Need-cancel-requires (Rd t) (cancel-each-at t) cancel-each.Post
 cancel-each-cancel-requires t c κs = let b = c .before .before .before .before .before .before .before .before .before in let a = b .args in (b .pre .1 .0, every-tail (λ n. n < a .z .cells) (a .list .now) (b .pre .1 .1) (c .before .before .before .before .if1 .left) .0)
@@ -51,13 +50,13 @@ cancel-each-returns-2 : (t : ℕ) → cancel-each-lts.Need-returns-2 (Rd t) (can
 cancel-each-returns-2 t c = let b = c .before .before .before .before .before .before .before .before .before .before .before .before .before .before .before .before .before in let a = b .args in λ s q. of-stop (λ n. cancel (a .g) n) s (Queued (a .z) (c .before .before .before .before .before .before .before .cancel .last .0) (c .before .before .before .before .before .before .before .cancel .last .1 .0) (c .before .before .before .before .before .before .before .cancel .last .1 .1 .0)) (a .list .now) (c .before .before .before .before .before .before .before .before .before .before .before .before .if1 .left) (c .before .before .before .before .before .before .before .cancel .ensures s q) (c .if2 .taken)
 
 cancel-each-sub-cancel-each : (t : ℕ) → cancel-each-lts.Need-sub-cancel-each (Rd t) (cancel-each-at t) cancel-each.Post
-cancel-each-sub-cancel-each t c = search needs
+cancel-each-sub-cancel-each t c = omega arith
 
 cancel-each-part-cancel-each-start : (t : ℕ) → cancel-each-lts.Need-part-cancel-each-start (Rd t) (cancel-each-at t) cancel-each.Post
-cancel-each-part-cancel-each-start t c = search needs
+cancel-each-part-cancel-each-start t c = omega arith
 
 cancel-each-part-cancel-each-end : (t : ℕ) → cancel-each-lts.Need-part-cancel-each-end (Rd t) (cancel-each-at t) cancel-each.Post
-cancel-each-part-cancel-each-end t c = search needs
+cancel-each-part-cancel-each-end t c = omega arith
 
 cancel-each-cancel-each-requires : (t : ℕ) → cancel-each-lts.Need-cancel-each-requires (Rd t) (cancel-each-at t) cancel-each.Post
 cancel-each-cancel-each-requires t c κs = let b = c .before .before .before .before .before .before .before .before .before .before .before .before .before .before .before .before .before .before .before .before .before in let a = b .args in let o = b .pre .1 .0 in (omega (arith, tail-less (a .list .now) (c .before .before .before .before .before .before .before .before .before .before .before .before .before .before .before .before .if1 .left), b .pre .0), ((cancelled (a .g) (getD (a .list .now) 0 0) (o .0), c .before .before .before .before .before .before .before .before .before .before .before .cancel .ensures (o .0) (o .1) .1), every-tail (λ n. n < a .z .cells) (a .list .now) (b .pre .1 .1) (c .before .before .before .before .before .before .before .before .before .before .before .before .before .before .before .before .if1 .left) .1))

@@ -3,8 +3,7 @@ use Rattle.tables.specs.Holds.{Queued, Told}
 use Rattle.model.specs.Acts.{put, insert}
 use Rattle.model.specs.State.{State}
 use Rattle.model.specs.declared.Plan.{Plan}
-use mathlib.Core.Path.{_≡_, refl, sym, ap, _∙_, subst}
-use native.Mathlib.Omega.{arith}
+use mathlib.Core.Path.{refl, sym, subst}
 use borrow.Author.Needs.{needs}
 use Rattle.acts.proofs.queue.put.Statement.{statement}
 use Rattle.acts.proofs.queue.put.Tie as tie

@@ -1,104 +1,126 @@
-use Rattle.acts.proofs.Queues.{in-nums, in-reals, rowed, held, update-fits, take-tables, take-head, take-done}
-use lib.ListN.{length}
-use Prim.Native.Nat.{_<_}
-use mathlib.Core.Path.{_≡_, refl, sym, ap, _∙_}
+use Rattle.acts.proofs.Queues.{at-in, nums-kept, reals-kept, count-most, row-asks, update-asks, more-asks, head-asks, take-tables, take-done}
+use Prim.Native.Nat.{_-_}
 use native.Mathlib.Omega.{arith}
-use borrow.Author.Needs.{needs}
 use Rattle.acts.proofs.queue.take.Statement.{statement}
 use Rattle.acts.proofs.queue.take.Tie as tie
 use Rattle.acts.proofs.queue.take.Reads as reads
 use Rattle.acts.proofs.queue.take.Lts as lts
 use Rattle.acts.proofs.heap.update.Reads as update-reads
-use Rattle.acts.proofs.queue.row_take.Reads as row-take-reads
-use Rattle.scheduler.proofs.head_time.Reads as head-time-reads
+use Rattle.acts.proofs.queue.row_of.Reads as row-of-reads
+use Rattle.tables.proofs.places.get_head.Reads as get-head-reads
+use Rattle.tables.proofs.places.pull.Reads as pull-reads
 
-mul-w : tie.Need-mul-w
-mul-w c = let b = c .before .before .before in let a = b .args in let q = b .pre .0 .1 in let t = q .tables in omega (arith, q .ranged .room-most)
+row-of-requires : tie.Need-row-of-requires
+row-of-requires c κs = let b = c .before .before .before .before .before in row-asks (b .pre .0 .1) (b .pre .1)
 
-add-w : tie.Need-add-w
-add-w c = let b = c .before .before .before in let a = b .args in let q = b .pre .0 .1 in let t = q .tables in omega (arith, q .ranged .room-most)
+mul-get-head : tie.Need-mul-get-head
+mul-get-head c = omega arith
 
-mul-v : tie.Need-mul-v
-mul-v c = let b = c .before .before .before in let a = b .args in let q = b .pre .0 .1 in let t = q .tables in omega (arith, q .ranged .room-most)
+sub-get-head : tie.Need-sub-get-head
+sub-get-head c = omega arith
 
-mul-a : tie.Need-mul-a
-mul-a c = let b = c .before .before .before in let a = b .args in let q = b .pre .0 .1 in let t = q .tables in omega (arith, q .ranged .room-most, q .ranged .cells-most, in-nums t (a .cell) (b .pre .1))
+part-get-head-start : tie.Need-part-get-head-start
+part-get-head-start c = omega arith
 
-mul-p : tie.Need-mul-p
-mul-p c = let b = c .before .before .before in let a = b .args in let q = b .pre .0 .1 in let t = q .tables in omega (arith, q .ranged .room-most, q .ranged .cells-most, in-reals t (a .cell) (b .pre .1))
+part-get-head-end : tie.Need-part-get-head-end
+part-get-head-end c = c .before .row-of .ensures .b-in
 
-add-b : tie.Need-add-b
-add-b c = let b = c .before .before .before in let a = b .args in let q = b .pre .0 .1 in let t = q .tables in omega (arith, q .ranged .room-most, q .ranged .cells-most, in-nums t (a .cell) (b .pre .1))
+mul-get-head-2 : tie.Need-mul-get-head-2
+mul-get-head-2 c = omega arith
 
-add-q : tie.Need-add-q
-add-q c = let b = c .before .before .before in let a = b .args in let q = b .pre .0 .1 in let t = q .tables in omega (arith, q .ranged .room-most, q .ranged .cells-most, in-reals t (a .cell) (b .pre .1))
+sub-get-head-2 : tie.Need-sub-get-head-2
+sub-get-head-2 c = omega arith
 
-head-time-requires : tie.Need-head-time-requires
-head-time-requires c κs = let b = c .before .before .before .before .before in let a = b .args in let q = b .pre .0 .1 in let t = q .tables in omega (arith, q .ranged .room-most, q .ranged .cells-most, b .pre .1)
+part-get-head-start-2 : tie.Need-part-get-head-start-2
+part-get-head-start-2 c = omega arith
 
-mul-row-take : tie.Need-mul-row-take
-mul-row-take c = let b = c .before .before .before .before .before .before in let a = b .args in let q = b .pre .0 .1 in let t = q .tables in omega (arith, q .ranged .room-most, q .ranged .cells-most, in-nums t (a .cell) (b .pre .1))
+part-get-head-end-2 : tie.Need-part-get-head-end-2
+part-get-head-end-2 c = c .before .before .before .row-of .ensures .q-in
 
-sub-row-take : tie.Need-sub-row-take
-sub-row-take c = search needs
+get-head-requires : tie.Need-get-head-requires
+get-head-requires c κs = let b = c .before .before .before .before .before .before .before .before .before .before in let h = b .pre .1 in let q = b .pre .0 .1 in let K = c .before .before .before .before .row-of .ensures in head-asks q h K
 
-part-row-take-start : tie.Need-part-row-take-start
-part-row-take-start c = search needs
+mul-pull : tie.Need-mul-pull
+mul-pull c = omega arith
 
-part-row-take-end : tie.Need-part-row-take-end
-part-row-take-end c = let b = c .before .before .before .before .before .before in let a = b .args in let q = b .pre .0 .1 in let t = q .tables in omega (arith, q .ranged .room-most, q .ranged .cells-most, in-nums t (a .cell) (b .pre .1))
+sub-pull : tie.Need-sub-pull
+sub-pull c = omega arith
 
-mul-row-take-2 : tie.Need-mul-row-take-2
-mul-row-take-2 c = let b = c .before .before .before .before .before .before .before in let a = b .args in let q = b .pre .0 .1 in let t = q .tables in omega (arith, q .ranged .room-most, q .ranged .cells-most, in-reals t (a .cell) (b .pre .1))
+part-pull-start : tie.Need-part-pull-start
+part-pull-start c = omega arith
 
-sub-row-take-2 : tie.Need-sub-row-take-2
-sub-row-take-2 c = search needs
+part-pull-end : tie.Need-part-pull-end
+part-pull-end c = c .before .before .before .before .before .row-of .ensures .b-in
 
-part-row-take-start-2 : tie.Need-part-row-take-start-2
-part-row-take-start-2 c = search needs
+mul-pull-2 : tie.Need-mul-pull-2
+mul-pull-2 c = let b = c .before .before .before .before .before .before .before .before .before .before .before .before in let K = c .before .before .before .before .before .before .row-of .ensures in omega arith
 
-part-row-take-end-2 : tie.Need-part-row-take-end-2
-part-row-take-end-2 c = let b = c .before .before .before .before .before .before .before in let a = b .args in let q = b .pre .0 .1 in let t = q .tables in omega (arith, q .ranged .room-most, q .ranged .cells-most, in-reals t (a .cell) (b .pre .1))
+sub-pull-2 : tie.Need-sub-pull-2
+sub-pull-2 c = omega arith
 
-row-take-requires : tie.Need-row-take-requires
-row-take-requires c κs = let b = c .before .before .before .before .before .before .before .before in let a = b .args in let q = b .pre .0 .1 in let t = q .tables in rowed q (a .cell) (λ r. 0 < length (r .live)) (b .pre .1) (held q (a .cell) (b .pre .2))
+part-pull-start-2 : tie.Need-part-pull-start-2
+part-pull-start-2 c = omega arith
+
+part-pull-end-2 : tie.Need-part-pull-end-2
+part-pull-end-2 c = c .before .before .before .before .before .before .row-of .ensures .q-in
+
+sub-pull-3 : tie.Need-sub-pull-3
+sub-pull-3 c = let b = c .before .before .before .before .before .before .before .before .before .before .before .before .before in let h = b .pre .1 in let q = b .pre .0 .1 in let K = c .before .before .before .before .before .before .before .row-of .ensures in let l = b .pre .2 in omega (arith, K .n-is)
+
+pull-requires : tie.Need-pull-requires
+pull-requires c κs = let b = c .before .before .before .before .before .before .before .before .before .before .before .before .before in let h = b .pre .1 in let q = b .pre .0 .1 in let K = c .before .before .before .before .before .before .before .row-of .ensures in let l = b .pre .2 in more-asks q h K (c .before .before .before .before .before .before .before .row-of .result .n - 1) (omega (arith, K .n-is, count-most (q .tables) K h))
+
+sub-queue : tie.Need-sub-queue
+sub-queue c = let b = c .before .before .before .before .before .before .before .before .before .before .before .before .before .before .before .before .before .before in let h = b .pre .1 in let q = b .pre .0 .1 in let K = c .before .before .before .before .before .before .before .before .before .before .before .before .row-of .ensures in let l = b .pre .2 in omega (arith, K .n-is)
+
+mul-queue : tie.Need-mul-queue
+mul-queue c = let b = c .before .before .before .before .before .before .before .before .before .before .before .before .before .before .before .before .before .before in let K = c .before .before .before .before .before .before .before .before .before .before .before .before .row-of .ensures in omega arith
+
+slice-write-queue : tie.Need-slice-write-queue
+slice-write-queue c = at-in (c .before .before .before .before .before .before .before .before .before .before .before .before .row-of .ensures) (c .before .before .before .before .pull .last .0) (c .before .before .before .before .pull .kept .0)
 
 update-requires : tie.Need-update-requires
-update-requires c κs = let b = c .before .before .before .before .before .before .before .before .before .before .before .before .before .before .before .before in let a = b .args in let q = b .pre .0 .1 in let t = q .tables in update-fits (a .cell) q (b .pre .1) (take-tables (a .cell) (b .pre .0 .0) q (b .pre .1) (b .pre .2) (c .before .before .before .before .before .before .before .row-take .ensures))
+update-requires c κs = let b = c .before .before .before .before .before .before .before .before .before .before .before .before .before .before .before .before .before .before .before .before .before in let h = b .pre .1 in let q = b .pre .0 .1 in let K = c .before .before .before .before .before .before .before .before .before .before .before .before .before .before .before .row-of .ensures in let l = b .pre .2 in update-asks q h (take-tables (b .args .cell) (b .pre .0 .0) q K h l (c .before .before .before .before .before .before .before .pull .ensures))
 
 same-length : tie.Need-same-length
-same-length c = search needs
+same-length c = let b = c .before .before .before .before .before .before .before .before .before .before .before .before .before .before .before .before .before .before .before .before .before .before .before .before in nums-kept (c .before .before .before .before .before .before .before .before .before .before .before .before .before .before .before .before .before .before .row-of .result) (b .args .queue .now) (c .before .before .before .before .before .before .before .before .before .before .pull .last .0) (c .before .before .before .before .before .before .before .before .before .before .before .before .before .before .before .before .before .before .row-of .result .n - 1) (c .before .before .before .before .before .before .before .before .before .before .pull .kept .0)
 
 same-length-2 : tie.Need-same-length-2
-same-length-2 c = search needs
+same-length-2 c = let b = c .before .before .before .before .before .before .before .before .before .before .before .before .before .before .before .before .before .before .before .before .before .before .before .before in reals-kept (c .before .before .before .before .before .before .before .before .before .before .before .before .before .before .before .before .before .before .row-of .result) (b .args .events .now) (c .before .before .before .before .before .before .before .before .before .before .pull .last .1 .0) (c .before .before .before .before .before .before .before .before .before .before .pull .kept .1 .0)
 
 same-length-3 : tie.Need-same-length-3
-same-length-3 c = search needs
+same-length-3 c = c .before .before .update .kept .0
 
 returns : tie.Need-returns
-returns c = let b = c .before .before .before .before .before .before .before .before .before .before .before .before .before .before .before .before .before .before .before in let a = b .args in λ s q. take-done (a .cell) s q (b .pre .1) (c .before .before .before .before .before .before .before .before .before .before .before .before .before .head-time .ensures) (take-tables (a .cell) s q (b .pre .1) (b .pre .2) (c .before .before .before .before .before .before .before .before .before .before .row-take .ensures)) (take-head (a .cell) s q (b .pre .1) (b .pre .2) (c .before .before .before .before .before .before .before .before .before .before .row-take .ensures)) (c .before .before .update .ensures)
+returns c = let b = c .before .before .before .before .before .before .before .before .before .before .before .before .before .before .before .before .before .before .before .before .before .before .before .before in let h = b .pre .1 in let l = b .pre .2 in let K = c .before .before .before .before .before .before .before .before .before .before .before .before .before .before .before .before .before .before .row-of .ensures in λ s q. take-done (b .args .cell) s q K h l (c .before .before .before .before .before .before .before .before .before .before .before .before .before .get-head .ensures) (take-tables (b .args .cell) s q K h l (c .before .before .before .before .before .before .before .before .before .before .pull .ensures)) (c .before .before .update .ensures)
 
 pub take-spec : {M : Type 1} → statement M
 take-spec =
     tie.close
     (tie.spec
-    mul-w
-    add-w
-    mul-v
-    mul-a
-    mul-p
-    add-b
-    add-q
-    head-time-requires
-    mul-row-take
-    sub-row-take
-    part-row-take-start
-    part-row-take-end
-    mul-row-take-2
-    sub-row-take-2
-    part-row-take-start-2
-    part-row-take-end-2
-    row-take-requires
+    row-of-requires
+    mul-get-head
+    sub-get-head
+    part-get-head-start
+    part-get-head-end
+    mul-get-head-2
+    sub-get-head-2
+    part-get-head-start-2
+    part-get-head-end-2
+    get-head-requires
+    mul-pull
+    sub-pull
+    part-pull-start
+    part-pull-end
+    mul-pull-2
+    sub-pull-2
+    part-pull-start-2
+    part-pull-end-2
+    sub-pull-3
+    pull-requires
+    sub-queue
+    mul-queue
+    slice-write-queue
     update-requires
     same-length
     same-length-2

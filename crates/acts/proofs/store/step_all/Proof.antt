@@ -1,7 +1,6 @@
 use Rattle.acts.proofs.StoreLaws.{all-told}
 use Rattle.acts.specs.Tell.{InGrains}
 use Rattle.model.specs.Doing.{stepGrain}
-use native.Mathlib.Omega.{arith}
 use borrow.Author.Needs.{needs}
 use Rattle.acts.proofs.store.step_all.Statement.{statement}
 use Rattle.acts.proofs.store.step_all.Tie as tie

@@ -1,6 +1,5 @@
 use Rattle.acts.proofs.StoreLaws.{step-told}
 use Rattle.tables.proofs.GrainLaws.{grain-fits}
-use native.Mathlib.Omega.{arith}
 use borrow.Author.Needs.{needs}
 use Rattle.acts.proofs.store.step_grain.Statement.{statement}
 use Rattle.acts.proofs.store.step_grain.Tie as tie

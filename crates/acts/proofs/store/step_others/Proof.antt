@@ -12,7 +12,6 @@ use Rattle.acts.proofs.StoreLaws.{timed}
 use Rattle.acts.proofs.Touch.{step-only, at-on}
 use Rattle.acts.proofs.InTurn.{others-none, others-skip, others-stop, others-on, every-tail, tail-less}
 use native.Mathlib.Omega.{arith}
-use borrow.Author.Needs.{needs}
 use Rattle.acts.proofs.store.step_others.Statement.{statement}
 use Rattle.acts.proofs.store.step_others.Tie as tie
 
@@ -28,16 +27,16 @@ loop-holds : tie.Need-loop-holds Inv-loop μ-loop
 loop-holds c = let p = c .before .before .pre in (p .0, p .2, refl, λ t r k. k)
 
 shared-slice-read-g : tie.Need-shared-slice-read-g Inv-loop μ-loop
-shared-slice-read-g c = search needs
+shared-slice-read-g c = omega arith
 
 sub-rest : tie.Need-sub-rest Inv-loop μ-loop
-sub-rest c = search needs
+sub-rest c = omega arith
 
 part-rest-start : tie.Need-part-rest-start Inv-loop μ-loop
-part-rest-start c = search needs
+part-rest-start c = omega arith
 
 part-rest-end : tie.Need-part-rest-end Inv-loop μ-loop
-part-rest-end c = search needs
+part-rest-end c = omega arith
 
 loop-less : tie.Need-loop-less Inv-loop μ-loop
 loop-less c = omega (arith, tail-less (c .before .before .before .before .loop .rest .now) (let h = c .before .before .before .loop-test .taken in λ (e : length (c .before .before .before .before .loop .rest .now) ≡ 0). absurd (omega (arith, e, h))))
@@ -67,13 +66,13 @@ returns c =
     l .inv .3 (d .last .0) (d .result) (λ s S u. others-stop stepGrain s (InGrains (a .z) (d .last .0)) (a .p) (l .rest .now) (let h = c .before .before .before .before .before .before .before .loop-test .taken in λ (e : length (c .before .before .before .before .before .before .before .before .loop .rest .now) ≡ 0). absurd (omega (arith, e, h))) (c .before .before .before .before .before .if1 .left) (d .ensures s S u) (c .if2 .taken))
 
 sub-rest-2 : tie.Need-sub-rest-2 Inv-loop μ-loop
-sub-rest-2 c = search needs
+sub-rest-2 c = omega arith
 
 part-rest-start-2 : tie.Need-part-rest-start-2 Inv-loop μ-loop
-part-rest-start-2 c = search needs
+part-rest-start-2 c = omega arith
 
 part-rest-end-2 : tie.Need-part-rest-end-2 Inv-loop μ-loop
-part-rest-end-2 c = search needs
+part-rest-end-2 c = omega arith
 
 loop-less-2 : tie.Need-loop-less-2 Inv-loop μ-loop
 loop-less-2 c = omega (arith, tail-less (c .before .before .before .before .before .before .before .before .before .loop .rest .now) (let h = c .before .before .before .before .before .before .before .before .loop-test .taken in λ (e : length (c .before .before .before .before .before .before .before .before .before .loop .rest .now) ≡ 0). absurd (omega (arith, e, h))))

@@ -2,7 +2,6 @@ use Rattle.acts.proofs.StoreLaws.{store-refused, store-done}
 use Rattle.tables.proofs.GrainLaws.{grain-fits}
 use borrow.Author.Tests.{not-true, not-false}
 use mathlib.Core.Path.{sym, _∙_}
-use native.Mathlib.Omega.{arith}
 use borrow.Author.Needs.{needs}
 use Rattle.acts.proofs.store.store.Statement.{statement}
 use Rattle.acts.proofs.store.store.Tie as tie
