@@ -12,7 +12,7 @@ use Rattle.model.specs.Sound.{Sound}
 use Rattle.halting.proofs.All.{all-of}
 use Rattle.tables.specs.declared.Sizes.{Sizes}
 use Rattle.tables.specs.Layout.{queueNums, queueReals, orderBytes}
-use Rattle.tables.specs.Holds.{Good, Ranged, Tabled, Heaped, Queued}
+use Rattle.tables.specs.Holds.{Good, Ranged, Queued}
 use Rattle.tables.proofs.Runs.{good-of}
 
 module _ {z : Sizes} (s : State) (k : Sound s) (eg : length (s .grains) ≡ z .grains) (ec : cells (s .box) ≡ z .cells) (er : s .room ≡ z .room) where

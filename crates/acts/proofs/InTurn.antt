@@ -12,7 +12,7 @@ use borrow.Author.Tests.{eq-eqb, ne-eqb}
 use borrow.Rule.Slice.PartMut.{midOf}
 use Rattle.halting.specs.Every.{All}
 use Rattle.chunks.proofs.Laws.{mid-tail}
-use Rattle.halting.specs.Out.{Out, out, next, then, each, eachOf}
+use Rattle.halting.specs.Out.{Out, next, then, each, eachOf}
 use Rattle.model.specs.Doing.{others}
 
 -- a list's first number is p, or is another
@@ -102,9 +102,9 @@ module _ {S : Type 0} where
     each-on H H′ m c {r′ = r′} h t u v = subst (λ (o : Out S). Tells H′ r′ o) (sym (each-turn m c h)) (told-on H H′ (act c s) (each act (m - (c + 1)) (c + 1)) u t v)
 
 -- what a list's first number and its rest, lent on, have of the whole
-pub every-tail : (P : ℕ → Type 0) (l : List ℕ) → All P l → (length l ≡ 0 → ⊥) → P (getD l 0 0) × All P (midOf 1 (length l - 1) l)
-every-tail P [] v z = absurd (z refl)
-every-tail P (x ∷ l) v z = (v .0, subst (All P) (sym (mid-tail (x ∷ []) l {l = x ∷ l} 1 refl refl)) (v .1))
+pub all-tail : (P : ℕ → Type 0) (l : List ℕ) → All P l → (length l ≡ 0 → ⊥) → P (getD l 0 0) × All P (midOf 1 (length l - 1) l)
+all-tail P [] v z = absurd (z refl)
+all-tail P (x ∷ l) v z = (v .0, subst (All P) (sym (mid-tail (x ∷ []) l {l = x ∷ l} 1 refl refl)) (v .1))
 
 pub tail-less : (l : List ℕ) → (length l ≡ 0 → ⊥) → length (midOf 1 (length l - 1) l) < length l
 tail-less [] z = absurd (z refl)

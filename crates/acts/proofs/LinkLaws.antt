@@ -7,7 +7,6 @@ use mathlib.Core.Bool.{Bool, true, false}
 use lib.Dec.{ltb, leb}
 use lib.ListN.{length, getD, set}
 use borrow.Author.Tests.{le-leb, lt-leb, lt-ltb, le-ltb}
-use Rattle.halting.specs.Every.{All}
 use Rattle.halting.specs.Out.{Out}
 use Rattle.model.specs.Sizes.{memberRoom, homeRoom}
 use Rattle.model.specs.State.{Row, none, State, home, listed, has, pushed, pulled}

@@ -11,7 +11,7 @@ use lib.Ieee.{Float, lt}
 use borrow.Rule.Slice.PartMut.{midOf, putMid}
 use Rattle.chunks.proofs.Laws.{mid-at, put-at}
 use Rattle.scheduler.specs.declared.Scheduler.{Scheduler}
-use Rattle.scheduler.specs.Heap.{childIn, parentIn, updated}
+use Rattle.scheduler.specs.Heap.{updated}
 use Rattle.scheduler.proofs.Laws.{downshifted-stays, upshifted-stays}
 use Rattle.scheduler.proofs.Inverse.{updated-cells, updated-long}
 use Rattle.tables.specs.declared.Sizes.{Sizes}

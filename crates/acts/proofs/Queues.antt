@@ -212,7 +212,7 @@ module _ {z : Sizes} {nums : List ℕ} {reals : List Float} {qs : List (Row Plac
         ∙ sym (flat-set queueNums (wideN z) qs c r (inside t c h));
     events-is = chunk-put queueReals (wideR z) qs c none r (k .p) (k .q - k .p) (wide-reals (z .room) qs (t .good)) (inside t c h) (t .events-is) (K .p-is) wide-p (u .reals-is);
     many = length-set qs c r ∙ t .many;
-    good = every-set (Good (z .room)) qs c r (t .good) g;
+    good = all-set (Good (z .room)) qs c r (t .good) g;
   }
 
 -- ---- the state, after one cell's row and the heap are renewed

@@ -10,7 +10,7 @@ use Rattle.halting.specs.Out.{Out, each}
 use Rattle.model.specs.declared.Domain.{Domain}
 use Rattle.model.specs.declared.Particle.{Particle}
 use Rattle.model.specs.Stepping.{stepped}
-use Rattle.model.specs.State.{State, zeroG, grain}
+use Rattle.model.specs.State.{State, grain}
 use Rattle.model.specs.Acts.{fineGrain, store}
 use Rattle.model.specs.Doing.{stepGrain}
 use Rattle.tables.specs.declared.Sizes.{Sizes}

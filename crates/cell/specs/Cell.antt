@@ -1,6 +1,6 @@
 -- What the code holds of a box and of a cell, by the definitions of document 01: the cells across in each direction, and a cell's index with, in each
 -- direction, its bounds, position and neighbours. Assumes nothing: these are definitions.
-use Prim.Native.Nat.{ℕ, zero, suc, _+_, _-_, _*_, _/_, _%_, _<_}
+use Prim.Native.Nat.{ℕ, zero, suc, _+_, _-_, _*_, _/_, _%_}
 use mathlib.Core.Path.{_≡_}
 use mathlib.Core.Bool.{true}
 use Rattle.halting.specs.Out.{pick}

@@ -1,6 +1,6 @@
 -- The ways through the scheduling of a collision, and what is stored, by the values on the way. Assumes nothing.
 use Prim.Native.Nat.{ℕ}
-use mathlib.Core.Path.{_≡_, refl, sym, ap, _∙_}
+use mathlib.Core.Path.{_≡_, sym, ap, _∙_}
 use mathlib.Core.Bool.{Bool, true, false}
 use lib.Ieee.{Float, binary64, add, sub, mul, div, neg, lt, le}
 use Rattle.order.specs.Numbers.{fzero, one, half, rest, eps}
@@ -19,7 +19,7 @@ use Rattle.model.specs.declared.Plan.{Plan}
 use Rattle.model.specs.declared.Plan.the-variants.{Nothing, Refused}
 use Rattle.model.specs.Stepping.{newPos, due}
 use Rattle.model.specs.Periodic.{apart}
-use Rattle.model.specs.Collision.{reach, cOf, dOf, afterRoot, timeOf, contactBy, collide, mean, pull, normal, centre, bounced, struck, planned, collision}
+use Rattle.model.specs.Collision.{reach, dOf, afterRoot, timeOf, contactBy, collide, mean, pull, normal, centre, bounced, struck, planned, collision}
 
 -- ---- the time, from the root
 abbrev dt : Float → Float → Float → Float

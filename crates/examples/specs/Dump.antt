@@ -7,7 +7,6 @@ use lib.Dec.{eqb}
 use lib.ListN.{take}
 use lib.Ieee.{Float, binary64, ofBits, toBits}
 use Rattle.order.specs.Numbers.{fzero}
-use Rattle.myvec.specs.declared.MyVec.{MyVec}
 use Rattle.myvec.specs.Vec.{vec}
 use Rattle.model.specs.declared.Domain.{Domain}
 use Rattle.model.specs.declared.Particle.{Particle}

@@ -1,15 +1,14 @@
 -- The clock law: adding what is not below zero to a finite value never gives a smaller one (`add-up`), whatever the signs, zeros and overflow included.
 -- Assumes nothing.
 use mathlib.Core.Path.{_≡_, refl, sym, ap, _∙_, subst}
-use mathlib.Core.Logic.{_⊎_, inl, inr}
 use Prim.Native.Nat.{ℕ, zero, suc, _+_, _-_, _*_, _^_, _≤_, _<_}
-use native.Mathlib.Nat.{le-of-eq, mul-le-mul-right, mul-pos, mul-one, zero-mul, sub-le, le-add-right}
+use native.Mathlib.Nat.{le-of-eq, mul-le-mul-right, mul-pos, zero-mul, sub-le, le-add-right}
 use native.Mathlib.Omega.{arith}
-use mathlib.Core.Bool.{Bool, true, false, not, _&&_, cond, Bool·beq}
-use lib.IntN.{ℤ, pos, negsuc}
-use lib.Dec.{T, T-not, ltb, ltb→lt, nltb→le}
+use mathlib.Core.Bool.{Bool, true, false, not, _&&_, cond}
+use lib.IntN.{ℤ, pos}
+use lib.Dec.{T, T-not, ltb, ltb→lt}
 use lib.Ieee.{Float, nan, inf, fin, Format, prec, emax, low, up, down, odd, units, round, neg, sum, add, le, lt, isNan, fits}
-use lib.Ieee.Fits.{up-pos, down-pos, round-is, neg-fits}
+use lib.Ieee.Fits.{down-pos, round-is, neg-fits}
 use lib.Ieee.Order.{round-mono}
 use lib.Ieee.Scale.{finite}
 use Rattle.order.proofs.Order.{Leq, le→leq, leq→le, not-lt→le}

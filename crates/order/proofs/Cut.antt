@@ -1,20 +1,18 @@
 -- A float cut to a whole number as Rust's `as usize` does (`toUnsigned 64`): it keeps the order (`cut-mono`), and it is at most n where the float was capped by n (`cut-capped`). Assumes nothing.
 use mathlib.Core.Path.{_≡_, refl, sym, ap, _∙_, subst}
 use Prim.Native.Nat.{ℕ, zero, suc, _+_, _-_, _*_, _/_, _^_, _≤_, _<_, min, zero-le}
-use native.Mathlib.Nat.{le-refl, le-of-eq, le-trans, mul-pos, mul-one, mul-comm, mul-assoc, mul-left-comm, mul-right-comm, mul-le-mul-right, zero-div, suc-mul, lt-irrefl, zero-mul, lt-of-lt-of-le, one-mul, le-add-right, le-div-iff-mul-le}
+use native.Mathlib.Nat.{le-refl, le-of-eq, le-trans, mul-pos, mul-one, zero-div, suc-mul, lt-irrefl, lt-of-lt-of-le, one-mul, le-add-right, le-div-iff-mul-le}
 use native.Mathlib.Omega.{arith}
-use mathlib.Core.Bool.{Bool, true, false, not, _&&_, cond}
-use lib.IntN.{ℤ, pos, negsuc}
-use lib.Dec.{T, ltb, leb, eqb, ltb→lt, lt→ltb, leb→le, eqb→eq, T-not}
+use mathlib.Core.Bool.{Bool, true, false, not, cond}
+use lib.IntN.{pos}
+use lib.Dec.{T, ltb, lt→ltb, T-not}
 use lib.Pow.{pow-pos}
-use lib.Ieee.{Float, nan, inf, fin, Format, up, down, round, div, lt, le, toUnsigned, inUnsigned, isNan, ofInt, inFloat}
-use lib.Ieee.Fits.{up-pos, down-pos}
+use lib.Ieee.{Float, nan, inf, fin, Format, up, down, lt, le, toUnsigned, inUnsigned, isNan, ofInt, inFloat}
+use lib.Ieee.Fits.{down-pos}
 use lib.Ieee.Casts.{toUnsigned-lt}
 use lib.Ieee.Nearest as Near
-use lib.Ieee.Order.{round-mono}
-use lib.Ieee.Positive.{num, den, positive, den-pos, le→cross}
 use lib.Ieee.Back.{unsigned-back}
-use Rattle.order.proofs.Order.{Leq, le→leq, not-lt→le, lt→le, lt-right, le-right}
+use Rattle.order.proofs.Order.{le→leq, not-lt→le}
 
 -- ---- cut
 min-mono : (a b c : ℕ) → a ≤ b → min a c ≤ min b c

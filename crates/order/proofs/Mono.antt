@@ -1,18 +1,17 @@
 -- Sums, differences and quotients of values that are not below zero keep the order of what goes in. `plain` values are finite with the sign clear (+0 too). Assumes nothing.
 use mathlib.Core.Path.{_≡_, refl, sym, ap, _∙_, subst}
-use Prim.Native.Nat.{ℕ, zero, suc, _+_, _-_, _*_, _^_, _≤_, _<_, zero-le}
-use native.Mathlib.Nat.{le-refl, le-of-eq, le-trans, mul-pos, mul-one, one-mul, mul-comm, mul-assoc, mul-left-comm, mul-right-comm, mul-le-mul-right, mul-add, add-mul, mul-sub, zero-mul, add-comm, lt-of-lt-of-le, lt-irrefl, zero-add}
+use Prim.Native.Nat.{ℕ, zero, suc, _+_, _-_, _*_, _^_, _≤_, _<_}
+use native.Mathlib.Nat.{le-of-eq, le-trans, mul-pos, mul-comm, mul-assoc, mul-left-comm, mul-le-mul-right, add-mul, mul-sub, zero-mul, lt-irrefl}
 use native.Mathlib.Omega.{arith}
 use mathlib.Core.Bool.{Bool, true, false, not, _&&_, cond}
-use lib.IntN.{ℤ, pos, negsuc}
-use lib.Dec.{T, ltb, leb, eqb, ltb→lt, lt→ltb, nltb→le, leb→le, eqb→eq, T-not, eqb·suc-zero}
-use lib.Pow.{pow-pos}
-use lib.Ieee.{Float, nan, inf, fin, Format, prec, emax, low, up, down, odd, units, round, sum, add, sub, div, neg, lt, le, isNan, toUnsigned}
+use lib.IntN.{ℤ}
+use lib.Dec.{T, ltb, eqb, ltb→lt, lt→ltb, eqb·suc-zero}
+use lib.Ieee.{Float, nan, inf, fin, Format, prec, emax, low, up, down, odd, units, round, sum, add, sub, div, neg, lt, le, toUnsigned}
 use lib.Ieee.Fits.{up-pos, down-pos, round-is}
 use lib.Ieee.Order.{round-mono}
 use lib.Ieee.Positive.{num, den, positive, den-pos, own-value, value-pos}
 use borrow.Author.Tests.{le-ltb, lt-ltb}
-use Rattle.order.proofs.Order.{Leq, le→leq, leq→le, not-lt→le, lt→le, lt-right, le-right, lt-not-le}
+use Rattle.order.proofs.Order.{le→leq, leq→le}
 use Rattle.order.proofs.Clock.{round-neg}
 
 -- finite, sign clear

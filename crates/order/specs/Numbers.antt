@@ -1,6 +1,6 @@
 -- The floats that the rules name, each by its bits, and what those bits are. A float is `fin sign m e`, m odd: m * 2 ^ e,
 -- with e = pos k for 2 ^ k and negsuc k for 2 ^ -(k + 1). Assumes nothing.
-use mathlib.Core.Bool.{Bool, true, false, cond}
+use mathlib.Core.Bool.{false, cond}
 use mathlib.Core.Path.{_≡_, refl}
 use lib.IntN.{pos, negsuc}
 use lib.Ieee.{Float, fin, binary64, lt, ofBits, round}

@@ -1,19 +1,17 @@
 -- What the tests of `square_root` say of x, and what `rootOf` is there. Assumes nothing.
 use mathlib.Core.Path.{_≡_, refl, sym, ap, _∙_, subst}
-use mathlib.Core.Logic.{_⊎_, inl, inr}
-use Prim.Native.Nat.{ℕ, zero, suc, _+_, _*_, _≤_, _<_}
+use Prim.Native.Nat.{ℕ, zero, suc, _+_, _*_, _<_}
 use native.Mathlib.Nat.{zero-mul, zero-lt-suc, mul-pos, lt-irrefl, le-add-right, lt-of-lt-of-le}
 use native.Mathlib.Omega.{arith}
-use mathlib.Core.Bool.{Bool, true, false, not, _&&_, _||_, true≢false, Bool·beq}
+use mathlib.Core.Bool.{Bool, true, false, not, _||_, Bool·beq}
 use lib.IntN.{ℤ, pos}
-use lib.Dec.{T, eqb, ltb, ltb→lt, lt→ltb, eqb→eq, eqb-refl}
-use lib.Ieee.{Float, nan, inf, fin, binary64, up, down, level, below, lt, eq, ne, isNan, fits, ofBits, toBits, nanBits}
-use lib.Ieee.Fits.{up-pos, down-pos, and-l, and-i, eq→eqb}
+use lib.Dec.{T, eqb, ltb, ltb→lt, lt→ltb, eqb→eq}
+use lib.Ieee.{Float, nan, inf, fin, binary64, up, down, lt, eq, ne, isNan, fits, ofBits, toBits, nanBits}
+use lib.Ieee.Fits.{up-pos, and-l, and-i, eq→eqb}
 use lib.Ieee.Bits.{nanBits-is}
 use lib.Ieee.Compare.{differs-from-itself}
 use lib.Ieee.Exact.{HasValue}
 use lib.Ieee.Positive.{positive}
-use Rattle.root.specs.declared.Root.{Root}
 use Rattle.root.specs.declared.Root.the-variants.{Value, Refused}
 use Rattle.root.specs.Bits.{rootBits}
 use Rattle.root.specs.Root.{rootOf, sqrtOf}

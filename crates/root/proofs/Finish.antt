@@ -1,12 +1,12 @@
 -- What `finished` and `root_bits` ask of numbers. Assumes nothing.
 use mathlib.Core.Path.{_≡_, refl, sym, ap, _∙_, subst}
 use Prim.Native.Nat.{ℕ, zero, suc, _+_, _-_, _*_, _/_, _%_, _^_, _≤_, _<_}
-use native.Mathlib.Nat.{mul-one, mod-eq-of-lt, lt-of-lt-of-le}
+use native.Mathlib.Nat.{mul-one, mod-eq-of-lt}
 use native.Mathlib.Nat as N
 use native.Mathlib.Omega.{arith}
 use mathlib.Core.Bool.{Bool, false, cond}
 use borrow.Author.Tests.{eq-eqb}
-use lib.Dec.{eqb, lit≤, lit<, eqb·suc-zero}
+use lib.Dec.{eqb, lit<, eqb·suc-zero}
 use lib.Count.{leadingZeros, leading-top}
 use Rattle.root.specs.Isqrt.{near}
 use Rattle.root.proofs.Law.{sized, near-of, near-digits, full, Full, below-52}

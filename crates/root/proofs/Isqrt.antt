@@ -1,9 +1,8 @@
 -- Laws of the whole-number square root: `near-law` is the rule of 01, (2r-1)² < 4M < (2r+1)², and `near-unique` that only one r has it.
 -- Assumes nothing.
-use mathlib.Core.Path.{_≡_, refl, sym, ap, _∙_, subst}
-use mathlib.Core.Logic.{_⊎_, inl, inr}
-use Prim.Native.Nat.{ℕ, zero, suc, _+_, _-_, _*_, _/_, _%_, _^_, _≤_, _<_, zero-le}
-use native.Mathlib.Nat.{le-trans, le-of-eq, le-antisymm, lt-of-lt-of-le, lt-of-le-of-lt, lt-of-not-le, not-le-of-lt, le-of-lt, lt-irrefl, le-of-suc-le-suc, mul-le-mul, mul-pos, mul-add, add-mul, mul-comm, mul-assoc, mul-left-comm, one-mul, mul-one, pow-suc, div-lt-iff-lt-mul}
+use mathlib.Core.Path.{_≡_, sym, ap, _∙_, subst}
+use Prim.Native.Nat.{ℕ, zero, suc, _+_, _-_, _*_, _/_, _^_, _≤_, _<_}
+use native.Mathlib.Nat.{le-antisymm, lt-of-le-of-lt, lt-of-not-le, not-le-of-lt, mul-le-mul, mul-add, add-mul, mul-assoc, mul-left-comm, pow-suc, div-lt-iff-lt-mul}
 use native.Mathlib.Nat as N
 use native.Mathlib.Omega.{arith}
 use mathlib.Core.Bool.{Bool, true, false, not, cond}

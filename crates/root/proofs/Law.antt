@@ -1,27 +1,24 @@
 -- The definition `sqrtOf` obeys 01's rule at every positive finite value (`sqrt-lawful`). Assumes nothing.
 use mathlib.Core.Path.{_≡_, refl, sym, ap, _∙_, subst}
 use mathlib.Core.Logic.{_⊎_, inl, inr}
-use Prim.Native.Nat.{ℕ, zero, suc, _+_, _-_, _*_, _/_, _%_, _^_, _≤_, _<_, zero-le}
+use Prim.Native.Nat.{ℕ, zero, suc, _+_, _-_, _*_, _/_, _%_, _^_, _≤_, _<_}
 use native.Mathlib.Nat as N
-use native.Mathlib.Nat.{le-trans, le-of-eq, lt-of-lt-of-le, lt-of-le-of-lt, lt-of-not-le, not-le-of-lt, lt-irrefl, zero-lt-suc, mul-pos, mul-comm, mul-assoc, mul-left-comm, mul-right-comm, mul-one, one-mul, zero-mul, eq-of-mul-eq-mul-right, mod-eq-of-lt, pow-suc, pow-succ', eq-or-lt-of-le, mul-le-mul-right, mul-le-mul-left}
+use native.Mathlib.Nat.{le-trans, le-of-eq, lt-of-lt-of-le, lt-of-le-of-lt, lt-of-not-le, not-le-of-lt, lt-irrefl, zero-lt-suc, mul-comm, mul-assoc, mul-left-comm, mul-right-comm, mul-one, one-mul, eq-of-mul-eq-mul-right, mod-eq-of-lt, mul-le-mul-right}
 use native.Mathlib.Omega.{arith}
 use mathlib.Core.Bool.{Bool, true, false, not, cond}
-use lib.IntN.{ℤ, pos, negsuc}
 use lib.Dec
 use lib.Ieee.Fits
-use lib.Dec.{T, leb, ltb, eqb, leb→le, eqb→eq, nleb→lt, not-T, lit<, lit≤}
+use lib.Dec.{T, leb, eqb, leb→le, eqb→eq, nleb→lt, not-T, lit<}
 use lib.Pow.{pow-add, pow-pos, pow-mono}
 use lib.Count.{leadingZeros, leading-top}
 use lib.Ieee.{Float, nan, inf, fin, binary64, up, down, minus, odd, ofFields, ofBits, toBits, fits}
 use lib.Ieee.Bits.{is-false, is-true, cond-no, ofBits-fits, ofBits-toBits}
 use lib.Ieee.Digits.{minus-val}
-use lib.Ieee.Fits.{down-pos}
 use lib.Ieee.Exact.{HasValue, odd-sign}
 use lib.Ieee.Positive.{positive}
-use Rattle.order.proofs.Value.{value-unique}
 use Rattle.root.specs.Isqrt.{near}
 use Rattle.root.specs.Rule.{Nearest, Rooted}
-use Rattle.root.proofs.Isqrt.{root-lt, near-law, near-unique}
+use Rattle.root.proofs.Isqrt.{root-lt, near-law}
 use Rattle.root.specs.Bits.{finish, significand, exponent, rootBits}
 use Rattle.root.specs.Root.{sqrtOf}
 

@@ -1,7 +1,7 @@
 -- What the loop of `near_root` keeps: with i digits of the root found, q² + rem is what was taken of a * 4 ^ 26 so far, and reg is what comes next. Assumes nothing.
-use mathlib.Core.Path.{_≡_, refl, sym, ap, _∙_, subst}
-use Prim.Native.Nat.{ℕ, zero, suc, _+_, _-_, _*_, _/_, _%_, _^_, _≤_, _<_}
-use native.Mathlib.Nat.{le-trans, lt-of-lt-of-le, lt-of-le-of-lt, mul-assoc, mul-one, pow-suc}
+use mathlib.Core.Path.{_≡_, sym, ap, _∙_, subst}
+use Prim.Native.Nat.{ℕ, _+_, _-_, _*_, _/_, _%_, _^_, _≤_, _<_}
+use native.Mathlib.Nat.{lt-of-lt-of-le, mul-assoc, pow-suc}
 use native.Mathlib.Numerals.{add-one}
 use native.Mathlib.Omega.{arith}
 use mathlib.Core.Bool.{Bool, cond}
@@ -9,7 +9,6 @@ use borrow.Author.Tests.{lt-ltb, le-ltb}
 use lib.Pow.{pow-mono}
 use Rattle.root.specs.declared.Digits.{Digits}
 use Rattle.root.specs.Isqrt.{closer, near}
-use Rattle.root.specs.Rule.{Nearest}
 use Rattle.root.proofs.Isqrt.{Floor, square-one, near-is}
 use Rattle.root.specs.Step.{Ready, Stepped}
 

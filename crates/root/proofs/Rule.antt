@@ -1,10 +1,10 @@
 -- `rootOf` obeys 01's rule at every argument (`root-rule`), and nothing else does (`root-only`). Assumes nothing.
 use mathlib.Core.Path.{_≡_, refl, sym, ap, _∙_}
 use Prim.Native.Nat.{ℕ, zero, suc}
-use native.Mathlib.Nat.{lt-irrefl, zero-lt-suc}
+use native.Mathlib.Nat.{zero-lt-suc}
 use native.Mathlib.Omega.{arith}
 use mathlib.Core.Bool.{true, false}
-use lib.Dec.{T, ltb, ltb→lt, lt→ltb}
+use lib.Dec.{T, ltb, lt→ltb}
 use lib.Ieee.{Float, nan, inf, fin, binary64, fits}
 use lib.Ieee.Positive.{positive}
 use Rattle.root.specs.declared.Root.{Root}

@@ -1,9 +1,9 @@
 -- Only one value has the rule of the square root at a given value (`rooted-unique`). Assumes nothing.
 use mathlib.Core.Path.{_≡_, refl, sym, ap, _∙_, subst}
-use Prim.Native.Nat.{ℕ, zero, suc, _+_, _-_, _*_, _/_, _%_, _^_, _≤_, _<_}
-use native.Mathlib.Nat.{le-trans, le-of-eq, lt-of-lt-of-le, lt-irrefl, zero-lt-suc, mul-pos, mul-comm, mul-assoc, mul-left-comm, mul-right-comm, mul-one, one-mul, eq-of-mul-eq-mul-right, pow-succ', mul-le-mul-left, mul-mul-mul-comm}
+use Prim.Native.Nat.{ℕ, zero, suc, _+_, _-_, _*_, _^_, _≤_, _<_}
+use native.Mathlib.Nat.{zero-lt-suc, mul-pos, mul-comm, mul-assoc, mul-left-comm, mul-right-comm, mul-one, eq-of-mul-eq-mul-right, pow-succ', mul-le-mul-left, mul-mul-mul-comm}
 use native.Mathlib.Omega.{arith}
-use mathlib.Core.Bool.{Bool, true, false}
+use mathlib.Core.Bool.{Bool, false}
 use lib.IntN.{ℤ, pos, negsuc}
 use lib.Dec.{T}
 use lib.Pow.{pow-add, pow-pos}

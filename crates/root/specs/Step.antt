@@ -1,6 +1,6 @@
 -- What one binary digit of the root asks of the numbers at hand, and what it makes of them. Assumes nothing: these are definitions.
 use mathlib.Core.Path.{_≡_}
-use Prim.Native.Nat.{ℕ, _+_, _*_, _/_, _%_, _^_, _≤_, _<_}
+use Prim.Native.Nat.{_+_, _*_, _/_, _%_, _^_, _≤_, _<_}
 use Rattle.root.specs.declared.Digits.{Digits}
 
 pub record Ready (s : Digits) : Type 0 where

@@ -1,5 +1,4 @@
 // An accepted start over the five lent tables: every place cleared, the headers, the grains one after another, the first events.
-ghost use mathlib.Core.Path.{_≡_};
 ghost use lib.ListN.{length};
 ghost use Rattle.model.specs.Start.{begin as beginIn};
 ghost use Rattle.step.specs.World.{Held, Says};

@@ -5,7 +5,7 @@
 --   events  for each cell 10 floats a place: time, four pairs, a value
 --   order   the heap's 256 bytes, then the lookups' 256
 -- Assumes nothing: these are definitions.
-use Prim.Native.Nat.{ℕ, _+_, _*_}
+use Prim.Native.Nat.{ℕ, _+_}
 use mathlib.Core.List.{List, [], _∷_, _++_}
 use lib.ListN.{length}
 use lib.Ieee.{Float}

@@ -1,6 +1,6 @@
 // The grains' floats: position, velocity, time and value of each.
 ghost use mathlib.Core.Path.{_≡_};
-ghost use Prim.Native.Nat.{ℕ, _+_, _*_, _<_, _≤_};
+ghost use Prim.Native.Nat.{_+_, _*_, _<_, _≤_};
 ghost use mathlib.Core.List.{List};
 ghost use lib.ListN.{length, set, getD};
 ghost use Rattle.model.specs.declared.Particle.{Particle as Grain};

@@ -1,6 +1,6 @@
 // Events, and the places that hold them: a run of places is a part of each of two lent tables.
 ghost use mathlib.Core.Path.{_≡_};
-ghost use Prim.Native.Nat.{ℕ, _+_, _-_, _*_, _<_, _≤_};
+ghost use Prim.Native.Nat.{_+_, _-_, _*_, _<_, _≤_};
 ghost use mathlib.Core.List.{List, _∷_, _++_};
 ghost use lib.ListN.{length, replicate, getD, set};
 ghost use Rattle.model.specs.Events.{placeOf, eventOf, names, insertBy, keepBy, goneBy, zeroP, finePlace};

@@ -1,17 +1,14 @@
-use mathlib.Core.Path.{_≡_, sym, ap, _∙_, subst}
+use mathlib.Core.Path.{sym, ap, _∙_, subst}
 use mathlib.Core.Bool.{not}
 use Prim.Native.Nat.{ℕ}
 use lib.Dec.{T}
-use lib.Ieee.{Float, binary64, fits, ofBits, nanBits, div}
+use lib.Ieee.{binary64, fits, ofBits, nanBits, div}
 use lib.Ieee.Positive.{positive}
-use Rattle.root.specs.declared.Root.{Root}
 use Rattle.root.specs.declared.Root.the-variants.{Value}
 use Rattle.root.proofs.Law.{pattern-range}
 use Rattle.root.proofs.Cases.{at-nan, at-zero, at-negative, at-top, the-rest, positive-is, no-nan, no-nan-bits, sqrt-is}
 use Rattle.root.proofs.square_root.Statement.{statement}
 use Rattle.root.proofs.square_root.Tie as tie
-use Rattle.root.proofs.square_root.Reads as reads
-use Rattle.root.proofs.square_root.Lts as lts
 
 returns : tie.Need-returns
 returns c = at-nan (c .before .args .x) (c .if1 .taken)

@@ -1,12 +1,7 @@
 use Rattle.scheduler.specs.Heap.{childIn}
-use native.Mathlib.Omega.{arith}
 use borrow.Author.Needs.{needs}
 use Rattle.scheduler.proofs.child.Statement.{statement}
 use Rattle.scheduler.proofs.child.Tie as tie
-use Rattle.scheduler.proofs.child.Reads as reads
-use Rattle.scheduler.proofs.child.Lts as lts
-use Rattle.scheduler.proofs.pick_child.Reads as pick-child-reads
-use Rattle.scheduler.proofs.time_in.Reads as time-in-reads
 
 mul-l : tie.Need-mul-l
 mul-l c = search needs

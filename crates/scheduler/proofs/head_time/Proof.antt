@@ -11,8 +11,6 @@ use native.Mathlib.Omega.{arith}
 use borrow.Author.Needs.{needs}
 use Rattle.scheduler.proofs.head_time.Statement.{statement}
 use Rattle.scheduler.proofs.head_time.Tie as tie
-use Rattle.scheduler.proofs.head_time.Reads as reads
-use Rattle.scheduler.proofs.head_time.Lts as lts
 
 mul-w : tie.Need-mul-w
 mul-w c = search needs

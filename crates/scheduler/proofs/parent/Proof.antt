@@ -7,9 +7,6 @@ use native.Mathlib.Omega.{arith}
 use borrow.Author.Needs.{needs}
 use Rattle.scheduler.proofs.parent.Statement.{statement}
 use Rattle.scheduler.proofs.parent.Tie as tie
-use Rattle.scheduler.proofs.parent.Reads as reads
-use Rattle.scheduler.proofs.parent.Lts as lts
-use Rattle.scheduler.proofs.time_in.Reads as time-in-reads
 
 returns : tie.Need-returns
 returns c = let a = c .before .before .before .before .args in let h = headIn (a .times .now) (a .held .now) (a .room) in sym (parent-out h (a .heap .now) (a .cells) (a .c) (c .if1 .taken))

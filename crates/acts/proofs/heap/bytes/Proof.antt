@@ -6,8 +6,6 @@ use native.Mathlib.Omega.{arith}
 use borrow.Author.Needs.{needs}
 use Rattle.acts.proofs.heap.bytes.Statement.{statement}
 use Rattle.acts.proofs.heap.bytes.Tie as tie
-use Rattle.acts.proofs.heap.bytes.Reads as reads
-use Rattle.acts.proofs.heap.bytes.Lts as lts
 
 abbrev Inv-loop : tie.InvT-loop
 Inv-loop t a₀ i₀ a i = (i ≤ 256) × (length a ≡ 256) × (take i a ≡ take i t)

@@ -5,9 +5,6 @@ use native.Mathlib.Omega.{arith}
 use borrow.Author.Needs.{needs}
 use Rattle.acts.proofs.heap.load.Statement.{statement}
 use Rattle.acts.proofs.heap.load.Tie as tie
-use Rattle.acts.proofs.heap.load.Reads as reads
-use Rattle.acts.proofs.heap.load.Lts as lts
-use Rattle.acts.proofs.heap.bytes.Reads as bytes-reads
 
 sub-bytes : tie.Need-sub-bytes
 sub-bytes c = omega arith

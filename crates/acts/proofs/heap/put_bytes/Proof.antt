@@ -6,8 +6,6 @@ use native.Mathlib.Omega.{arith}
 use borrow.Author.Needs.{needs}
 use Rattle.acts.proofs.heap.put_bytes.Statement.{statement}
 use Rattle.acts.proofs.heap.put_bytes.Tie as tie
-use Rattle.acts.proofs.heap.put_bytes.Reads as reads
-use Rattle.acts.proofs.heap.put_bytes.Lts as lts
 
 abbrev Inv-loop : tie.InvT-loop
 Inv-loop t₀ a i₀ t i = (i ≤ 256) × (length t ≡ 256) × (take i t ≡ take i a)

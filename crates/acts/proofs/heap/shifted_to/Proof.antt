@@ -5,10 +5,6 @@ use mathlib.Core.Path.{sym, ap, _∙_}
 use borrow.Author.Needs.{needs}
 use Rattle.acts.proofs.heap.shifted_to.Statement.{statement}
 use Rattle.acts.proofs.heap.shifted_to.Tie as tie
-use Rattle.acts.proofs.heap.shifted_to.Reads as reads
-use Rattle.acts.proofs.heap.shifted_to.Lts as lts
-use Rattle.scheduler.proofs.child.Reads as child-reads
-use Rattle.scheduler.proofs.parent.Reads as parent-reads
 
 child-requires : tie.Need-child-requires
 child-requires c κs = search needs

@@ -5,9 +5,6 @@ use native.Mathlib.Omega.{arith}
 use borrow.Author.Needs.{needs}
 use Rattle.acts.proofs.heap.store.Statement.{statement}
 use Rattle.acts.proofs.heap.store.Tie as tie
-use Rattle.acts.proofs.heap.store.Reads as reads
-use Rattle.acts.proofs.heap.store.Lts as lts
-use Rattle.acts.proofs.heap.put_bytes.Reads as put-bytes-reads
 
 sub-put-bytes : tie.Need-sub-put-bytes
 sub-put-bytes c = omega arith

@@ -11,13 +11,6 @@ use native.Mathlib.Omega.{arith}
 use borrow.Author.Needs.{needs}
 use Rattle.acts.proofs.heap.update.Statement.{statement}
 use Rattle.acts.proofs.heap.update.Tie as tie
-use Rattle.acts.proofs.heap.update.Reads as reads
-use Rattle.acts.proofs.heap.update.Lts as lts
-use Rattle.acts.proofs.heap.load.Reads as load-reads
-use Rattle.acts.proofs.heap.shifted_to.Reads as shifted-to-reads
-use Rattle.acts.proofs.heap.store.Reads as store-reads
-use Rattle.scheduler.proofs.Scheduler.update.Reads as update-reads
-use Rattle.scheduler.proofs.head_time.Reads as head-time-reads
 
 head-time-requires : tie.Need-head-time-requires
 head-time-requires c κs = search needs

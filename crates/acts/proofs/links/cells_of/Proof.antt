@@ -3,8 +3,6 @@ use Rattle.tables.proofs.ListLaws.{home-live}
 use native.Mathlib.Omega.{arith}
 use Rattle.acts.proofs.links.cells_of.Statement.{statement}
 use Rattle.acts.proofs.links.cells_of.Tie as tie
-use Rattle.acts.proofs.links.cells_of.Reads as reads
-use Rattle.acts.proofs.links.cells_of.Lts as lts
 
 mul-a : tie.Need-mul-a
 mul-a c = omega arith

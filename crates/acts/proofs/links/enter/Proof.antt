@@ -7,10 +7,6 @@ use native.Mathlib.Omega.{arith}
 use borrow.Author.Needs.{needs}
 use Rattle.acts.proofs.links.enter.Statement.{statement}
 use Rattle.acts.proofs.links.enter.Tie as tie
-use Rattle.acts.proofs.links.enter.Reads as reads
-use Rattle.acts.proofs.links.enter.Lts as lts
-use Rattle.tables.proofs.rows.add_to.Reads as add-to-reads
-use Rattle.tables.proofs.rows.lists.Reads as lists-reads
 
 mul-a : tie.Need-mul-a
 mul-a c = omega arith

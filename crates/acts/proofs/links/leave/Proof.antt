@@ -4,9 +4,6 @@ use native.Mathlib.Omega.{arith}
 use borrow.Author.Needs.{needs}
 use Rattle.acts.proofs.links.leave.Statement.{statement}
 use Rattle.acts.proofs.links.leave.Tie as tie
-use Rattle.acts.proofs.links.leave.Reads as reads
-use Rattle.acts.proofs.links.leave.Lts as lts
-use Rattle.tables.proofs.rows.drop_from.Reads as drop-from-reads
 
 mul-a : tie.Need-mul-a
 mul-a c = omega arith

@@ -3,8 +3,6 @@ use Rattle.tables.proofs.ListLaws.{member-live}
 use native.Mathlib.Omega.{arith}
 use Rattle.acts.proofs.links.members_of.Statement.{statement}
 use Rattle.acts.proofs.links.members_of.Tie as tie
-use Rattle.acts.proofs.links.members_of.Reads as reads
-use Rattle.acts.proofs.links.members_of.Lts as lts
 
 mul-p : tie.Need-mul-p
 mul-p c = omega arith

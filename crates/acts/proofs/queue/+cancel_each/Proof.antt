@@ -1,5 +1,5 @@
 use Rattle.tables.specs.Holds.{Queued}
-use Rattle.acts.proofs.InTurn.{of-none, of-stop, of-on, every-tail, tail-less}
+use Rattle.acts.proofs.InTurn.{of-none, of-stop, of-on, all-tail, tail-less}
 use Rattle.model.specs.Acts.{cancel, cancelled}
 use lib.ListN.{length, getD}
 use mathlib.Core.Path.{_∙_}
@@ -35,7 +35,7 @@ cancel-each-shared-slice-read-cancel : (t : ℕ) → cancel-each-lts.Need-shared
 cancel-each-shared-slice-read-cancel t c = omega arith
 
 cancel-each-cancel-requires : (t : ℕ) → cancel-each-lts.Need-cancel-requires (Rd t) (cancel-each-at t) cancel-each.Post
-cancel-each-cancel-requires t c κs = let b = c .before .before .before .before .before .before .before .before .before in let a = b .args in (b .pre .1 .0, every-tail (λ n. n < a .z .cells) (a .list .now) (b .pre .1 .1) (c .before .before .before .before .if1 .left) .0)
+cancel-each-cancel-requires t c κs = let b = c .before .before .before .before .before .before .before .before .before in let a = b .args in (b .pre .1 .0, all-tail (λ n. n < a .z .cells) (a .list .now) (b .pre .1 .1) (c .before .before .before .before .if1 .left) .0)
 
 cancel-each-same-length : (t : ℕ) → cancel-each-lts.Need-same-length (Rd t) (cancel-each-at t) cancel-each.Post
 cancel-each-same-length t c = c .before .before .before .before .before .before .before .cancel .kept .0
@@ -59,7 +59,7 @@ cancel-each-part-cancel-each-end : (t : ℕ) → cancel-each-lts.Need-part-cance
 cancel-each-part-cancel-each-end t c = omega arith
 
 cancel-each-cancel-each-requires : (t : ℕ) → cancel-each-lts.Need-cancel-each-requires (Rd t) (cancel-each-at t) cancel-each.Post
-cancel-each-cancel-each-requires t c κs = let b = c .before .before .before .before .before .before .before .before .before .before .before .before .before .before .before .before .before .before .before .before .before in let a = b .args in let o = b .pre .1 .0 in (omega (arith, tail-less (a .list .now) (c .before .before .before .before .before .before .before .before .before .before .before .before .before .before .before .before .if1 .left), b .pre .0), ((cancelled (a .g) (getD (a .list .now) 0 0) (o .0), c .before .before .before .before .before .before .before .before .before .before .before .cancel .ensures (o .0) (o .1) .1), every-tail (λ n. n < a .z .cells) (a .list .now) (b .pre .1 .1) (c .before .before .before .before .before .before .before .before .before .before .before .before .before .before .before .before .if1 .left) .1))
+cancel-each-cancel-each-requires t c κs = let b = c .before .before .before .before .before .before .before .before .before .before .before .before .before .before .before .before .before .before .before .before .before in let a = b .args in let o = b .pre .1 .0 in (omega (arith, tail-less (a .list .now) (c .before .before .before .before .before .before .before .before .before .before .before .before .before .before .before .before .if1 .left), b .pre .0), ((cancelled (a .g) (getD (a .list .now) 0 0) (o .0), c .before .before .before .before .before .before .before .before .before .before .before .cancel .ensures (o .0) (o .1) .1), all-tail (λ n. n < a .z .cells) (a .list .now) (b .pre .1 .1) (c .before .before .before .before .before .before .before .before .before .before .before .before .before .before .before .before .if1 .left) .1))
 
 cancel-each-same-length-4 : (t : ℕ) → cancel-each-lts.Need-same-length-4 (Rd t) (cancel-each-at t) cancel-each.Post
 cancel-each-same-length-4 t c = c .before .before .before .before .before .before .cancel-each .kept .0 ∙ c .before .before .before .before .before .before .before .before .before .before .before .before .before .before .before .before .before .before .cancel .kept .0

@@ -2,11 +2,6 @@ use Rattle.acts.proofs.Queues.{at-in, nums-kept, reals-kept, row-asks, 
 use native.Mathlib.Omega.{arith}
 use Rattle.acts.proofs.queue.cancel.Statement.{statement}
 use Rattle.acts.proofs.queue.cancel.Tie as tie
-use Rattle.acts.proofs.queue.cancel.Reads as reads
-use Rattle.acts.proofs.queue.cancel.Lts as lts
-use Rattle.acts.proofs.heap.update.Reads as update-reads
-use Rattle.acts.proofs.queue.row_of.Reads as row-of-reads
-use Rattle.tables.proofs.places.cancel.Reads as cancel-reads
 
 row-of-requires : tie.Need-row-of-requires
 row-of-requires c κs = let b = c .before .before .before .before .before in row-asks (b .pre .0 .1) (b .pre .1)

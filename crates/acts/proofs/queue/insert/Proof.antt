@@ -7,12 +7,6 @@ use native.Mathlib.Omega.{arith}
 use borrow.Author.Needs.{needs}
 use Rattle.acts.proofs.queue.insert.Statement.{statement}
 use Rattle.acts.proofs.queue.insert.Tie as tie
-use Rattle.acts.proofs.queue.insert.Reads as reads
-use Rattle.acts.proofs.queue.insert.Lts as lts
-use Rattle.acts.proofs.heap.update.Reads as update-reads
-use Rattle.acts.proofs.queue.row_of.Reads as row-of-reads
-use Rattle.tables.proofs.places.fine_place.Reads as fine-place-reads
-use Rattle.tables.proofs.places.insert.Reads as insert-reads
 
 fine-place-requires : tie.Need-fine-place-requires
 fine-place-requires c κs = search needs

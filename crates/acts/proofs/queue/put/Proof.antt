@@ -7,10 +7,6 @@ use mathlib.Core.Path.{refl, sym, subst}
 use borrow.Author.Needs.{needs}
 use Rattle.acts.proofs.queue.put.Statement.{statement}
 use Rattle.acts.proofs.queue.put.Tie as tie
-use Rattle.acts.proofs.queue.put.Reads as reads
-use Rattle.acts.proofs.queue.put.Lts as lts
-use Rattle.acts.proofs.queue.insert.Reads as insert-reads
-use Rattle.tables.proofs.places.place_of.Reads as place-of-reads
 
 enum-told : tie.Need-enum-told
 enum-told c = search needs

@@ -5,9 +5,6 @@ use native.Mathlib.Omega.{arith}
 use borrow.Author.Needs.{needs}
 use Rattle.acts.proofs.queue.row_of.Statement.{statement}
 use Rattle.acts.proofs.queue.row_of.Tie as tie
-use Rattle.acts.proofs.queue.row_of.Reads as reads
-use Rattle.acts.proofs.queue.row_of.Lts as lts
-use Rattle.scheduler.proofs.head_time.Reads as head-time-reads
 
 mul-w : tie.Need-mul-w
 mul-w c = omega arith

@@ -3,12 +3,6 @@ use Prim.Native.Nat.{_-_}
 use native.Mathlib.Omega.{arith}
 use Rattle.acts.proofs.queue.take.Statement.{statement}
 use Rattle.acts.proofs.queue.take.Tie as tie
-use Rattle.acts.proofs.queue.take.Reads as reads
-use Rattle.acts.proofs.queue.take.Lts as lts
-use Rattle.acts.proofs.heap.update.Reads as update-reads
-use Rattle.acts.proofs.queue.row_of.Reads as row-of-reads
-use Rattle.tables.proofs.places.get_head.Reads as get-head-reads
-use Rattle.tables.proofs.places.pull.Reads as pull-reads
 
 row-of-requires : tie.Need-row-of-requires
 row-of-requires c κs = let b = c .before .before .before .before .before in row-asks (b .pre .0 .1) (b .pre .1)

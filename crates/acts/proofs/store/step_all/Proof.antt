@@ -4,9 +4,6 @@ use Rattle.model.specs.Doing.{stepGrain}
 use borrow.Author.Needs.{needs}
 use Rattle.acts.proofs.store.step_all.Statement.{statement}
 use Rattle.acts.proofs.store.step_all.Tie as tie
-use Rattle.acts.proofs.store.step_all.Reads as reads
-use Rattle.acts.proofs.store.step_all.Lts as lts
-use Rattle.acts.proofs.store.step_from.Reads as step-from-reads
 
 step-from-requires : tie.Need-step-from-requires
 step-from-requires c κs = search needs

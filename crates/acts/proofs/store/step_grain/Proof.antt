@@ -3,11 +3,6 @@ use Rattle.tables.proofs.GrainLaws.{grain-fits}
 use borrow.Author.Needs.{needs}
 use Rattle.acts.proofs.store.step_grain.Statement.{statement}
 use Rattle.acts.proofs.store.step_grain.Tie as tie
-use Rattle.acts.proofs.store.step_grain.Reads as reads
-use Rattle.acts.proofs.store.step_grain.Lts as lts
-use Rattle.acts.proofs.store.store.Reads as store-reads
-use Rattle.particle.proofs.stepped.Reads as stepped-reads
-use Rattle.tables.proofs.grains.get_grain.Reads as get-grain-reads
 
 get-grain-requires : tie.Need-get-grain-requires
 get-grain-requires c κs = let b = c .before .before in let a = b .args in grain-fits (b .pre .0 .1) (b .pre .1) (a .g) (b .pre .2)

@@ -10,7 +10,7 @@ use Rattle.model.specs.Doing.{stepGrain, others}
 use Rattle.acts.specs.Tell.{At, InGrains, Grains, GrainsTold}
 use Rattle.acts.proofs.StoreLaws.{timed}
 use Rattle.acts.proofs.Touch.{step-only, at-on}
-use Rattle.acts.proofs.InTurn.{others-none, others-skip, others-stop, others-on, every-tail, tail-less}
+use Rattle.acts.proofs.InTurn.{others-none, others-skip, others-stop, others-on, all-tail, tail-less}
 use native.Mathlib.Omega.{arith}
 use Rattle.acts.proofs.store.step_others.Statement.{statement}
 use Rattle.acts.proofs.store.step_others.Tie as tie
@@ -47,13 +47,13 @@ loop-again c =
     let a = c .before .before .before .before .before .before .before .args in
     let z : length (l .rest .now) ≡ 0 → ⊥ = (let h = c .before .before .before .loop-test .taken in λ (e : length (c .before .before .before .before .loop .rest .now) ≡ 0). absurd (omega (arith, e, h))) in (
       l .inv .0,
-      every-tail (λ g. g < a .z .grains) (l .rest .now) (l .inv .1) z .1,
+      all-tail (λ g. g < a .z .grains) (l .rest .now) (l .inv .1) z .1,
       l .inv .2,
       λ t r k. l .inv .3 t r (λ s S u. others-skip stepGrain s (InGrains (a .z) t) (a .p) (l .rest .now) z (c .before .if1 .taken) (k s S u)),
     )
 
 step-grain-requires : tie.Need-step-grain-requires Inv-loop μ-loop
-step-grain-requires c κs = let l = c .before .before .before .before .loop in let a = c .before .before .before .before .before .before .before in (l .inv .0, a .pre .1, every-tail (λ g. g < a .args .z .grains) (l .rest .now) (l .inv .1) (let h = c .before .before .before .loop-test .taken in λ (e : length (c .before .before .before .before .loop .rest .now) ≡ 0). absurd (omega (arith, e, h))) .0)
+step-grain-requires c κs = let l = c .before .before .before .before .loop in let a = c .before .before .before .before .before .before .before in (l .inv .0, a .pre .1, all-tail (λ g. g < a .args .z .grains) (l .rest .now) (l .inv .1) (let h = c .before .before .before .loop-test .taken in λ (e : length (c .before .before .before .before .loop .rest .now) ≡ 0). absurd (omega (arith, e, h))) .0)
 
 same-length : tie.Need-same-length Inv-loop μ-loop
 same-length c = c .before .before .before .step-grain .kept .0 ∙ c .before .before .before .before .before .before .before .before .loop .inv .2
@@ -86,7 +86,7 @@ loop-again-2 c =
     let g = getD (l .rest .now) 0 0 in
     let v = timed (a .domain) (a .clock) (l .inv .0 .0) in (
       ((stepGrain g v) .st, d .ensures v (l .inv .0 .1) (refl, refl) .1),
-      every-tail (λ g. g < a .z .grains) (l .rest .now) (l .inv .1) z .1,
+      all-tail (λ g. g < a .z .grains) (l .rest .now) (l .inv .1) z .1,
       d .kept .0 ∙ l .inv .2,
       λ t r k. l .inv .3 t r (λ s S u. others-on stepGrain s (InGrains (a .z) (d .last .0)) (InGrains (a .z) t) (a .p) (l .rest .now) z (c .before .before .before .before .before .before .if1 .left) (d .ensures s S u) (c .before .if2 .left)
           (k ((stepGrain g s) .st) (d .ensures s S u .1) (at-on (a .domain) (a .clock) s ((stepGrain g s) .st) (step-only g s) u))),

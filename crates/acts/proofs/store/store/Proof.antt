@@ -5,10 +5,6 @@ use mathlib.Core.Path.{sym, _∙_}
 use borrow.Author.Needs.{needs}
 use Rattle.acts.proofs.store.store.Statement.{statement}
 use Rattle.acts.proofs.store.store.Tie as tie
-use Rattle.acts.proofs.store.store.Reads as reads
-use Rattle.acts.proofs.store.store.Lts as lts
-use Rattle.particle.proofs.fine_grain.Reads as fine-grain-reads
-use Rattle.tables.proofs.grains.put_grain.Reads as put-grain-reads
 
 fine-grain-requires : tie.Need-fine-grain-requires
 fine-grain-requires c κs = search needs

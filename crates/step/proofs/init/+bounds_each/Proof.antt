@@ -1,5 +1,5 @@
 use mathlib.Core.Path.{_∙_}
-use Rattle.acts.proofs.InTurn.{every-tail, tail-less}
+use Rattle.acts.proofs.InTurn.{all-tail, tail-less}
 use Rattle.step.proofs.Does.{list-none, list-stop, list-on, after}
 use Rattle.model.specs.Doing.{boundaries}
 use lib.ListN.{length}
@@ -36,7 +36,7 @@ bounds-each-shared-slice-read-schedule-bounds : (t : ℕ) → bounds-each-lts.Ne
 bounds-each-shared-slice-read-schedule-bounds t c = omega arith
 
 bounds-each-schedule-bounds-requires : (t : ℕ) → bounds-each-lts.Need-schedule-bounds-requires (Rd t) (bounds-each-at t) bounds-each.Post
-bounds-each-schedule-bounds-requires t c κs = let b = c .before .before .before .before .before .before .before .before .before .before in let a = b .args in (b .pre .1 .0, b .pre .1 .1, every-tail (λ n. n < a .z .grains) (a .list .now) (b .pre .1 .2) (c .before .before .before .before .if1 .left) .0)
+bounds-each-schedule-bounds-requires t c κs = let b = c .before .before .before .before .before .before .before .before .before .before in let a = b .args in (b .pre .1 .0, b .pre .1 .1, all-tail (λ n. n < a .z .grains) (a .list .now) (b .pre .1 .2) (c .before .before .before .before .if1 .left) .0)
 
 bounds-each-same-length : (t : ℕ) → bounds-each-lts.Need-same-length (Rd t) (bounds-each-at t) bounds-each.Post
 bounds-each-same-length t c = c .before .before .before .before .before .before .before .schedule-bounds .kept .1 .0
@@ -60,7 +60,7 @@ bounds-each-part-bounds-each-end : (t : ℕ) → bounds-each-lts.Need-part-bound
 bounds-each-part-bounds-each-end t c = omega arith
 
 bounds-each-bounds-each-requires : (t : ℕ) → bounds-each-lts.Need-bounds-each-requires (Rd t) (bounds-each-at t) bounds-each.Post
-bounds-each-bounds-each-requires t c κs = let b = c .before .before .before .before .before .before .before .before .before .before .before .before .before .before .before .before .before .before .before .before .before .before in let a = b .args in (omega (arith, tail-less (a .list .now) (c .before .before .before .before .before .before .before .before .before .before .before .before .before .before .before .before .if1 .left), b .pre .0), (after (c .before .before .before .before .before .before .before .before .before .before .before .schedule-bounds .ensures) (b .pre .1 .0), b .pre .1 .1, every-tail (λ n. n < a .z .grains) (a .list .now) (b .pre .1 .2) (c .before .before .before .before .before .before .before .before .before .before .before .before .before .before .before .before .if1 .left) .1))
+bounds-each-bounds-each-requires t c κs = let b = c .before .before .before .before .before .before .before .before .before .before .before .before .before .before .before .before .before .before .before .before .before .before in let a = b .args in (omega (arith, tail-less (a .list .now) (c .before .before .before .before .before .before .before .before .before .before .before .before .before .before .before .before .if1 .left), b .pre .0), (after (c .before .before .before .before .before .before .before .before .before .before .before .schedule-bounds .ensures) (b .pre .1 .0), b .pre .1 .1, all-tail (λ n. n < a .z .grains) (a .list .now) (b .pre .1 .2) (c .before .before .before .before .before .before .before .before .before .before .before .before .before .before .before .before .if1 .left) .1))
 
 bounds-each-same-length-4 : (t : ℕ) → bounds-each-lts.Need-same-length-4 (Rd t) (bounds-each-at t) bounds-each.Post
 bounds-each-same-length-4 t c = c .before .before .before .before .before .before .bounds-each .kept .1 .1 .0 ∙ c .before .before .before .before .before .before .before .before .before .before .before .before .before .before .before .before .before .before .schedule-bounds .kept .1 .0

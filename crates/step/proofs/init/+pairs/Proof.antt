@@ -1,5 +1,5 @@
 use mathlib.Core.Path.{_∙_}
-use Rattle.acts.proofs.InTurn.{every-tail, tail-less}
+use Rattle.acts.proofs.InTurn.{all-tail, tail-less}
 use Rattle.step.proofs.Starting.{pairs-none, pairs-stop, pairs-on}
 use Rattle.step.proofs.Does.{after}
 use lib.ListN.{length}
@@ -43,7 +43,7 @@ pairs-shared-slice-read-schedule-collisions : (t : ℕ) → pairs-lts.Need-share
 pairs-shared-slice-read-schedule-collisions t c = omega arith
 
 pairs-schedule-collisions-requires : (t : ℕ) → pairs-lts.Need-schedule-collisions-requires (Rd t) (pairs-at t) pairs.Post
-pairs-schedule-collisions-requires t c κs = let b = c .before .before .before .before .before .before .before .before .before .before .before in let a = b .args in let t = every-tail (λ n. n < a .z .grains) (a .list .now) (b .pre .1 .2) (c .before .before .before .before .before .if1 .left) in (b .pre .1 .0, b .pre .1 .1, t .0, t .1)
+pairs-schedule-collisions-requires t c κs = let b = c .before .before .before .before .before .before .before .before .before .before .before in let a = b .args in let t = all-tail (λ n. n < a .z .grains) (a .list .now) (b .pre .1 .2) (c .before .before .before .before .before .if1 .left) in (b .pre .1 .0, b .pre .1 .1, t .0, t .1)
 
 pairs-same-length : (t : ℕ) → pairs-lts.Need-same-length (Rd t) (pairs-at t) pairs.Post
 pairs-same-length t c = c .before .before .before .before .before .before .before .schedule-collisions .kept .1 .1 .0
@@ -55,7 +55,7 @@ pairs-same-length-3 : (t : ℕ) → pairs-lts.Need-same-length-3 (Rd t) (pairs-a
 pairs-same-length-3 t c = c .before .before .before .before .before .before .before .schedule-collisions .kept .1 .1 .1 .1 .0
 
 pairs-returns-2 : (t : ℕ) → pairs-lts.Need-returns-2 (Rd t) (pairs-at t) pairs.Post
-pairs-returns-2 t c = let b = c .before .before .before .before .before .before .before .before .before .before .before .before .before .before .before .before .before .before .before in let a = b .args in pairs-stop (a .z .grains) (a .cell .index) (a .list .now) (c .before .before .before .before .before .before .before .before .before .before .before .before .before .if1 .left) (every-tail (λ n. n < a .z .grains) (a .list .now) (b .pre .1 .2) (c .before .before .before .before .before .before .before .before .before .before .before .before .before .if1 .left) .1) (c .if2 .taken) (c .before .before .before .before .before .before .before .schedule-collisions .ensures)
+pairs-returns-2 t c = let b = c .before .before .before .before .before .before .before .before .before .before .before .before .before .before .before .before .before .before .before in let a = b .args in pairs-stop (a .z .grains) (a .cell .index) (a .list .now) (c .before .before .before .before .before .before .before .before .before .before .before .before .before .if1 .left) (all-tail (λ n. n < a .z .grains) (a .list .now) (b .pre .1 .2) (c .before .before .before .before .before .before .before .before .before .before .before .before .before .if1 .left) .1) (c .if2 .taken) (c .before .before .before .before .before .before .before .schedule-collisions .ensures)
 
 pairs-sub-pairs : (t : ℕ) → pairs-lts.Need-sub-pairs (Rd t) (pairs-at t) pairs.Post
 pairs-sub-pairs t c = omega arith
@@ -67,7 +67,7 @@ pairs-part-pairs-end : (t : ℕ) → pairs-lts.Need-part-pairs-end (Rd t) (pairs
 pairs-part-pairs-end t c = omega arith
 
 pairs-pairs-requires : (t : ℕ) → pairs-lts.Need-pairs-requires (Rd t) (pairs-at t) pairs.Post
-pairs-pairs-requires t c κs = let b = c .before .before .before .before .before .before .before .before .before .before .before .before .before .before .before .before .before .before .before .before .before .before .before in let a = b .args in (omega (arith, tail-less (a .list .now) (c .before .before .before .before .before .before .before .before .before .before .before .before .before .before .before .before .before .if1 .left), b .pre .0), (after (c .before .before .before .before .before .before .before .before .before .before .before .schedule-collisions .ensures) (b .pre .1 .0), b .pre .1 .1, every-tail (λ n. n < a .z .grains) (a .list .now) (b .pre .1 .2) (c .before .before .before .before .before .before .before .before .before .before .before .before .before .before .before .before .before .if1 .left) .1))
+pairs-pairs-requires t c κs = let b = c .before .before .before .before .before .before .before .before .before .before .before .before .before .before .before .before .before .before .before .before .before .before .before in let a = b .args in (omega (arith, tail-less (a .list .now) (c .before .before .before .before .before .before .before .before .before .before .before .before .before .before .before .before .before .if1 .left), b .pre .0), (after (c .before .before .before .before .before .before .before .before .before .before .before .schedule-collisions .ensures) (b .pre .1 .0), b .pre .1 .1, all-tail (λ n. n < a .z .grains) (a .list .now) (b .pre .1 .2) (c .before .before .before .before .before .before .before .before .before .before .before .before .before .before .before .before .before .if1 .left) .1))
 
 pairs-same-length-4 : (t : ℕ) → pairs-lts.Need-same-length-4 (Rd t) (pairs-at t) pairs.Post
 pairs-same-length-4 t c = c .before .before .before .before .before .before .pairs .kept .1 .1 .0 ∙ c .before .before .before .before .before .before .before .before .before .before .before .before .before .before .before .before .before .before .schedule-collisions .kept .1 .1 .0
@@ -79,7 +79,7 @@ pairs-same-length-6 : (t : ℕ) → pairs-lts.Need-same-length-6 (Rd t) (pairs-a
 pairs-same-length-6 t c = c .before .before .before .before .before .before .pairs .kept .1 .1 .1 .1 .0 ∙ c .before .before .before .before .before .before .before .before .before .before .before .before .before .before .before .before .before .before .schedule-collisions .kept .1 .1 .1 .1 .0
 
 pairs-returns-3 : (t : ℕ) → pairs-lts.Need-returns-3 (Rd t) (pairs-at t) pairs.Post
-pairs-returns-3 t c = let b = c .before .before .before .before .before .before .before .before .before .before .before .before .before .before .before .before .before .before .before .before .before .before .before .before .before .before .before .before .before .before in let a = b .args in pairs-on (a .z .grains) (a .cell .index) (a .list .now) (c .before .before .before .before .before .before .before .before .before .before .before .before .before .before .before .before .before .before .before .before .before .before .before .before .if1 .left) (every-tail (λ n. n < a .z .grains) (a .list .now) (b .pre .1 .2) (c .before .before .before .before .before .before .before .before .before .before .before .before .before .before .before .before .before .before .before .before .before .before .before .before .if1 .left) .1) (c .before .before .before .before .before .before .before .before .before .before .before .if2 .left) (c .before .before .before .before .before .before .before .before .before .before .before .before .before .before .before .before .before .before .schedule-collisions .ensures) (c .before .before .before .before .before .before .pairs .ensures)
+pairs-returns-3 t c = let b = c .before .before .before .before .before .before .before .before .before .before .before .before .before .before .before .before .before .before .before .before .before .before .before .before .before .before .before .before .before .before in let a = b .args in pairs-on (a .z .grains) (a .cell .index) (a .list .now) (c .before .before .before .before .before .before .before .before .before .before .before .before .before .before .before .before .before .before .before .before .before .before .before .before .if1 .left) (all-tail (λ n. n < a .z .grains) (a .list .now) (b .pre .1 .2) (c .before .before .before .before .before .before .before .before .before .before .before .before .before .before .before .before .before .before .before .before .before .before .before .before .if1 .left) .1) (c .before .before .before .before .before .before .before .before .before .before .before .if2 .left) (c .before .before .before .before .before .before .before .before .before .before .before .before .before .before .before .before .before .before .schedule-collisions .ensures) (c .before .before .before .before .before .before .pairs .ensures)
 
 pub +pairs-spec : {M : Type 1} → statement M
 +pairs-spec = close μ-pairs λ t. pairs-lts.spec (

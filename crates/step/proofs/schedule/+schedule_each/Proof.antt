@@ -1,5 +1,5 @@
 use mathlib.Core.Path.{_∙_}
-use Rattle.acts.proofs.InTurn.{every-tail, tail-less}
+use Rattle.acts.proofs.InTurn.{all-tail, tail-less}
 use Rattle.step.proofs.Does.{list-none, list-stop, list-on, after}
 use Rattle.model.specs.Doing.{scheduleEvents}
 use lib.ListN.{length}
@@ -40,7 +40,7 @@ schedule-each-shared-slice-read-schedule-events : (t : ℕ) → schedule-each-lt
 schedule-each-shared-slice-read-schedule-events t c = omega arith
 
 schedule-each-schedule-events-requires : (t : ℕ) → schedule-each-lts.Need-schedule-events-requires (Rd t) (schedule-each-at t) schedule-each.Post
-schedule-each-schedule-events-requires t c κs = let b = c .before .before .before .before .before .before .before .before .before .before .before .before in let a = b .args in (b .pre .1 .0, b .pre .1 .1, b .pre .1 .2, every-tail (λ n. n < a .z .cells) (a .list .now) (b .pre .1 .3) (c .before .before .before .before .before .if1 .left) .0)
+schedule-each-schedule-events-requires t c κs = let b = c .before .before .before .before .before .before .before .before .before .before .before .before in let a = b .args in (b .pre .1 .0, b .pre .1 .1, b .pre .1 .2, all-tail (λ n. n < a .z .cells) (a .list .now) (b .pre .1 .3) (c .before .before .before .before .before .if1 .left) .0)
 
 schedule-each-same-length : (t : ℕ) → schedule-each-lts.Need-same-length (Rd t) (schedule-each-at t) schedule-each.Post
 schedule-each-same-length t c = c .before .before .before .before .before .before .before .before .before .schedule-events .kept .1 .0
@@ -67,7 +67,7 @@ schedule-each-part-schedule-each-end : (t : ℕ) → schedule-each-lts.Need-part
 schedule-each-part-schedule-each-end t c = omega arith
 
 schedule-each-schedule-each-requires : (t : ℕ) → schedule-each-lts.Need-schedule-each-requires (Rd t) (schedule-each-at t) schedule-each.Post
-schedule-each-schedule-each-requires t c κs = let b = c .before .before .before .before .before .before .before .before .before .before .before .before .before .before .before .before .before .before .before .before .before .before .before .before .before .before .before in let a = b .args in (omega (arith, tail-less (a .list .now) (c .before .before .before .before .before .before .before .before .before .before .before .before .before .before .before .before .before .before .before .before .if1 .left), b .pre .0), (after (c .before .before .before .before .before .before .before .before .before .before .before .before .before .before .schedule-events .ensures) (b .pre .1 .0), b .pre .1 .1, b .pre .1 .2, every-tail (λ n. n < a .z .cells) (a .list .now) (b .pre .1 .3) (c .before .before .before .before .before .before .before .before .before .before .before .before .before .before .before .before .before .before .before .before .if1 .left) .1))
+schedule-each-schedule-each-requires t c κs = let b = c .before .before .before .before .before .before .before .before .before .before .before .before .before .before .before .before .before .before .before .before .before .before .before .before .before .before .before in let a = b .args in (omega (arith, tail-less (a .list .now) (c .before .before .before .before .before .before .before .before .before .before .before .before .before .before .before .before .before .before .before .before .if1 .left), b .pre .0), (after (c .before .before .before .before .before .before .before .before .before .before .before .before .before .before .schedule-events .ensures) (b .pre .1 .0), b .pre .1 .1, b .pre .1 .2, all-tail (λ n. n < a .z .cells) (a .list .now) (b .pre .1 .3) (c .before .before .before .before .before .before .before .before .before .before .before .before .before .before .before .before .before .before .before .before .if1 .left) .1))
 
 schedule-each-same-length-5 : (t : ℕ) → schedule-each-lts.Need-same-length-5 (Rd t) (schedule-each-at t) schedule-each.Post
 schedule-each-same-length-5 t c = c .before .before .before .before .before .before .before .before .schedule-each .kept .1 .1 .0 ∙ c .before .before .before .before .before .before .before .before .before .before .before .before .before .before .before .before .before .before .before .before .before .before .before .schedule-events .kept .1 .0

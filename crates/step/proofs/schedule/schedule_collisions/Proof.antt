@@ -7,7 +7,7 @@ use Rattle.halting.specs.Out.{eachOf}
 use Rattle.halting.specs.Every.{All}
 use Rattle.model.specs.Doing.{others, scheduleCollision}
 use Rattle.step.specs.World.{Seen, Some, Does}
-use Rattle.acts.proofs.InTurn.{every-tail, tail-less}
+use Rattle.acts.proofs.InTurn.{all-tail, tail-less}
 use Rattle.step.proofs.Does.{but-none, but-stop, but-on, after}
 use native.Mathlib.Omega.{arith}
 use borrow.Author.Needs.{needs}
@@ -30,7 +30,7 @@ shared-slice-read-q : tie.Need-shared-slice-read-q Inv-loop μ-loop
 shared-slice-read-q c = search needs
 
 schedule-collision-requires : tie.Need-schedule-collision-requires Inv-loop μ-loop
-schedule-collision-requires c κs = let l = c .before .before .before .before .before .loop in let a = c .before .before .before .before .before .before .before .before .before .before .before in (l .inv .0, a .pre .1, a .pre .2, every-tail (λ n. n < a .args .z .grains) (l .rest .now) (l .inv .1) (let h = c .before .before .before .before .loop-test .taken in λ (e : length (c .before .before .before .before .before .loop .rest .now) ≡ 0). absurd (omega (arith, e, h))) .0)
+schedule-collision-requires c κs = let l = c .before .before .before .before .before .loop in let a = c .before .before .before .before .before .before .before .before .before .before .before in (l .inv .0, a .pre .1, a .pre .2, all-tail (λ n. n < a .args .z .grains) (l .rest .now) (l .inv .1) (let h = c .before .before .before .before .loop-test .taken in λ (e : length (c .before .before .before .before .before .loop .rest .now) ≡ 0). absurd (omega (arith, e, h))) .0)
 
 same-length : tie.Need-same-length Inv-loop μ-loop
 same-length c = c .before .before .before .before .before .before .before .schedule-collision .kept .1 .0 ∙ c .before .before .before .before .before .before .before .before .before .before .before .before .before .loop .inv .2
@@ -63,7 +63,7 @@ loop-again c =
     let z : length (l .rest .now) ≡ 0 → ⊥ = (let h = c .before .before .before .before .before .before .before .before .before .before .before .before .before .loop-test .taken in λ (e : length (c .before .before .before .before .before .before .before .before .before .before .before .before .before .before .loop .rest .now) ≡ 0). absurd (omega (arith, e, h))) in
     let d = c .before .before .before .before .before .before .before .before .schedule-collision in (
       after (d .ensures) (l .inv .0),
-      every-tail (λ n. n < a .z .grains) (l .rest .now) (l .inv .1) z .1,
+      all-tail (λ n. n < a .z .grains) (l .rest .now) (l .inv .1) z .1,
       d .kept .1 .0 ∙ l .inv .2,
       d .kept .1 .1 .0 ∙ l .inv .3,
       d .kept .1 .1 .1 .0 ∙ l .inv .4,

@@ -1,13 +1,9 @@
 use Rattle.tables.proofs.GrainLaws.{grain-read}
 use Rattle.model.specs.State.{zeroG}
 use lib.ListN.{getD}
-use native.Mathlib.Omega.{arith}
 use borrow.Author.Needs.{needs}
 use Rattle.tables.proofs.grains.get_grain.Statement.{statement}
 use Rattle.tables.proofs.grains.get_grain.Tie as tie
-use Rattle.tables.proofs.grains.get_grain.Reads as reads
-use Rattle.tables.proofs.grains.get_grain.Lts as lts
-use Rattle.tables.proofs.grains.read_grain.Reads as read-grain-reads
 
 mul-a : tie.Need-mul-a
 mul-a c = search needs

@@ -1,11 +1,7 @@
 use Rattle.tables.proofs.GrainLaws.{grain-written}
-use native.Mathlib.Omega.{arith}
 use borrow.Author.Needs.{needs}
 use Rattle.tables.proofs.grains.put_grain.Statement.{statement}
 use Rattle.tables.proofs.grains.put_grain.Tie as tie
-use Rattle.tables.proofs.grains.put_grain.Reads as reads
-use Rattle.tables.proofs.grains.put_grain.Lts as lts
-use Rattle.tables.proofs.grains.write_grain.Reads as write-grain-reads
 
 mul-a : tie.Need-mul-a
 mul-a c = search needs

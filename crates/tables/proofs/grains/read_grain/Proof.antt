@@ -1,9 +1,6 @@
-use native.Mathlib.Omega.{arith}
 use borrow.Author.Needs.{needs}
 use Rattle.tables.proofs.grains.read_grain.Statement.{statement}
 use Rattle.tables.proofs.grains.read_grain.Tie as tie
-use Rattle.tables.proofs.grains.read_grain.Reads as reads
-use Rattle.tables.proofs.grains.read_grain.Lts as lts
 
 shared-slice-read-t3 : tie.Need-shared-slice-read-t3
 shared-slice-read-t3 c = search needs

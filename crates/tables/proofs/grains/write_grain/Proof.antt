@@ -6,8 +6,6 @@ use native.Mathlib.Omega.{arith}
 use borrow.Author.Needs.{needs}
 use Rattle.tables.proofs.grains.write_grain.Statement.{statement}
 use Rattle.tables.proofs.grains.write_grain.Tie as tie
-use Rattle.tables.proofs.grains.write_grain.Reads as reads
-use Rattle.tables.proofs.grains.write_grain.Lts as lts
 
 slice-write-s : tie.Need-slice-write-s
 slice-write-s c = search needs

@@ -4,8 +4,6 @@ use mathlib.Core.Path.{refl, sym, _∙_}
 use borrow.Author.Needs.{needs}
 use Rattle.tables.proofs.places.fine_place.Statement.{statement}
 use Rattle.tables.proofs.places.fine_place.Tie as tie
-use Rattle.tables.proofs.places.fine_place.Reads as reads
-use Rattle.tables.proofs.places.fine_place.Lts as lts
 
 is-finite-requires : tie.Need-is-finite-requires
 is-finite-requires c κs = search needs

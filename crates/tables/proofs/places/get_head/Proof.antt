@@ -1,8 +1,6 @@
 use borrow.Author.Needs.{needs}
 use Rattle.tables.proofs.places.get_head.Statement.{statement}
 use Rattle.tables.proofs.places.get_head.Tie as tie
-use Rattle.tables.proofs.places.get_head.Reads as reads
-use Rattle.tables.proofs.places.get_head.Lts as lts
 
 shared-slice-read-t4 : tie.Need-shared-slice-read-t4
 shared-slice-read-t4 c = search needs

@@ -1,11 +1,8 @@
-use mathlib.Core.Path.{_≡_, sym, ap, _∙_}
+use mathlib.Core.Path.{sym, ap}
 use Rattle.model.specs.Events.{placeOfEvent}
-use native.Mathlib.Omega.{arith}
 use borrow.Author.Needs.{needs}
 use Rattle.tables.proofs.places.place_of.Statement.{statement}
 use Rattle.tables.proofs.places.place_of.Tie as tie
-use Rattle.tables.proofs.places.place_of.Reads as reads
-use Rattle.tables.proofs.places.place_of.Lts as lts
 
 enum-known-event : tie.Need-enum-known-event
 enum-known-event c = search needs

@@ -3,8 +3,6 @@ use native.Mathlib.Omega.{arith}
 use lib.ListN.{length-set}
 use Rattle.tables.proofs.places.put_head.Statement.{statement}
 use Rattle.tables.proofs.places.put_head.Tie as tie
-use Rattle.tables.proofs.places.put_head.Reads as reads
-use Rattle.tables.proofs.places.put_head.Lts as lts
 
 slice-write-nums : tie.Need-slice-write-nums
 slice-write-nums c = search needs

@@ -4,8 +4,6 @@ use native.Mathlib.Omega.{arith}
 use borrow.Author.Needs.{needs}
 use Rattle.tables.proofs.rows.add_to.Statement.{statement}
 use Rattle.tables.proofs.rows.add_to.Tie as tie
-use Rattle.tables.proofs.rows.add_to.Reads as reads
-use Rattle.tables.proofs.rows.add_to.Lts as lts
 
 slice-read-n : tie.Need-slice-read-n
 slice-read-n c = let b = c .before in omega (arith, row-more (b .pre .0) (b .pre .1) (b .pre .2))

@@ -7,9 +7,6 @@ use native.Mathlib.Omega.{arith}
 use borrow.Author.Needs.{needs}
 use Rattle.tables.proofs.rows.drop_from.Statement.{statement}
 use Rattle.tables.proofs.rows.drop_from.Tie as tie
-use Rattle.tables.proofs.rows.drop_from.Reads as reads
-use Rattle.tables.proofs.rows.drop_from.Lts as lts
-use Rattle.tables.proofs.rows.remove.Reads as remove-reads
 
 slice-read-n : tie.Need-slice-read-n
 slice-read-n c = let b = c .before .before in omega (arith, row-fits (b .pre .0) (b .pre .1), row-some (b .args .x) (b .pre .0) (b .pre .1) (b .pre .2))

@@ -5,9 +5,6 @@ use native.Mathlib.Omega.{arith}
 use borrow.Author.Needs.{needs}
 use Rattle.tables.proofs.rows.lists.Statement.{statement}
 use Rattle.tables.proofs.rows.lists.Tie as tie
-use Rattle.tables.proofs.rows.lists.Reads as reads
-use Rattle.tables.proofs.rows.lists.Lts as lts
-use Rattle.tables.proofs.rows.has.Reads as has-reads
 
 shared-slice-read-n : tie.Need-shared-slice-read-n
 shared-slice-read-n c = let b = c .before .before in omega (arith, row-fits (b .pre .0) (b .pre .1))
