@@ -2,11 +2,11 @@
 use Prim.Native.Nat.{ℕ}
 use mathlib.Core.Path.{_≡_, refl, sym, ap, _∙_, subst}
 use mathlib.Core.List.{List}
-use mathlib.Core.Bool.{Bool, true, false}
+use mathlib.Core.Bool.{Bool, true, false, cond}
 use lib.Dec.{ltb}
 use lib.ListN.{length, getD}
 use lib.Ieee.{Float}
-use Rattle.halting.specs.Out.{out, eachOf, pick}
+use Rattle.halting.specs.Out.{out, eachOf}
 use Rattle.model.specs.declared.Place.{Place}
 use Rattle.model.specs.declared.Plan.{Plan}
 use Rattle.model.specs.declared.Plan.the-variants.{Nothing, Due, Refused}
@@ -37,7 +37,7 @@ pub insert-only : (c : ℕ) (e : Place) (s : State) → OnlyQueues s ((insert c 
 unfolding insert
 insert-only c e s = go (finePlace e) (ltb (length (queue s c)) (s .room))
   where
-    go : (a b : Bool) → OnlyQueues s ((pick a (pick b (out 0 (inserted c e s)) (out 6 s)) (out 5 s)) .st)
+    go : (a b : Bool) → OnlyQueues s ((cond a (cond b (out 0 (inserted c e s)) (out 6 s)) (out 5 s)) .st)
     go true true = requeued-only c _ s
     go true false = refl
     go false b = refl

@@ -11,7 +11,7 @@ use lib.Seq.{getD-set-same, getD-append-add, set-at}
 use lib.Ieee.{Float, lt}
 use borrow.Author.Tests.{le-ltb, lt-ltb, ne-eqb}
 use borrow.Rule.Slice.PartMut.{midOf, putMid, same-len-mid}
-use Rattle.halting.specs.Out.{Out, out, pick}
+use Rattle.halting.specs.Out.{Out, out}
 use Rattle.halting.specs.Every.{All}
 use Rattle.halting.proofs.All.{all-at, all-set}
 use Rattle.halting.proofs.Bools.{clash}
@@ -29,7 +29,7 @@ use Rattle.model.proofs.Queue.{length-insert}
 use Rattle.tables.specs.declared.Sizes.{Sizes}
 use Rattle.tables.specs.Layout.{places, placeNums, placeReals, queueNums, queueReals, orderBytes}
 use Rattle.tables.specs.Holds.{Ranged, Run, Good, Tabled, Queued, Told}
-use Rattle.tables.proofs.Runs.{nums-long, reals-long}
+use Rattle.tables.proofs.Runs.{rows-nums-wide, rows-reals-wide}
 use Rattle.acts.specs.declared.queue.CellRow.{CellRow}
 use Rattle.acts.specs.Queues.{placed, without, headless, RowOf, loaded}
 use Rattle.acts.proofs.Rows.{placed-run, headless-run, head-run, good-placed, good-without, good-headless}
@@ -44,11 +44,11 @@ pub yes-of : (r : Bool) {d : Bool} → r ≡ d → not r ≡ false → d ≡ tru
 yes-of true e n = sym e
 yes-of false e n = clash (sym n)
 
-pub on-yes : {A : Type 0} (P : A → Type 0) (b : Bool) (x y : A) → b ≡ true → P x → P (pick b x y)
-on-yes P b x y e p = subst (λ (t : Bool). P (pick t x y)) (sym e) p
+pub on-yes : {A : Type 0} (P : A → Type 0) (b : Bool) (x y : A) → b ≡ true → P x → P (cond b x y)
+on-yes P b x y e p = subst (λ (t : Bool). P (cond t x y)) (sym e) p
 
-pub on-no : {A : Type 0} (P : A → Type 0) (b : Bool) (x y : A) → b ≡ false → P y → P (pick b x y)
-on-no P b x y e p = subst (λ (t : Bool). P (pick t x y)) (sym e) p
+pub on-no : {A : Type 0} (P : A → Type 0) (b : Bool) (x y : A) → b ≡ false → P y → P (cond b x y)
+on-no P b x y e p = subst (λ (t : Bool). P (cond t x y)) (sym e) p
 
 -- ---- all rows
 
@@ -82,14 +82,6 @@ numsPut k l ys n = set (putMid (k .a) (k .b - k .a) l ys) (k .at) n
 abbrev pub realsPut : CellRow → List Float → List Float → List Float
 realsPut k l ys = putMid (k .p) (k .q - k .p) l ys
 
-wide-nums : (room : ℕ) (qs : List (Row Place)) → All (Good room) qs → All (λ (r : Row Place). length (queueNums r) ≡ room * 4 + 1) qs
-wide-nums room [] v = tt
-wide-nums room (r ∷ qs) v = ((let e = nums-long (places r) in let f = v .0 .full in omega arith), wide-nums room qs (v .1))
-
-wide-reals : (room : ℕ) (qs : List (Row Place)) → All (Good room) qs → All (λ (r : Row Place). length (queueReals r) ≡ room * 10) qs
-wide-reals room [] v = tt
-wide-reals room (r ∷ qs) v = ((let e = reals-long (places r) in let f = v .0 .full in omega arith), wide-reals room qs (v .1))
-
 head-first : (l s : List Place) → cond (eqb (length l) 0) last (getD (flat placeReals (l ++ s)) 0 last) ≡ headTime l
 head-first [] s = refl
 head-first (x ∷ l) s = ap (λ (b : Bool). cond b last (x .time)) (ne-eqb (suc (length l)) 0 (suc-ne-zero (length l)))
@@ -109,17 +101,17 @@ module _ {z : Sizes} {nums : List ℕ} {reals : List Float} {qs : List (Row Plac
 
   -- the tables' lengths
   pub queue-long : length nums ≡ z .cells * wideN z
-  queue-long = ap length (t .queue-is) ∙ length-flat queueNums (wideN z) qs (wide-nums (z .room) qs (t .good)) ∙ ap (λ (m : ℕ). m * wideN z) (t .many)
+  queue-long = ap length (t .queue-is) ∙ length-flat queueNums (wideN z) qs (rows-nums-wide (z .room) qs (t .good)) ∙ ap (λ (m : ℕ). m * wideN z) (t .many)
 
   pub events-long : length reals ≡ z .cells * wideR z
-  events-long = ap length (t .events-is) ∙ length-flat queueReals (wideR z) qs (wide-reals (z .room) qs (t .good)) ∙ ap (λ (m : ℕ). m * wideR z) (t .many)
+  events-long = ap length (t .events-is) ∙ length-flat queueReals (wideR z) qs (rows-reals-wide (z .room) qs (t .good)) ∙ ap (λ (m : ℕ). m * wideR z) (t .many)
 
   pub good-at : (c : ℕ) → c < z .cells → Good (z .room) (getD qs c none)
   good-at c h = all-at (Good (z .room)) qs c none (t .good) (inside c h)
 
   -- how many events a cell holds
   pub count-at : (c : ℕ) → getD nums (c * wideN z) 0 ≡ length (liveAt qs c)
-  count-at c = ap (λ (l : List ℕ). getD l (c * wideN z) 0) (t .queue-is) ∙ flat-get queueNums (wideN z) qs c 0 none (omega arith) (wide-nums (z .room) qs (t .good)) refl
+  count-at c = ap (λ (l : List ℕ). getD l (c * wideN z) 0) (t .queue-is) ∙ flat-get queueNums (wideN z) qs c 0 none (omega arith) (rows-nums-wide (z .room) qs (t .good)) refl
 
   -- each cell's head time, also past the cells
   pub heads-at : 0 < z .room → (c : ℕ) → headIn reals nums (z .room) c ≡ heads qs c
@@ -127,7 +119,7 @@ module _ {z : Sizes} {nums : List ℕ} {reals : List Float} {qs : List (Row Plac
   heads-at k c =
       ap (λ (n : ℕ). cond (eqb n 0) last (getD reals (c * wideR z) last)) (count-at c)
       ∙ ap (λ (x : Float). cond (eqb (length (liveAt qs c)) 0) last x)
-      (ap (λ (l : List Float). getD l (c * wideR z) last) (t .events-is) ∙ flat-get queueReals (wideR z) qs c last none (omega arith) (wide-reals (z .room) qs (t .good)) refl)
+      (ap (λ (l : List Float). getD l (c * wideR z) last) (t .events-is) ∙ flat-get queueReals (wideR z) qs c last none (omega arith) (rows-reals-wide (z .room) qs (t .good)) refl)
       ∙ head-first (liveAt qs c) ((getD qs c none) .spare)
 
   pub heads-are : 0 < z .room → headIn reals nums (z .room) ≡ heads qs
@@ -172,7 +164,7 @@ module _ {z : Sizes} {nums : List ℕ} {reals : List Float} {qs : List (Row Plac
   count-most = let e = counted in let f = good-at t c h .full in let l = length-append (old .live) (old .spare) in omega arith
 
   at-long : length front ≡ k .at
-  at-long = length-front queueNums (wideN z) qs c (wide-nums (z .room) qs (t .good)) (inside t c h) ∙ sym (K .at-is)
+  at-long = length-front queueNums (wideN z) qs c (rows-nums-wide (z .room) qs (t .good)) (inside t c h) ∙ sym (K .at-is)
 
   front-long : length (front ++ (length (old .live) ∷ [])) ≡ k .a
   front-long = length-append front (length (old .live) ∷ []) ∙ (let e = at-long in omega arith)
@@ -189,7 +181,7 @@ module _ {z : Sizes} {nums : List ℕ} {reals : List Float} {qs : List (Row Plac
   pub run-at : Run (numsAt k nums) (realsAt k reals) (places old)
   run-at = record {
     nums-is = mid-at (front ++ (length (old .live) ∷ [])) (flat placeNums (places old)) rest (k .a) (k .b - k .a) nums-cut front-long places-long;
-    reals-is = chunk-mid queueReals (wideR z) qs c none (k .p) (k .q - k .p) (wide-reals (z .room) qs (t .good)) (inside t c h) (t .events-is) (K .p-is) wide-p;
+    reals-is = chunk-mid queueReals (wideR z) qs c none (k .p) (k .q - k .p) (rows-reals-wide (z .room) qs (t .good)) (inside t c h) (t .events-is) (K .p-is) wide-p;
   }
 
   pub nums-part : length (numsAt k nums) ≡ z .room * 4
@@ -210,7 +202,7 @@ module _ {z : Sizes} {nums : List ℕ} {reals : List Float} {qs : List (Row Plac
         ∙ ap (λ (l : List ℕ). front ++ (n ∷ (l ++ rest))) (u .nums-is)
         ∙ ap (λ (m : ℕ). front ++ (m ∷ (flat placeNums (places r) ++ rest))) e
         ∙ sym (flat-set queueNums (wideN z) qs c r (inside t c h));
-    events-is = chunk-put queueReals (wideR z) qs c none r (k .p) (k .q - k .p) (wide-reals (z .room) qs (t .good)) (inside t c h) (t .events-is) (K .p-is) wide-p (u .reals-is);
+    events-is = chunk-put queueReals (wideR z) qs c none r (k .p) (k .q - k .p) (rows-reals-wide (z .room) qs (t .good)) (inside t c h) (t .events-is) (K .p-is) wide-p (u .reals-is);
     many = length-set qs c r ∙ t .many;
     good = all-set (Good (z .room)) qs c r (t .good) g;
   }
@@ -271,7 +263,7 @@ module _ {z : Sizes} {nums : List ℕ} {reals : List Float} {order : List ℕ} {
 
 module _ {z : Sizes} {nums : List ℕ} {reals : List Float} {order : List ℕ} (c : ℕ) (e : Place) (s : State) (q : Queued z nums reals order s) where
   abbrev full : Out State
-  full = pick (ltb (length (queue s c)) (s .room)) (out 0 (inserted c e s)) (out 6 s)
+  full = cond (ltb (length (queue s c)) (s .room)) (out 0 (inserted c e s)) (out 6 s)
 
   pub insert-five : finePlace e ≡ false → Told z nums reals order 5 (insert c e s)
   unfolding insert

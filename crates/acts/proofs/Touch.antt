@@ -1,12 +1,12 @@
 -- What the acts on the lists and on the grains leave as it was, also in a row. Assumes nothing.
 use Prim.Native.Nat.{ℕ, zero, suc}
 use mathlib.Core.Path.{_≡_, refl, sym, ap, _∙_, subst}
-use mathlib.Core.Bool.{Bool, true, false}
+use mathlib.Core.Bool.{Bool, true, false, cond}
 use mathlib.Core.List.{List, [], _∷_}
 use lib.Dec.{ltb, leb}
 use lib.Ieee.{Float}
 use lib.ListN.{length, set}
-use Rattle.halting.specs.Out.{Out, out, next, then, each, eachOf, pick}
+use Rattle.halting.specs.Out.{Out, out, next, then, each, eachOf}
 use Rattle.model.specs.declared.Domain.{Domain}
 use Rattle.model.specs.declared.Particle.{Particle}
 use Rattle.model.specs.Stepping.{stepped}
@@ -59,7 +59,7 @@ pub store-only : (g : ℕ) (p : Particle) (s : State) → OnlyGrains s ((store g
 unfolding store
 store-only g p s = go (fineGrain p)
   where
-    go : (b : Bool) → OnlyGrains s ((pick b (out 0 (withGrains (set (s .grains) g p) s)) (out 5 s)) .st)
+    go : (b : Bool) → OnlyGrains s ((cond b (out 0 (withGrains (set (s .grains) g p) s)) (out 5 s)) .st)
     go true = refl
     go false = refl
 
@@ -71,7 +71,7 @@ pub enter-only : (g c : ℕ) (s : State) → OnlyLists s ((enter g c s) .st)
 unfolding enter
 enter-only g c s = go (has g (listed s c)) (ltb (length (listed s c)) memberRoom) (ltb (length (home s g)) homeRoom)
   where
-    go : (a b d : Bool) → OnlyLists s ((pick a (out 8 s) (pick b (pick d (out 0 (entered g c s)) (out 7 s)) (out 7 s))) .st)
+    go : (a b d : Bool) → OnlyLists s ((cond a (out 8 s) (cond b (cond d (out 0 (entered g c s)) (out 7 s)) (out 7 s))) .st)
     go true b d = refl
     go false false d = refl
     go false true false = refl
@@ -81,7 +81,7 @@ pub leave-only : (g c : ℕ) (s : State) → OnlyLists s ((leave g c s) .st)
 unfolding leave
 leave-only g c s = go (leb (length (home s g)) 1)
   where
-    go : (a : Bool) → OnlyLists s ((pick a (out 9 s) (out 0 (gone g c s))) .st)
+    go : (a : Bool) → OnlyLists s ((cond a (out 9 s) (out 0 (gone g c s))) .st)
     go true = refl
     go false = refl
 

@@ -3,14 +3,13 @@ use Prim.Native.Nat.{ℕ, zero, suc, _≤_}
 use mathlib.Core.Path.{_≡_, refl, sym, ap, _∙_, subst}
 use mathlib.Core.Logic.{_⊎_, inl, inr}
 use mathlib.Core.List.{List, [], map}
-use mathlib.Core.Bool.{Bool, true, false, _||_}
+use mathlib.Core.Bool.{Bool, true, false, _||_, cond}
 use native.Mathlib.Omega.{arith}
 use lib.Dec.{T, eqb, ltb}
 use lib.ListN.{length, length-map}
 use lib.Ieee.{Float, binary64, toBits}
 use lib.Ieee.Bits.{ofBits-fits}
 use borrow.Author.Tests.{le-leb, ltb-false}
-use Rattle.halting.specs.Out.{pick}
 use Rattle.model.specs.declared.Domain.{Domain}
 use Rattle.model.specs.declared.Particle.{Particle}
 use Rattle.model.specs.Sizes.{boxOk, countsOk, firstBad, rated}
@@ -108,7 +107,7 @@ module _ (b : Domain) (F : Fits b) (gs : List Particle) (few : length gs ≤ 32)
   unfolding start
   start-number r g = by (boxOk b) (countsOk room (length gs)) counts (eqb (firstBad b gs) (length gs))
     where
-      by : (x y : Bool) → y ≡ true → (z : Bool) → pick x (pick y (pick z (begin.startedAt (begin.begin b room gs)) (refused 4 (firstBad b gs))) (refused 2 0)) (refused 1 0) ≡ refused r g → Given r
+      by : (x y : Bool) → y ≡ true → (z : Bool) → cond x (cond y (cond z (begin.startedAt (begin.begin b room gs)) (refused 4 (firstBad b gs))) (refused 2 0)) (refused 1 0) ≡ refused r g → Given r
       by true true q true e = absurd (let z : _≡_ {A = ℕ} 0 1 = cc in omega arith)
       by true true q false e = inr (inr (inl (sym (begun-same 4 (firstBad b gs) r g e))))
       by true false q z e = absurd (subst T (sym q) tt)
@@ -133,7 +132,7 @@ pub answers-are : (i : Input) → Reply (answerTo i)
 unfolding answerTo
 answers-are i = by (ltb 32 (length (i .grains))) refl (longLength (float (i .l0)) || longLength (float (i .l1)))
   where
-    by : (x : Bool) → ltb 32 (length (i .grains)) ≡ x → (y : Bool) → Reply (pick (x || y) (answerOf TooLarge) (afterStart (float (i .rate)) (start (boxIn i) room (map grainIn (i .grains)))))
+    by : (x : Bool) → ltb 32 (length (i .grains)) ≡ x → (y : Bool) → Reply (cond (x || y) (answerOf TooLarge) (afterStart (float (i .rate)) (start (boxIn i) room (map grainIn (i .grains)))))
     by true e y = large refl
     by false e true = large refl
     by false e false =

@@ -2,12 +2,11 @@
 use Prim.Native.Nat.{ℕ, _*_, _≤_}
 use mathlib.Core.Path.{_≡_, refl, sym, ap, _∙_}
 use mathlib.Core.List.{List, _++_, map}
-use mathlib.Core.Bool.{Bool, true, false, _||_}
+use mathlib.Core.Bool.{Bool, true, false, _||_, cond}
 use lib.Dec.{ltb}
 use lib.ListN.{getD, drop, replicate}
 use lib.Ieee.{Float, binary64, toBits}
 use borrow.Author.Tests.{ltb-false}
-use Rattle.halting.specs.Out.{pick}
 use Rattle.order.specs.Numbers.{fzero}
 use Rattle.chunks.specs.Flat.{flat}
 use Rattle.model.specs.declared.Domain.{Domain}
@@ -66,10 +65,10 @@ served-put b rate grains n inputs o v s u k ei e p = put-as ((λ i. spelt (e .0 
 
 -- ---- too large, or served: by the test x, which is y
 pub judged-put : (numbers grains : List ℕ) (n : ℕ) (x y : Bool) (b : Domain) (s u : List ℕ) (k : ℕ) → b ≡ boxed numbers → x ≡ tooLarge n (b .lengths .x) (b .lengths .y) → x ≡ y
-    → Put 0 (pick y (answerOf answer.TooLarge) (served (boxed numbers) (float (getD numbers 4 0)) grains n)) s u k → Put 0 (judged numbers grains n) s u k
+    → Put 0 (cond y (answerOf answer.TooLarge) (served (boxed numbers) (float (getD numbers 4 0)) grains n)) s u k → Put 0 (judged numbers grains n) s u k
 unfolding judged
 judged-put numbers grains n x y b s u k eb e h p =
-    put-as (ap (λ (z : Bool). pick z (answerOf answer.TooLarge) (served (boxed numbers) (float (getD numbers 4 0)) grains n)) (sym h ∙ e ∙ ap (λ (w : Domain). tooLarge n (w .lengths .x) (w .lengths .y)) eb)) p
+    put-as (ap (λ (z : Bool). cond z (answerOf answer.TooLarge) (served (boxed numbers) (float (getD numbers 4 0)) grains n)) (sym h ∙ e ∙ ap (λ (w : Domain). tooLarge n (w .lengths .x) (w .lengths .y)) eb)) p
 
 pub few : (n : ℕ) (a b : Float) (x : Bool) → x ≡ tooLarge n a b → x ≡ false → n ≤ 32
 few n a b x e h = ltb-false 32 n (by (ltb 32 n) (sym e ∙ h))

@@ -10,7 +10,6 @@ use lib.ListN.{length, getD, drop, replicate, length-map}
 use lib.Ieee.{Float, binary64, toBits}
 use lib.Ieee.Bits.{ofBits-fits}
 use borrow.Author.Tests.{le-leb, le-ltb, ltb-false, eqb-true}
-use Rattle.halting.specs.Out.{pick}
 use Rattle.chunks.specs.Flat.{flat}
 use Rattle.model.specs.declared.Domain.{Domain}
 use Rattle.model.specs.declared.Particle.{Particle}
@@ -169,7 +168,7 @@ module _ (b : Domain) (F : Fits b) (n : ℕ) (few : n ≤ 32) (inputs : List Flo
   begun-is : cells b ≡ 9 → (x : Begun) → start b room (inputsOf n inputs) ≡ x → spelling (bothRuns (leaving x blank)) n ≡ afterStart rate x
   begun-is nine (refused r g) e = by (eqb r 4) refl
     where
-      by : (y : Bool) → eqb r 4 ≡ y → spelling (bothRuns (with (pick y (start-answer.BadGrain g) (start-answer.Refused r)) blank)) n ≡ answerOf (Refused r)
+      by : (y : Bool) → eqb r 4 ≡ y → spelling (bothRuns (with (cond y (start-answer.BadGrain g) (start-answer.Refused r)) blank)) n ≡ answerOf (Refused r)
       by true h = ap (λ (k : ℕ). answerOf (Refused k)) (sym (eqb-true r 4 h))
       by false h = refl
   begun-is nine (started s) e = by (s .mark)
@@ -225,11 +224,11 @@ module _ (numbers grains : List ℕ) (n : ℕ) (long : length grains ≡ 160) wh
 
   pub judged-is : judged numbers grains n ≡ answerTo (inputFrom numbers grains n)
   unfolding judged answerTo
-  judged-is = by (tooLarge n (float (getD numbers 0 0)) (float (getD numbers 1 0))) refl ∙ ap (λ (k : ℕ). pick (tooLarge k (float (getD numbers 0 0)) (float (getD numbers 1 0))) (answerOf TooLarge) (afterStart rate (start (boxed numbers) room (map grainIn (grainsFrom grains 0 n))))) (sym (counted n 0 grains))
+  judged-is = by (tooLarge n (float (getD numbers 0 0)) (float (getD numbers 1 0))) refl ∙ ap (λ (k : ℕ). cond (tooLarge k (float (getD numbers 0 0)) (float (getD numbers 1 0))) (answerOf TooLarge) (afterStart rate (start (boxed numbers) room (map grainIn (grainsFrom grains 0 n))))) (sym (counted n 0 grains))
     where
       by : (x : Bool) → tooLarge n (float (getD numbers 0 0)) (float (getD numbers 1 0)) ≡ x
-          → pick (tooLarge n (float (getD numbers 0 0)) (float (getD numbers 1 0))) (answerOf TooLarge) (served (boxed numbers) rate grains n)
-          ≡ pick (tooLarge n (float (getD numbers 0 0)) (float (getD numbers 1 0))) (answerOf TooLarge) (afterStart rate (start (boxed numbers) room (map grainIn (grainsFrom grains 0 n))))
+          → cond (tooLarge n (float (getD numbers 0 0)) (float (getD numbers 1 0))) (answerOf TooLarge) (served (boxed numbers) rate grains n)
+          ≡ cond (tooLarge n (float (getD numbers 0 0)) (float (getD numbers 1 0))) (answerOf TooLarge) (afterStart rate (start (boxed numbers) room (map grainIn (grainsFrom grains 0 n))))
       by true e = rw e
       by false e = let k = split (ltb 32 n) (longLength (float (getD numbers 0 0))) (longLength (float (getD numbers 1 0))) e in rw e (small-is (k .0) (k .1) (k .2))
 
@@ -238,8 +237,8 @@ pub fine-is : (r w : Reader) (x : Bool) → w ≡ closedOf r → x ≡ fineOf w 
 unfolding answered
 fine-is r w x e f h k =
     judged-is (w .numbers) (w .grains) (w .n) k
-    ∙ sym (ap (λ (y : Bool). pick y (answerTo (inputOf (closedOf r))) (answerOf Malformed)) (sym (ap fineOf e) ∙ sym f ∙ h) ∙ ap (λ (y : Reader). answerTo (inputOf y)) (sym e))
+    ∙ sym (ap (λ (y : Bool). cond y (answerTo (inputOf (closedOf r))) (answerOf Malformed)) (sym (ap fineOf e) ∙ sym f ∙ h) ∙ ap (λ (y : Reader). answerTo (inputOf y)) (sym e))
 
 pub malformed-is : (r w : Reader) (x : Bool) → w ≡ closedOf r → x ≡ fineOf w → x ≡ false → answerOf Malformed ≡ answered r
 unfolding answered
-malformed-is r w x e f h = sym (ap (λ (y : Bool). pick y (answerTo (inputOf (closedOf r))) (answerOf Malformed)) (sym (ap fineOf e) ∙ sym f ∙ h))
+malformed-is r w x e f h = sym (ap (λ (y : Bool). cond y (answerTo (inputOf (closedOf r))) (answerOf Malformed)) (sym (ap fineOf e) ∙ sym f ∙ h))

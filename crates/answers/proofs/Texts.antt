@@ -2,11 +2,10 @@
 use Prim.Native.Nat.{ℕ, _<_}
 use mathlib.Core.Path.{_≡_, refl, sym, ap, _∙_, subst}
 use mathlib.Core.List.{List, map}
-use mathlib.Core.Bool.{Bool, true, false, _||_}
+use mathlib.Core.Bool.{Bool, true, false, _||_, cond}
 use lib.Dec.{ltb}
 use lib.ListN.{length}
 use borrow.Author.Tests.{lt-ltb, ltb-true, ltb-false}
-use Rattle.halting.specs.Out.{pick}
 use Rattle.model.specs.Start.{start}
 use Rattle.listing_text.specs.declared.writer.Answer.the-variants.{Malformed, TooLarge}
 use Rattle.listing_text.specs.Grammar.{Grain, Input, Text, Word, Words}
@@ -35,7 +34,7 @@ read-again i = λ t. record { l0 = i .l0; l1 = i .l1; p0 = flag-back (i .p0) t; 
 -- with more of them both are too large
 large : (i : Input) → 32 < length (i .grains) → answerTo i ≡ answerOf TooLarge
 unfolding answerTo
-large i h = ap (λ (x : Bool). pick (x || (longLength (float (i .l0)) || longLength (float (i .l1)))) (answerOf TooLarge) (afterStart (float (i .rate)) (start (boxIn i) room (map grainIn (i .grains))))) (lt-ltb 32 (length (i .grains)) h)
+large i h = ap (λ (x : Bool). cond (x || (longLength (float (i .l0)) || longLength (float (i .l1)))) (answerOf TooLarge) (afterStart (float (i .rate)) (start (boxIn i) room (map grainIn (i .grains))))) (lt-ltb 32 (length (i .grains)) h)
 
 answer-again : (i : Input) → answerTo (again i) ≡ answerTo i
 answer-again i = by (ltb 32 (length (i .grains))) refl
@@ -51,7 +50,7 @@ pub answer-text : (s : List ℕ) (i : Input) → Words i → Word (length (i .gr
 unfolding answered
 answer-text s i w n t =
     let e = text-accepted s i w n t in
-    ap (λ (x : Bool). pick x (answerTo (inputOf (closedOf (feedAll startOf s)))) (answerOf Malformed)) (ap fineOf e ∙ read-fine i)
+    ap (λ (x : Bool). cond x (answerTo (inputOf (closedOf (feedAll startOf s)))) (answerOf Malformed)) (ap fineOf e ∙ read-fine i)
     ∙ ap (λ r. answerTo (inputOf r)) e ∙ ap answerTo (read-again i) ∙ answer-again i
 
 -- ---- any other
@@ -59,6 +58,6 @@ pub answer-malformed : (s : List ℕ) → ((i : Input) → Words i → Text s i 
 unfolding answered
 answer-malformed s none = by (fineOf (closedOf (feedAll startOf s))) refl
   where
-    by : (x : Bool) → fineOf (closedOf (feedAll startOf s)) ≡ x → pick (fineOf (closedOf (feedAll startOf s))) (answerTo (inputOf (closedOf (feedAll startOf s)))) (answerOf Malformed) ≡ answerOf Malformed
+    by : (x : Bool) → fineOf (closedOf (feedAll startOf s)) ≡ x → cond (fineOf (closedOf (feedAll startOf s))) (answerTo (inputOf (closedOf (feedAll startOf s)))) (answerOf Malformed) ≡ answerOf Malformed
     by true e = let a = accepted-text s e in absurd (none (a .input) (a .input-words) (a .is-text))
     by false e = rw e

@@ -1,11 +1,10 @@
 -- 01, "The listing program": the answer to a text, as a function of its bytes. Assumes nothing: these are definitions.
 use Prim.Native.Nat.{ℕ, zero, suc}
 use mathlib.Core.List.{List, map}
-use mathlib.Core.Bool.{Bool}
+use mathlib.Core.Bool.{Bool, cond}
 use lib.Dec.{eqb}
 use lib.ListN.{length, getD}
 use lib.Ieee.{Float, binary64, ofBits, toBits}
-use Rattle.halting.specs.Out.{pick}
 use Rattle.order.specs.Numbers.{fzero}
 use Rattle.myvec.specs.Vec.{vec}
 use Rattle.model.specs.declared.Domain.{Domain}
@@ -69,7 +68,7 @@ afterStart rate (started s) = byMark (s .mark) (toNext rate (runAll rate budget 
 -- ---- the answer to the numbers of a text of the form: `too large`, "then" refused, spent, or the listing
 unfoldable pub answerTo : Input → List ℕ
 answerTo i =
-    pick (tooLarge (length (i .grains)) (float (i .l0)) (float (i .l1))) (answerOf TooLarge)
+    cond (tooLarge (length (i .grains)) (float (i .l0)) (float (i .l1))) (answerOf TooLarge)
     (afterStart (float (i .rate)) (start (boxIn i) room (map grainIn (i .grains))))
 
 -- ---- the answer to a text: `malformed` unless the reader finds it to be of the form, "then" the above
@@ -91,7 +90,7 @@ inputOf r = inputFrom (r .numbers) (r .grains) (r .n)
 
 -- once the reader has been fed the whole text, and so of its bytes (Texts has what this means for the grammar)
 unfoldable pub answered : Reader → List ℕ
-answered r = pick (fineOf (closedOf r)) (answerTo (inputOf (closedOf r))) (answerOf Malformed)
+answered r = cond (fineOf (closedOf r)) (answerTo (inputOf (closedOf r))) (answerOf Malformed)
 
 abbrev pub answer : List ℕ → List ℕ
 answer s = answered (feedAll startOf s)

@@ -1,9 +1,9 @@
 -- The answer over the numbers that the reader holds, and a start with its two runs over the tables that the code lends. Assumes nothing: these are definitions.
 use Prim.Native.Nat.{ℕ, _*_}
+use mathlib.Core.Bool.{cond}
 use mathlib.Core.List.{List, _++_, map}
 use lib.ListN.{getD, replicate, drop}
 use lib.Ieee.{Float, binary64, toBits}
-use Rattle.halting.specs.Out.{pick}
 use Rattle.chunks.specs.Flat.{flat}
 use Rattle.order.specs.Numbers.{fzero}
 use Rattle.myvec.specs.Vec.{vec}
@@ -79,4 +79,4 @@ unfoldable pub served : Domain → Float → List ℕ → ℕ → List ℕ
 served b rate grains n = spelling (simulated b n rate (map float grains) blank) n
 
 unfoldable pub judged : List ℕ → List ℕ → ℕ → List ℕ
-judged numbers grains n = pick (tooLarge n (float (getD numbers 0 0)) (float (getD numbers 1 0))) (answerOf answer.TooLarge) (served (boxed numbers) (float (getD numbers 4 0)) grains n)
+judged numbers grains n = cond (tooLarge n (float (getD numbers 0 0)) (float (getD numbers 1 0))) (answerOf answer.TooLarge) (served (boxed numbers) (float (getD numbers 4 0)) grains n)

@@ -2,8 +2,7 @@
 -- direction, its bounds, position and neighbours. Assumes nothing: these are definitions.
 use Prim.Native.Nat.{ℕ, zero, suc, _+_, _-_, _*_, _/_, _%_}
 use mathlib.Core.Path.{_≡_}
-use mathlib.Core.Bool.{true}
-use Rattle.halting.specs.Out.{pick}
+use mathlib.Core.Bool.{true, cond}
 use lib.Dec.{eqb}
 use lib.IntN.{pos}
 use lib.Ieee.{Float, binary64, mul, div, ofInt}
@@ -54,7 +53,7 @@ abbrev pub edgeOf : Float → ℕ → ℕ → Float
 edgeOf length n i = mul binary64 (div binary64 length (ofInt binary64 (pos n))) (ofInt binary64 (pos i))
 
 abbrev pub positionOf : ℕ → ℕ → CellPosition
-positionOf n i = pick (eqb i 0) NegativeEdge (pick (eqb i (n - 1)) PositiveEdge Centre)
+positionOf n i = cond (eqb i 0) NegativeEdge (cond (eqb i (n - 1)) PositiveEdge Centre)
 
 -- what a cell is in a direction
 abbrev pub alongIn : Cell → ℕ → CellAlong

@@ -3,13 +3,12 @@ use mathlib.Core.Path.{_≡_, refl, sym, ap, _∙_, subst}
 use Prim.Native.Nat.{ℕ, zero, suc, _+_, _*_}
 use native.Mathlib.Omega.{arith}
 use mathlib.Core.List.{List}
-use mathlib.Core.Bool.{Bool, true, false}
+use mathlib.Core.Bool.{Bool, true, false, cond}
 use lib.Dec.{T, leb}
 use lib.ListN.{getD, drop}
 use lib.Seq.{getD-drop}
 use lib.Ieee.{Float, nan, binary64, fits}
 use borrow.Author.Tests.{le-leb}
-use Rattle.halting.specs.Out.{pick}
 use Rattle.model.specs.declared.Place.{Place}
 use Rattle.model.specs.Sizes.{rated}
 use Rattle.model.specs.State.{none}
@@ -61,7 +60,7 @@ pub checked-means : (rate : Float) (t : Tables) → checked rate t ≡ 0 → Pas
 unfolding checked
 checked-means rate t z = go (sized t) (halt (mark (t .lists))) (rated rate) (standing t) refl refl refl refl z
   where
-    go : (a b c d : Bool) → sized t ≡ a → halt (mark (t .lists)) ≡ b → rated rate ≡ c → standing t ≡ d → _≡_ {A = ℕ} (pick a (pick b (mark (t .lists)) (pick c (pick d 0 10) 3)) 2) 0 → Passed rate t
+    go : (a b c d : Bool) → sized t ≡ a → halt (mark (t .lists)) ≡ b → rated rate ≡ c → standing t ≡ d → _≡_ {A = ℕ} (cond a (cond b (mark (t .lists)) (cond c (cond d 0 10) 3)) 2) 0 → Passed rate t
     go true false true true a b c d z = record { sizes = a; unmarked = b; rate-in = c; stands = d }
     go true false true false a b c d z = absurd (omega arith)
     go true false false d a b c d′ z = absurd (omega arith)

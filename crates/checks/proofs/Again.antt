@@ -1,34 +1,26 @@
--- Tables that hold a state whose facts stand pass the check again. Assumes nothing.
-use mathlib.Core.Path.{_≡_, refl, sym, ap, _∙_, subst}
+-- Tables that hold a state are legible. Assumes nothing.
+use mathlib.Core.Path.{_≡_, refl, sym, ap, _∙_}
 use Prim.Native.Nat.{ℕ, zero, suc, _+_, _*_, _≤_}
 use native.Mathlib.Nat.{suc-ne-zero}
 use native.Mathlib.Omega.{arith}
 use mathlib.Core.List.{List, [], _∷_, _++_, append-assoc}
-use mathlib.Core.Bool.{Bool, true, false, _&&_}
+use mathlib.Core.Bool.{Bool, true, _&&_}
 use lib.ListN.{length, getD, drop}
 use lib.Seq.{drop-at}
-use lib.Ieee.{Float}
-use borrow.Author.Tests.{le-leb, lt-leb}
+use borrow.Author.Tests.{le-leb}
 use Rattle.halting.specs.Every.{All}
 use Rattle.chunks.specs.Flat.{flat}
 use Rattle.model.specs.Grid.{cells}
-use Rattle.model.specs.Sizes.{rated}
 use Rattle.model.specs.State.{Row, State, queue, listed}
-use Rattle.model.specs.Sound.{Stands}
-use Rattle.model.proofs.Stands.{standing as facts, sound-fitted}
-use Rattle.model.specs.Check.{halt}
-use Rattle.model.specs.Check as model
-use Rattle.model.proofs.Reflect.{says-standing}
 use Rattle.tables.specs.declared.Sizes.{Sizes}
 use Rattle.tables.specs.Layout.{places, rowNums, queueNums}
 use Rattle.tables.specs.Holds.{Rows, Good}
 use Rattle.tables.proofs.RowLaws.{live-most}
-use Rattle.checks.specs.Decode.{Tables, mark, decoded}
-use Rattle.checks.specs.Check.{Sized, counted, legible, legibleBy, standing, checked, queueNeed}
+use Rattle.checks.specs.Decode.{Tables}
+use Rattle.checks.specs.Check.{counted, legibleBy, queueNeed}
 use Rattle.checks.specs.Held.{Hold}
 use Rattle.tables.proofs.Runs.{row-nums-long}
-use Rattle.checks.proofs.Back.{row-wide, lists-cut, members-cut, queue-cut, read-back}
-use Rattle.checks.proofs.Stages.{means-sized, check-0}
+use Rattle.checks.proofs.Back.{row-wide, lists-cut, members-cut, queue-cut}
 
 -- ---- counts of rows that are written are within their room
 module _ {A : Type 0} (enc : A → List ℕ) (v w : ℕ) (P : A → Type 0) (long : (x : A) → P x → length (enc x) ≡ w) (few : (x : A) (y : List ℕ) → P x → getD (enc x ++ y) 0 0 ≤ v) where
@@ -60,19 +52,3 @@ module _ (z : Sizes) (t : Tables) (s : State) (H : Hold z t s) where
         ap (counted room (room * 4 + 1) (z .cells)) (queue-cut z t s H)
             ∙ counted-flat queueNums room (room * 4 + 1) (Good room) (λ r g. row-nums-long room r (g .full)) (λ r y g. live-few r (g .full)) (z .cells) (s .queues) (drop (queueNeed z) (t .queue)) (H .body .queued .tables .many) (H .body .queued .tables .good),
       )
-
-  standing-held : Stands s → standing t ≡ true
-  unfolding standing
-  standing-held F =
-      let a : legible t ≡ true = ap (λ (y : Sizes). legibleBy y (t .lists) (t .queue)) (sym (H .sizes)) ∙ legible-held in
-      let b : model.standing (decoded t) ≡ true = ap model.standing (read-back z t s H) ∙ says-standing s (sound-fitted s (F .sound)) .holds (facts s F) in
-      rw (a, b)
-
-  -- THEY PASS AGAIN
-  pub passes : Sized z t → Stands s → (rate : Float) → rated rate ≡ true → checked rate t ≡ 0
-  passes S F rate r =
-      let m : mark (t .lists) ≡ 0 = H .mark-is ∙ F .free in
-      sym (check-0 rate t (means-sized t (subst (λ (y : Sizes). Sized y t) (H .sizes) S)) (ap halt m ∙ unmarked) r (standing-held F))
-    where
-      unmarked : halt 0 ≡ false
-      unmarked = rw (lt-leb 5 0 (omega arith))

@@ -5,11 +5,10 @@ use native.Mathlib.Nat.{sub-self, sub-zero}
 use native.Mathlib.Numerals.{add-one}
 use native.Mathlib.Omega.{arith}
 use mathlib.Core.List.{List, [], _∷_}
-use mathlib.Core.Bool.{Bool, false, _&&_}
+use mathlib.Core.Bool.{Bool, false, _&&_, cond}
 use lib.ListN.{length, getD}
-use Rattle.halting.specs.Out.{pick}
 use Rattle.halting.specs.Every.{every}
-use Rattle.halting.proofs.Bools.{and-pick}
+use Rattle.halting.proofs.Bools.{and-cond}
 use Rattle.model.specs.Check.{all}
 use Rattle.checks.specs.Walk.{walk}
 
@@ -17,15 +16,15 @@ pub every-same : (p q : ℕ → Bool) (m c : ℕ) → ((i : ℕ) → c ≤ i →
 unfolding every
 every-same p q zero c h = refl
 every-same p q (suc m) c h =
-    ap (λ (b : Bool). pick b (every p m (suc c)) false) (h c (omega arith) (omega arith))
-    ∙ ap (λ (b : Bool). pick (q c) b false) (every-same p q m (suc c) (λ i a b. h i (omega arith) (omega arith)))
+    ap (λ (b : Bool). cond b (every p m (suc c)) false) (h c (omega arith) (omega arith))
+    ∙ ap (λ (b : Bool). cond (q c) b false) (every-same p q m (suc c) (λ i a b. h i (omega arith) (omega arith)))
 
 module _ {A : Type 0} (p : ℕ → A → Bool) (d : A) where
   from : (xs : List A) (c : ℕ) → every (λ i. p i (getD xs (i - c) d)) (length xs) c ≡ walk p c xs
   unfolding every walk
   from [] c = refl
   from (x ∷ xs) c =
-      sym (and-pick (p c (getD (x ∷ xs) (c - c) d)) _)
+      sym (and-cond (p c (getD (x ∷ xs) (c - c) d)) _)
       ∙ ap (λ (k : ℕ). p c (getD (x ∷ xs) k d) && every (λ i. p i (getD (x ∷ xs) (i - c) d)) (length xs) (suc c)) (sub-self c)
       ∙ ap (λ (b : Bool). p c x && b) (every-same (λ i. p i (getD (x ∷ xs) (i - c) d)) (λ i. p i (getD xs (i - suc c) d)) (length xs) (suc c) (λ i a h. later i a) ∙ from xs (suc c))
       ∙ ap (λ (k : ℕ). p c x && walk p k xs) (sym (add-one c))

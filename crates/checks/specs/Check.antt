@@ -2,11 +2,10 @@
 use Prim.Native.Nat.{ℕ, zero, suc, _+_, _-_, _*_, _≤_}
 use mathlib.Core.Path.{_≡_}
 use mathlib.Core.List.{List}
-use mathlib.Core.Bool.{Bool, true, _&&_}
+use mathlib.Core.Bool.{Bool, true, _&&_, cond}
 use lib.Dec.{leb}
 use lib.ListN.{length, getD, take, drop}
 use lib.Ieee.{Float}
-use Rattle.halting.specs.Out.{pick}
 use Rattle.model.specs.Sizes.{memberRoom, homeRoom, rated}
 use Rattle.model.specs.Check.{halt}
 use Rattle.model.specs.Check as model
@@ -102,4 +101,4 @@ standing t = legible t && model.standing (decoded t)
 
 -- ---- 2, the mark, 3, 10: the number that refuses the run, 0 for none
 unfoldable pub checked : Float → Tables → ℕ
-checked rate t = pick (sized t) (pick (halt (mark (t .lists))) (mark (t .lists)) (pick (rated rate) (pick (standing t) 0 10) 3)) 2
+checked rate t = cond (sized t) (cond (halt (mark (t .lists))) (mark (t .lists)) (cond (rated rate) (cond (standing t) 0 10) 3)) 2

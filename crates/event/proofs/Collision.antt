@@ -1,10 +1,9 @@
 -- The ways through the scheduling of a collision, and what is stored, by the values on the way. Assumes nothing.
 use Prim.Native.Nat.{ℕ}
 use mathlib.Core.Path.{_≡_, sym, ap, _∙_}
-use mathlib.Core.Bool.{Bool, true, false}
+use mathlib.Core.Bool.{Bool, true, false, cond}
 use lib.Ieee.{Float, binary64, add, sub, mul, div, neg, lt, le}
 use Rattle.order.specs.Numbers.{fzero, one, half, rest, eps}
-use Rattle.halting.specs.Out.{pick}
 use Rattle.root.specs.declared.Root.the-variants as root
 use Rattle.root.specs.Root.{rootOf}
 use Rattle.myvec.specs.declared.MyVec.{MyVec}
@@ -27,10 +26,10 @@ dt a b s = mul binary64 (div binary64 one a) (sub binary64 (neg s) b)
 
 module _ (d a b : Float) where
   pub before : (s : Float) → rootOf d ≡ root.Value s → lt (dt a b s) fzero ≡ true → contact.Never ≡ timeOf d a b
-  before s e h = sym (ap (afterRoot a b) e ∙ ap (λ (t : Bool). pick t contact.Never (contact.After (dt a b s))) h)
+  before s e h = sym (ap (afterRoot a b) e ∙ ap (λ (t : Bool). cond t contact.Never (contact.After (dt a b s))) h)
 
   pub after : (s : Float) → rootOf d ≡ root.Value s → lt (dt a b s) fzero ≡ false → contact.After (dt a b s) ≡ timeOf d a b
-  after s e h = sym (ap (afterRoot a b) e ∙ ap (λ (t : Bool). pick t contact.Never (contact.After (dt a b s))) h)
+  after s e h = sym (ap (afterRoot a b) e ∙ ap (λ (t : Bool). cond t contact.Never (contact.After (dt a b s))) h)
 
   pub refused : rootOf d ≡ root.Refused → contact.Refused ≡ timeOf d a b
   refused e = sym (ap (afterRoot a b) e)

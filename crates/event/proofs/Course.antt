@@ -1,10 +1,9 @@
 -- What a course answers is what the definitions answer of the grain in the cell. Assumes nothing.
 use Prim.Native.Nat.{ℕ}
 use mathlib.Core.Path.{_≡_, refl, ap, _∙_}
-use mathlib.Core.Bool.{Bool, true, false, not}
+use mathlib.Core.Bool.{Bool, true, false, not, cond}
 use lib.Ieee.{Float, binary64, div, lt}
 use Rattle.order.specs.Numbers.{fzero, half}
-use Rattle.halting.specs.Out.{pick}
 use Rattle.halting.proofs.Bools.{itself, either}
 use Rattle.myvec.specs.Vec.{along}
 use Rattle.model.specs.declared.Domain.{Domain}
@@ -40,7 +39,7 @@ module _ (m : Course) where
   pub edge-high : m .cell .position ≡ PositiveEdge → not (lt (m .vel) fzero) ≡ edgeIn m
   edge-high e = rw e (by (lowIn m))
     where
-      by : (t : Bool) → not t ≡ pick t false true
+      by : (t : Bool) → not t ≡ cond t false true
       by true = refl
       by false = refl
 

@@ -1,10 +1,9 @@
 -- The ways through the scheduling of a move and of a reflection: none by a test, none by a dt that is not above 0, or an event. Assumes nothing.
 use Prim.Native.Nat.{ℕ}
 use mathlib.Core.Path.{_≡_, refl, sym, ap, _∙_}
-use mathlib.Core.Bool.{Bool, true, false}
+use mathlib.Core.Bool.{Bool, true, false, cond}
 use lib.Ieee.{Float, binary64, div, neg, le}
 use Rattle.order.specs.Numbers.{fzero, half}
-use Rattle.halting.specs.Out.{pick}
 use Rattle.myvec.specs.declared.MyVec.{MyVec}
 use Rattle.myvec.specs.Vec.{along, bent}
 use Rattle.model.specs.declared.Domain.{Domain}
@@ -24,7 +23,7 @@ use Rattle.event.proofs.Course.{shut-is, dt-is, aside-is, no-wall-is, v
 -- ---- over any test, dt and event
 module _ (S : Bool) (t D : Float) (E : Float → Event) where
   abbrev kind : Plan
-  kind = pick S Nothing (later t D (E D))
+  kind = cond S Nothing (later t D (E D))
 
   none : (s : Bool) → s ≡ S → s ≡ true → Nothing ≡ kind
   none s m e = taken S Nothing (later t D (E D)) Nothing (sym m ∙ e) refl

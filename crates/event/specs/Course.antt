@@ -1,10 +1,9 @@
 -- A grain in one direction of a cell, and what the moves and the walls ask of it; each is the definition of document 01, read off the course.
 -- Assumes nothing: these are definitions.
 use Prim.Native.Nat.{ℕ}
-use mathlib.Core.Bool.{Bool, not, _&&_, _||_}
+use mathlib.Core.Bool.{Bool, not, _&&_, _||_, cond}
 use lib.Ieee.{Float, binary64, add, sub, mul, div, lt, eq}
 use Rattle.order.specs.Numbers.{fzero, one, half}
-use Rattle.halting.specs.Out.{pick}
 use Rattle.myvec.specs.Vec.{along}
 use Rattle.model.specs.declared.Domain.{Domain}
 use Rattle.model.specs.declared.Particle.{Particle}
@@ -23,25 +22,25 @@ abbrev pub stillIn : Course → Bool
 stillIn m = eq (m .vel) fzero
 
 abbrev pub edgeIn : Course → Bool
-edgeIn m = pick (lowIn m) (isLow (m .cell .position)) (isHigh (m .cell .position))
+edgeIn m = cond (lowIn m) (isLow (m .cell .position)) (isHigh (m .cell .position))
 
 abbrev pub shutIn : Course → Bool
 shutIn m = stillIn m || (not (m .periodic) && edgeIn m)
 
 abbrev pub gapIn : Course → Float → Float
-gapIn m rad = pick (lowIn m) (sub binary64 (add binary64 (m .cell .low) rad) (m .pos)) (sub binary64 (sub binary64 (m .cell .high) rad) (m .pos))
+gapIn m rad = cond (lowIn m) (sub binary64 (add binary64 (m .cell .low) rad) (m .pos)) (sub binary64 (sub binary64 (m .cell .high) rad) (m .pos))
 
 abbrev pub dtIn : Course → Float → Float
 dtIn m rad = div binary64 (corrected (m .length) (m .cell .position) (gapIn m rad)) (m .vel)
 
 abbrev pub asideIn : Course → ℕ
-asideIn m = pick (lowIn m) (m .cell .below) (m .cell .above)
+asideIn m = cond (lowIn m) (m .cell .below) (m .cell .above)
 
 abbrev pub noWallIn : Course → Bool
 noWallIn m = m .periodic || (stillIn m || not (edgeIn m))
 
 abbrev pub wallIn : Course → Float
-wallIn m = pick (lowIn m) fzero one
+wallIn m = cond (lowIn m) fzero one
 
 abbrev pub wallValIn : Course → Float → Float
 wallValIn m val = mul binary64 half (add binary64 (wallIn m) val)

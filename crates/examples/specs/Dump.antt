@@ -8,6 +8,7 @@ use lib.ListN.{take}
 use lib.Ieee.{Float, binary64, ofBits, toBits}
 use Rattle.order.specs.Numbers.{fzero}
 use Rattle.myvec.specs.Vec.{vec}
+use Rattle.model.proofs.Starred.{sameList}
 use Rattle.model.specs.declared.Domain.{Domain}
 use Rattle.model.specs.declared.Particle.{Particle}
 use Rattle.model.specs.declared.Place.{Place}
@@ -41,12 +42,6 @@ pub data Dump : Type 0 where
 abbrev joined : ℕ → List Float → ℕ
 joined n [] = n
 joined n (x ∷ xs) = joined (n * 2 ^ 64 + toBits binary64 x) xs
-
-abbrev sameList : List ℕ → List ℕ → Bool
-sameList [] [] = true
-sameList [] (y ∷ ys) = false
-sameList (x ∷ xs) [] = false
-sameList (x ∷ xs) (y ∷ ys) = eqb x y && sameList xs ys
 
 abbrev sameGrains : List Particle → List (Row ℕ) → List Grain → Bool
 sameGrains [] [] [] = true

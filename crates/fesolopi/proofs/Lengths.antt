@@ -1,29 +1,27 @@
 -- What a start's refusals by 1 and 2 say of its counts, and the lengths that it needs. Assumes nothing.
 use Prim.Native.Nat.{ℕ, _*_, _≤_}
 use mathlib.Core.Path.{_≡_, refl, sym, ap, _∙_, subst}
-use mathlib.Core.Bool.{Bool, true, false}
+use mathlib.Core.Bool.{Bool, true, false, cond}
 use native.Mathlib.Omega.{arith}
-use Rattle.halting.specs.Out.{pick}
 use Rattle.model.specs.declared.Domain.{Domain}
 use Rattle.model.specs.Sizes.{boxOk, countsOk}
 use Rattle.model.specs.Grid.{cells}
 use Rattle.model.proofs.Grid.{cells-max}
 use Rattle.cell.specs.declared.Grid.{Grid}
 use Rattle.cell.specs.Cell.{gridOf, Laid}
-use Rattle.starting.specs.Cleared.{sizesFor}
 use Rattle.checks.specs.declared.Lengths.{Lengths}
 use Rattle.checks.specs.Check.{lengthsFor}
 use Rattle.simulator.proofs.StartLaws.{Counts, counts-mean, cells-counted}
 use Rattle.fesolopi.specs.Needed.{Needed, needed, neededBy, none, refusedBy, neededFor}
 
 -- ---- refused
-pub none-needed : (x y : Bool) (N : Needed) (r : ℕ) → r ≡ pick x (pick y 0 2) 1 → (r ≡ 0 → ⊥) → none r ≡ pick x (pick y N (none 2)) (none 1)
+pub none-needed : (x y : Bool) (N : Needed) (r : ℕ) → r ≡ cond x (cond y 0 2) 1 → (r ≡ 0 → ⊥) → none r ≡ cond x (cond y N (none 2)) (none 1)
 none-needed true true N r e u = absurd (u e)
 none-needed true false N r e u = ap none e
 none-needed false y N r e u = ap none e
 
 -- ---- not refused
-passed : (x y : Bool) → _≡_ {A = ℕ} (pick x (pick y 0 2) 1) 0 → (x ≡ true) × (y ≡ true)
+passed : (x y : Bool) → _≡_ {A = ℕ} (cond x (cond y 0 2) 1) 0 → (x ≡ true) × (y ≡ true)
 passed true true e = (refl, refl)
 passed true false e = absurd (omega (arith, e))
 passed false y e = absurd (omega (arith, e))

@@ -1,6 +1,6 @@
 -- How long the lent tables of a start must be: 01's refusals 1 and 2, asked before there are tables. Assumes nothing: these are definitions.
 use Prim.Native.Nat.{ℕ, _*_}
-use Rattle.halting.specs.Out.{pick}
+use mathlib.Core.Bool.{cond}
 use Rattle.model.specs.declared.Domain.{Domain}
 use Rattle.model.specs.Sizes.{boxOk, countsOk}
 use Rattle.tables.specs.declared.Sizes.{Sizes}
@@ -28,7 +28,7 @@ none r = needed r 0 0 0 0 0 0
 
 -- 1, 2, or 0 where neither holds whatever the tables
 abbrev pub refusedBy : Domain → ℕ → ℕ → ℕ
-refusedBy b n room = pick (boxOk b) (pick (countsOk room n) 0 2) 1
+refusedBy b n room = cond (boxOk b) (cond (countsOk room n) 0 2) 1
 
 abbrev pub neededFor : Domain → ℕ → ℕ → Needed
-neededFor b n room = pick (boxOk b) (pick (countsOk room n) (neededBy n (sizesFor b n room)) (none 2)) (none 1)
+neededFor b n room = cond (boxOk b) (cond (countsOk room n) (neededBy n (sizesFor b n room)) (none 2)) (none 1)

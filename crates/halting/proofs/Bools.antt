@@ -1,7 +1,6 @@
 -- Laws of tests: what `and` and `or` of two say of each, and what a branch on one gives. Assumes nothing.
 use mathlib.Core.Path.{_≡_, refl, sym, _∙_}
-use mathlib.Core.Bool.{Bool, true, false, _&&_, _||_, false≢true}
-use Rattle.halting.specs.Out.{pick}
+use mathlib.Core.Bool.{Bool, true, false, _&&_, _||_, false≢true, cond}
 
 -- a test does not pass and fail
 pub clash {ℓ} : {A : Type ℓ} → false ≡ true → A
@@ -46,21 +45,21 @@ or-false-r true b e = clash (sym e)
 or-false-r false b e = e
 
 -- ---- what `if t { x } else { y }` answers
-pub taken : {A : Type 0} (t : Bool) (x y r : A) → t ≡ true → r ≡ x → r ≡ pick t x y
+pub taken : {A : Type 0} (t : Bool) (x y r : A) → t ≡ true → r ≡ x → r ≡ cond t x y
 taken t x y r e f = rw e f
 
-pub left : {A : Type 0} (t : Bool) (x y r : A) → t ≡ false → r ≡ y → r ≡ pick t x y
+pub left : {A : Type 0} (t : Bool) (x y r : A) → t ≡ false → r ≡ y → r ≡ cond t x y
 left t x y r e f = rw e f
 
 -- the test itself, an `and`, and what both branches are
-pub itself : (a : Bool) → a ≡ pick a true false
+pub itself : (a : Bool) → a ≡ cond a true false
 itself true = refl
 itself false = refl
 
-pub and-pick : (a b : Bool) → (a && b) ≡ pick a b false
-and-pick true b = refl
-and-pick false b = refl
+pub and-cond : (a b : Bool) → (a && b) ≡ cond a b false
+and-cond true b = refl
+and-cond false b = refl
 
-pub either : {A : Type 0} (t : Bool) (x : A) → x ≡ pick t x x
+pub either : {A : Type 0} (t : Bool) (x : A) → x ≡ cond t x x
 either true x = refl
 either false x = refl

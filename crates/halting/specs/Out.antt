@@ -1,8 +1,6 @@
 -- An outcome is a number, 0 for done and the refusal's otherwise, beside the state. An act is a function to outcomes.
 use Prim.Native.Nat.{ℕ, zero, suc}
 use mathlib.Core.List.{List, [], _∷_}
--- `pick t a b`: what `if t { a } else { b }` gives
-pub use mathlib.Core.Bool.{cond as pick}
 
 pub record Out (S : Type 0) : Type 0 where
   pub num : ℕ

@@ -10,7 +10,7 @@ use native.Mathlib.Omega.{arith}
 use lib.Dec.{T, leb, eqb, eqb→eq, lit<}
 use lib.Ieee.Fits.{and-l, and-r}
 use lib.ListN.{length, getD, set, length-set}
-use lib.Seq.{getD-set-same, set-getD}
+use lib.Seq.{getD-set-same, set-getD, set-set}
 use borrow.Author.Tests.{lt-ltb, le-ltb, lt-leb, ne-eqb}
 use Rattle.listing_text.specs.declared.reader.Reader.{Reader}
 use Rattle.listing_text.specs.Numerals.{glyph, hexVal, spell, hex, decimal}
@@ -65,12 +65,6 @@ run-now at j k t = eqb→eq (planOf at) (65 + j) (and-l (eqb (planOf at) (65 + j
 pub run-next : (at j k : ℕ) → T (run at j (suc k)) → T (run (suc at) j k)
 run-next at j k t = and-r (eqb (planOf at) (65 + j)) (run (suc at) j k) t
 
-set-twice : (l : List ℕ) (i a b : ℕ) → set (set l i a) i b ≡ set l i b
-set-twice [] zero a b = refl
-set-twice [] (suc i) a b = refl
-set-twice (x ∷ l) zero a b = refl
-set-twice (x ∷ l) (suc i) a b = ap (λ (r : List ℕ). x ∷ r) (set-twice l i a b)
-
 -- all of a field's k places are open
 abbrev pub OpenTo : Reader → ℕ → Type 0
 OpenTo r end = (end ≤ 93) ⊎ (r .seen < r .n)
@@ -102,7 +96,7 @@ digits-fed (suc k) i r j v rest e a l J N t h o =
     (inr (subst Word (sym s) (shifted-lt x d D)))
     J (length-set (r .numbers) j (shifted x d) ∙ N)
     (run-next (r .at) j k t) (omega (arith, add-suc (r .at) k, suc-add (r .at) k)) op'
-    ∙ ap (λ (p : List ℕ). feedAll (put r (suc (r .at) + k) (r .n) p) rest) (set-twice (r .numbers) j (shifted x d) v)
+    ∙ ap (λ (p : List ℕ). feedAll (put r (suc (r .at) + k) (r .n) p) rest) (set-set (r .numbers) j (shifted x d) v)
     ∙ ap (λ (p : ℕ). feedAll (put r p (r .n) (set (r .numbers) j v)) rest) (suc-add (r .at) k ∙ sym (add-suc (r .at) k))
 
 -- sixteen digits: the number is in its place, whatever stood there

@@ -5,7 +5,7 @@ use mathlib.Core.Logic.{inl, inr}
 use Prim.Native.Nat.{ℕ, suc, _+_, _-_, _*_, _≤_, _<_, zero-le}
 use native.Mathlib.Nat.{le-of-eq, le-trans, mul-pos, zero-mul, lt-of-le-of-lt, mul-le-mul-right, mul-comm, sub-le}
 use native.Mathlib.Omega.{arith}
-use mathlib.Core.Bool.{Bool, true, false, not, _&&_}
+use mathlib.Core.Bool.{Bool, true, false, not, _&&_, cond}
 use lib.IntN.{ℤ, pos, negsuc}
 use lib.Dec.{T, leb, leb→le, nleb→lt}
 use lib.Ieee.{Float, nan, inf, fin, binary64, up, down, round, add, sub, neg, div, lt, le, isNan, ofBits, fits}
@@ -21,7 +21,6 @@ use Rattle.model.proofs.Quarters.{four, Facts, facts, half-plain}
 use Rattle.model.proofs.Kernels.{half-self, lo-last, cut, eight, eight-plain, fortyeight-plain, from-zero, hi-in, hi-one, hi-some, inside, lo-far, low, max-cut-le, nine-plain, one-plain, plain-self, zero-le-plain, zero-plain}
 use Rattle.model.proofs.Few.{few-inside}
 use mathlib.Core.List.{List, _++_}
-use Rattle.halting.specs.Out.{pick}
 use Rattle.model.specs.declared.Domain.{Domain}
 use Rattle.model.specs.declared.Particle.{Particle}
 use Rattle.model.specs.Check.{Fits}
@@ -34,8 +33,8 @@ use Rattle.order.proofs.Order as O
 -- by the lower and the upper end
 abbrev reachedBy : Float → ℕ → Float → Float → List ℕ
 reachedBy l n mn mx =
-    pick (lt mn fzero) (kernel l n fzero mx ++ kernel l n (add binary64 l mn) l)
-    (pick (lt l mx) (kernel l n fzero (sub binary64 mx l) ++ kernel l n mn l)
+    cond (lt mn fzero) (kernel l n fzero mx ++ kernel l n (add binary64 l mn) l)
+    (cond (lt l mx) (kernel l n fzero (sub binary64 mx l) ++ kernel l n mn l)
     (kernel l n mn mx))
 
 two-ones : (a b c d n : ℕ) → b ≤ 1 → d ≤ n → n ≤ suc c → b - a + (d - c) ≤ 2
@@ -260,7 +259,7 @@ module _ (l x : Float) (h9 : T (le nine l)) (h48 : T (le l fortyeight)) (px : T 
   plain-placed = go (lt mn fzero) refl (lt l mx) refl (le half x) refl
     where
       go : (b : Bool) → lt mn fzero ≡ b → (c : Bool) → lt l mx ≡ c → (d : Bool) → le half x ≡ d
-          → Placed 2 (cellsOf l) (pick b (kernel l (cellsOf l) fzero mx ++ kernel l (cellsOf l) (add binary64 l mn) l) (pick c (kernel l (cellsOf l) fzero (sub binary64 mx l) ++ kernel l (cellsOf l) mn l) (kernel l (cellsOf l) mn mx)))
+          → Placed 2 (cellsOf l) (cond b (kernel l (cellsOf l) fzero mx ++ kernel l (cellsOf l) (add binary64 l mn) l) (cond c (kernel l (cellsOf l) fzero (sub binary64 mx l) ++ kernel l (cellsOf l) mn l) (kernel l (cellsOf l) mn mx)))
       go true b c hc true d = absurd (not-below-zero mn (mn-plain (subst T (sym d) tt)) b)
       go true b c hc false d = below-edge d
       go false b true c true d = above-edge (subst T (sym d) tt) c
@@ -306,7 +305,7 @@ unfolding ofBits le
 half-up = tt
 
 -- ---- both directions: the lengths are 64-bit floats, as every owned float is
-direction-placed : (l x : Float) (p : Bool) → T (fits binary64 l) → within nine fortyeight l ≡ true → pick p (within fzero l x) (within half (sub binary64 l half) x) ≡ true → Placed 2 (cellsOf l) (reached l (cellsOf l) x)
+direction-placed : (l x : Float) (p : Bool) → T (fits binary64 l) → within nine fortyeight l ≡ true → cond p (within fzero l x) (within half (sub binary64 l half) x) ≡ true → Placed 2 (cellsOf l) (reached l (cellsOf l) x)
 direction-placed l x true f h k = within-placed l x (T-of _ (and-l (le nine l) _ h)) (T-of _ (and-r (le nine l) _ h)) (T-of _ (and-l (le fzero x) _ k)) (T-of _ (and-r (le fzero x) _ k))
 direction-placed l x false f h k =
     let h9 = T-of _ (and-l (le nine l) _ h) in

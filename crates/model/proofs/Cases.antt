@@ -1,18 +1,18 @@
 -- What each act's outcome is, by its tests, in 01's order: an act is done only where all of them pass. Assumes nothing.
 use Prim.Native.Nat.{ℕ, _≤_, _<_}
 use mathlib.Core.Path.{_≡_, refl}
-use mathlib.Core.Bool.{Bool, true, false}
+use mathlib.Core.Bool.{Bool, true, false, cond}
 use lib.Dec.{ltb, leb}
 use lib.ListN.{length, set}
 use borrow.Author.Tests.{ltb-true, ltb-false, leb-false}
-use Rattle.halting.specs.Out.{Out, out, pick}
+use Rattle.halting.specs.Out.{Out, out}
 use Rattle.model.specs.declared.Particle.{Particle}
 use Rattle.model.specs.declared.Place.{Place}
 use Rattle.model.specs.Events.{finePlace}
 use Rattle.model.specs.State.{State, home, listed, queue, has, withGrains}
 use Rattle.model.specs.Acts.{fineGrain, store, insert, inserted, enter, entered, leave, gone}
 
-pub on-test : {A : Type 0} (P : A → Type 0) (b : Bool) (x y : A) → (b ≡ true → P x) → (b ≡ false → P y) → P (pick b x y)
+pub on-test : {A : Type 0} (P : A → Type 0) (b : Bool) (x y : A) → (b ≡ true → P x) → (b ≡ false → P y) → P (cond b x y)
 on-test P true x y f g = f refl
 on-test P false x y f g = g refl
 
@@ -26,7 +26,7 @@ module _ (P : Out State → Type 0) (s : State) where
   pub insert-case : (c : ℕ) (e : Place) → P (out 5 s) → (s .room ≤ length (queue s c) → P (out 6 s)) → (finePlace e ≡ true → length (queue s c) < s .room → P (out 0 (inserted c e s))) → P (insert c e s)
   unfolding insert
   insert-case c e five six done =
-      on-test P (finePlace e) (pick (ltb (length (queue s c)) (s .room)) (out 0 (inserted c e s)) (out 6 s)) (out 5 s)
+      on-test P (finePlace e) (cond (ltb (length (queue s c)) (s .room)) (out 0 (inserted c e s)) (out 6 s)) (out 5 s)
       (λ f. on-test P (ltb (length (queue s c)) (s .room)) (out 0 (inserted c e s)) (out 6 s) (λ r. done f (ltb-true _ _ r)) (λ r. six (ltb-false _ _ r)))
       (λ f. five)
 
@@ -34,8 +34,8 @@ module _ (P : Out State → Type 0) (s : State) where
   pub enter-case : (g c : ℕ) → (has g (listed s c) ≡ true → P (out 8 s)) → P (out 7 s) → (has g (listed s c) ≡ false → length (listed s c) < 32 → length (home s g) < 8 → P (out 0 (entered g c s))) → P (enter g c s)
   unfolding enter
   enter-case g c eight seven done =
-      on-test P (has g (listed s c)) (out 8 s) (pick (ltb (length (listed s c)) 32) (pick (ltb (length (home s g)) 8) (out 0 (entered g c s)) (out 7 s)) (out 7 s)) eight
-      (λ a. on-test P (ltb (length (listed s c)) 32) (pick (ltb (length (home s g)) 8) (out 0 (entered g c s)) (out 7 s)) (out 7 s)
+      on-test P (has g (listed s c)) (out 8 s) (cond (ltb (length (listed s c)) 32) (cond (ltb (length (home s g)) 8) (out 0 (entered g c s)) (out 7 s)) (out 7 s)) eight
+      (λ a. on-test P (ltb (length (listed s c)) 32) (cond (ltb (length (home s g)) 8) (out 0 (entered g c s)) (out 7 s)) (out 7 s)
       (λ b. on-test P (ltb (length (home s g)) 8) (out 0 (entered g c s)) (out 7 s) (λ d. done a (ltb-true _ _ b) (ltb-true _ _ d)) (λ d. seven)) (λ b. seven))
 
   -- 9

@@ -3,13 +3,12 @@
 use Prim.Native.Nat.{ℕ, suc, _+_, _≤_, _<_}
 use mathlib.Core.Path.{_≡_, refl, sym, ap, subst, _∙_}
 use mathlib.Core.List.{List, [], _∷_}
-use mathlib.Core.Bool.{Bool, true, false, _||_}
+use mathlib.Core.Bool.{Bool, true, false, _||_, cond}
 use native.Mathlib.Omega.{arith}
 use lib.Dec.{T, eqb}
 use lib.ListN.{length}
 use lib.Ieee.{Float, le}
 use borrow.Author.Tests.{eq-eqb, eqb-true}
-use Rattle.halting.specs.Out.{pick}
 use Rattle.order.proofs.Order.{le-trans}
 use Rattle.model.specs.declared.Place.{Place}
 use Rattle.model.specs.declared.Event.{Event}
@@ -57,7 +56,7 @@ splits s r rate R j k B =
 -- how often x stands in a list
 unfoldable pub times : ℕ → List ℕ → ℕ
 times x [] = 0
-times x (y ∷ ys) = pick (eqb x y) 1 0 + times x ys
+times x (y ∷ ys) = cond (eqb x y) 1 0 + times x ys
 
 pub record AfterStep (u v : State) : Type 0 where
   -- "... the clock has not gone back"
@@ -81,16 +80,16 @@ unfolding times has
 not-in x [] h = refl
 not-in x (y ∷ ys) h = by (eqb x y) (has x ys) h (not-in x ys)
   where
-    by : (b t : Bool) → (b || t) ≡ false → (t ≡ false → times x ys ≡ 0) → pick b 1 0 + times x ys ≡ 0
+    by : (b t : Bool) → (b || t) ≡ false → (t ≡ false → times x ys ≡ 0) → cond b 1 0 + times x ys ≡ 0
     by true t z k = clash (sym z)
     by false t z k = let h = k z in omega (arith, h)
 
-one-time : (x : ℕ) (l : List ℕ) → Once l → times x l ≡ pick (has x l) 1 0
+one-time : (x : ℕ) (l : List ℕ) → Once l → times x l ≡ cond (has x l) 1 0
 unfolding times has
 one-time x [] o = refl
 one-time x (y ∷ ys) o = by (eqb x y) refl (one-time x ys (o .1))
   where
-    by : (b : Bool) → eqb x y ≡ b → times x ys ≡ pick (has x ys) 1 0 → pick b 1 0 + times x ys ≡ pick (b || has x ys) 1 0
+    by : (b : Bool) → eqb x y ≡ b → times x ys ≡ cond (has x ys) 1 0 → cond b 1 0 + times x ys ≡ cond (b || has x ys) 1 0
     by true e ih = let z : times x ys ≡ 0 = not-in x ys (rw (eqb-true x y e) (o .0)) in omega (arith, z)
     by false e ih = omega (arith, ih)
 
@@ -133,7 +132,7 @@ module _ (v : State) (st : Stands v) where
     listed-by = λ g G.
         let q = has-first (cells (v .box)) (home v g) (st .housed g G) (st .sound .lists .homes .each g G .below) in
         (q .0, q .1, sym (st .sound .lists .mutual′ g (q .0) G (q .1)) ∙ q .2);
-    each-other = λ g G c C. times-home g c G ∙ ap (λ b. pick b 1 0) (st .sound .lists .mutual′ g c G C) ∙ sym (one-time g (listed v c) (st .sound .lists .members .each c C .once));
+    each-other = λ g G c C. times-home g c G ∙ ap (λ b. cond b 1 0) (st .sound .lists .mutual′ g c G C) ∙ sym (one-time g (listed v c) (st .sound .lists .members .each c C .once));
     once = λ g G c C. rw (times-home g c G) (small (has c (home v g)));
     in-box = (λ g G. st .sound .lists .homes .each g G .below, λ c C. st .sound .lists .members .each c C .below);
     named = λ c C. all-to (Held (cells (v .box)) c (listed v c)) (λ e. (g : ℕ) → names (eventOf (e .kind) e) g ≡ true → has g (listed v c) ≡ true) (queue v c)
@@ -141,10 +140,10 @@ module _ (v : State) (st : Stands v) where
     facts = standing v st;
   }
     where
-      times-home : (g c : ℕ) → g < length (v .grains) → times c (home v g) ≡ pick (has c (home v g)) 1 0
+      times-home : (g c : ℕ) → g < length (v .grains) → times c (home v g) ≡ cond (has c (home v g)) 1 0
       times-home g c G = one-time c (home v g) (st .sound .lists .homes .each g G .once)
 
-      small : (b : Bool) → pick b 1 0 ≤ 1
+      small : (b : Bool) → cond b 1 0 ≤ 1
       small true = omega arith
       small false = omega arith
 

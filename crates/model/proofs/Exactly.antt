@@ -2,12 +2,12 @@
 use Prim.Native.Nat.{ℕ, _≤_, _<_}
 use mathlib.Core.Path.{_≡_, refl}
 use mathlib.Core.Logic.{_⊎_, inl, inr}
-use mathlib.Core.Bool.{Bool, true, false}
+use mathlib.Core.Bool.{Bool, true, false, cond}
 use native.Mathlib.Omega.{arith}
 use lib.Dec.{leb, ltb}
 use lib.ListN.{length, set}
 use borrow.Author.Tests.{leb-true, leb-false, ltb-true, ltb-false}
-use Rattle.halting.specs.Out.{out, pick}
+use Rattle.halting.specs.Out.{out}
 use Rattle.model.specs.declared.Particle.{Particle}
 use Rattle.model.specs.declared.Place.{Place}
 use Rattle.model.specs.Events.{finePlace}
@@ -24,7 +24,7 @@ pub store-gives-5 : (g : ℕ) (p : Particle) (s : State) → Exactly ((store g p
 unfolding store
 store-gives-5 g p s = by (fineGrain p) refl
   where
-    by : (x : Bool) → fineGrain p ≡ x → Exactly ((pick x (out 0 (withGrains (set (s .grains) g p) s)) (out 5 s)) .num ≡ 5) (fineGrain p ≡ false)
+    by : (x : Bool) → fineGrain p ≡ x → Exactly ((cond x (out 0 (withGrains (set (s .grains) g p) s)) (out 5 s)) .num ≡ 5) (fineGrain p ≡ false)
     by true e = record { only = λ h. absurd (omega (arith, h)); so = λ h. differ e h }
     by false e = record { only = λ h. e; so = λ h. refl }
 
@@ -33,7 +33,7 @@ module _ (c : ℕ) (e : Place) (s : State) where
   room = ltb (length (queue s c)) (s .room)
 
   abbrev tested : Bool → Bool → ℕ
-  tested x y = (pick x (pick y (out 0 (inserted c e s)) (out 6 s)) (out 5 s)) .num
+  tested x y = (cond x (cond y (out 0 (inserted c e s)) (out 6 s)) (out 5 s)) .num
 
   pub insert-gives-5 : Exactly ((insert c e s) .num ≡ 5) (finePlace e ≡ false)
   unfolding insert
@@ -61,7 +61,7 @@ module _ (g c : ℕ) (s : State) where
   grain = ltb (length (home s g)) 8
 
   abbrev entering : Bool → Bool → Bool → ℕ
-  entering x y z = (pick x (out 8 s) (pick y (pick z (out 0 (entered g c s)) (out 7 s)) (out 7 s))) .num
+  entering x y z = (cond x (out 8 s) (cond y (cond z (out 0 (entered g c s)) (out 7 s)) (out 7 s))) .num
 
   pub enter-gives-8 : Exactly ((enter g c s) .num ≡ 8) (has g (listed s c) ≡ true)
   unfolding enter
@@ -91,6 +91,6 @@ module _ (g c : ℕ) (s : State) where
   unfolding leave
   leave-gives-9 = by (leb (length (home s g)) 1) refl
     where
-      by : (x : Bool) → leb (length (home s g)) 1 ≡ x → Exactly ((pick x (out 9 s) (out 0 (gone g c s))) .num ≡ 9) (length (home s g) ≤ 1)
+      by : (x : Bool) → leb (length (home s g)) 1 ≡ x → Exactly ((cond x (out 9 s) (out 0 (gone g c s))) .num ≡ 9) (length (home s g) ≤ 1)
       by true e = record { only = λ h. leb-true _ _ e; so = λ h. refl }
       by false e = record { only = λ h. absurd (omega (arith, h)); so = λ h. let a : 1 < length (home s g) = leb-false _ _ e in absurd (omega (arith, a, h)) }

@@ -4,14 +4,14 @@ use Prim.Native.Nat.{ℕ, zero, suc, _≤_, _<_}
 use mathlib.Core.Path.{_≡_, refl, sym, ap, subst, _∙_}
 use mathlib.Core.Logic.{_⊎_, inl, inr}
 use mathlib.Core.List.{List, [], _∷_}
-use mathlib.Core.Bool.{Bool, true, false, _&&_}
+use mathlib.Core.Bool.{Bool, true, false, _&&_, cond}
 use native.Mathlib.Omega.{arith}
 use lib.Dec.{eqb, leb}
 use lib.ListN.{length}
 use lib.Ieee.{Float}
 use native.Mathlib.Decide.{ℕ-discrete}
 use borrow.Author.Tests.{le-leb, leb-true, eqb-true}
-use Rattle.halting.specs.Out.{Out, out, pick}
+use Rattle.halting.specs.Out.{Out, out}
 use Rattle.model.specs.declared.Domain.{Domain}
 use Rattle.model.specs.declared.Particle.{Particle}
 use Rattle.model.specs.declared.Event.{Event}
@@ -90,7 +90,7 @@ unfolding start
 accepted b room gs s = by (boxOk b) refl (countsOk room (length gs)) refl (eqb (firstBad b gs) (length gs)) refl
   where
     by : (x : Bool) → boxOk b ≡ x → (y : Bool) → countsOk room (length gs) ≡ y → (z : Bool) → eqb (firstBad b gs) (length gs) ≡ z
-        → pick x (pick y (pick z (startedAt (begin b room gs)) (begun.refused 4 (firstBad b gs))) (begun.refused 2 0)) (begun.refused 1 0) ≡ started s → Accepted b room gs s
+        → cond x (cond y (cond z (startedAt (begin b room gs)) (begun.refused 4 (firstBad b gs))) (begun.refused 2 0)) (begun.refused 1 0) ≡ started s → Accepted b room gs s
     by true p true q true r e = record { box = p; counts = q; good = eqb-true _ _ r; is = cc }
     by true p true q false r e = absurd (let z : _≡_ {A = ℕ} 0 1 = cc in omega arith)
     by true p false q z r e = absurd (let z : _≡_ {A = ℕ} 0 1 = cc in omega arith)

@@ -2,7 +2,7 @@
 use Prim.Native.Nat.{ℕ, zero, suc, _+_, _-_, _*_, _/_, _%_, _≤_, _<_}
 use mathlib.Core.Path.{_≡_, refl, sym, subst, _∙_}
 use mathlib.Core.List.{List}
-use mathlib.Core.Bool.{Bool, true, false, not}
+use mathlib.Core.Bool.{Bool, true, false, not, cond}
 use native.Mathlib.Omega.{arith}
 use native.Mathlib.Nat.{mod-lt, mul-le-mul-left, mul-suc, mul-comm, div-lt-iff-lt-mul, mul-pos}
 use lib.Dec.{T, eqb}
@@ -22,7 +22,6 @@ use Rattle.model.specs.declared.Event.{Event}
 use Rattle.model.specs.declared.Event.the-variants.{InterParticleCollision, MoveToNeighbour, MoveOutOfCell, WallReflection, Synchronisation}
 use Rattle.model.specs.declared.Plan.{Plan}
 use Rattle.model.specs.declared.Plan.the-variants.{Nothing, Refused, Due}
-use Rattle.halting.specs.Out.{pick}
 use Rattle.order.specs.Numbers.{fzero, half}
 use Rattle.myvec.specs.Vec.{vsub}
 use Rattle.order.proofs.Order.{lt→le}
@@ -79,7 +78,7 @@ Late contact.Never = Unit {0}
 Late (contact.After dt) = lt dt fzero ≡ false
 Late contact.Refused = Unit {0}
 
-on-hit : (b : Bool) (x y : Contact) → (b ≡ true → Late x) → (b ≡ false → Late y) → Late (pick b x y)
+on-hit : (b : Bool) (x y : Contact) → (b ≡ true → Late x) → (b ≡ false → Late y) → Late (cond b x y)
 on-hit true x y p q = p refl
 on-hit false x y p q = q refl
 

@@ -3,11 +3,10 @@
 use Prim.Native.Nat.{ℕ}
 use mathlib.Core.Path.{_≡_, refl}
 use mathlib.Core.List.{List}
-use mathlib.Core.Bool.{Bool, true, false}
+use mathlib.Core.Bool.{Bool, true, false, cond}
 use lib.Dec.{eqb}
 use lib.ListN.{length}
 use lib.Ieee.{Float}
-use Rattle.halting.specs.Out.{pick}
 use Rattle.order.specs.Numbers.{fzero}
 use Rattle.model.specs.declared.Domain.{Domain}
 use Rattle.model.specs.declared.Particle.{Particle}
@@ -47,7 +46,7 @@ unfolding runAll
 run-case P rate s two mark three ten go = by (sized s) (halt (s .mark)) refl (rated rate) refl (standing s) refl
   where
     by : (a h : Bool) → halt (s .mark) ≡ h → (r : Bool) → rated rate ≡ r → (t : Bool) → standing s ≡ t
-        → P (λ b. pick a (pick h (refusal (s .mark) s) (pick r (pick t (runFrom rate b 0 s) (refusal 10 s)) (refusal 3 s))) (refusal 2 s))
+        → P (λ b. cond a (cond h (refusal (s .mark) s) (cond r (cond t (runFrom rate b 0 s) (refusal 10 s)) (refusal 3 s))) (refusal 2 s))
     by true true h r e t f = mark h
     by true false h true e true f = go h e f
     by true false h true e false f = ten

@@ -29,7 +29,7 @@ use Rattle.model.specs.declared.Contact.{Contact}
 use Rattle.model.specs.declared.Contact.the-variants as contact
 use Rattle.model.specs.declared.Plan.{Plan}
 use Rattle.model.specs.declared.Plan.the-variants.{Nothing, Due, Refused}
-use Rattle.halting.specs.Out.{then, each, eachOf, pick}
+use Rattle.halting.specs.Out.{then, each, eachOf}
 use Rattle.halting.proofs.Laws.{then-sound, each-sound}
 use Rattle.model.specs.Grid.{cells}
 use Rattle.model.specs.Stepping.{newPos, due}
@@ -96,7 +96,7 @@ unfolding insertBy
 head-later e [] f = lt-asym (e .time) last (is-true _ (fine-top e f))
 head-later e (x ∷ xs) f = by (le (x .time) (e .time)) refl
   where
-    by : (b : Bool) → le (x .time) (e .time) ≡ b → lt (x .time) (headTime (pick b (x ∷ insertBy e xs) (e ∷ x ∷ xs))) ≡ false
+    by : (b : Bool) → le (x .time) (e .time) ≡ b → lt (x .time) (headTime (cond b (x ∷ insertBy e xs) (e ∷ x ∷ xs))) ≡ false
     by true q = lt-irrefl (x .time)
     by false q = fails (lt (x .time) (e .time)) (λ t. clash (sym q ∙ is-true _ (lt→le (x .time) (e .time) t)))
 

@@ -1,11 +1,11 @@
 -- 01, "Numbers given back": the acts, each done whole or refused by its number (5 to 9) with nothing of it done. Assumes nothing: these are definitions.
 use Prim.Native.Nat.{ℕ}
-use mathlib.Core.List.{List, [], _∷_, _++_}
-use mathlib.Core.Bool.{Bool, _&&_}
+use mathlib.Core.List.{_∷_, _++_}
+use mathlib.Core.Bool.{Bool, _&&_, cond}
 use lib.Dec.{ltb, leb}
 use lib.ListN.{length, getD, set, drop, replicate}
 use lib.Ieee.Scale.{finite}
-use Rattle.halting.specs.Out.{Out, out, pick}
+use Rattle.halting.specs.Out.{Out, out}
 use Rattle.model.specs.declared.Particle.{Particle}
 use Rattle.model.specs.declared.Place.{Place}
 use Rattle.model.specs.declared.Plan.{Plan}
@@ -19,7 +19,7 @@ unfoldable pub fineGrain : Particle → Bool
 fineGrain p = fineV (p .pos) && (fineV (p .vel) && (finite (p .time) && finite (p .val)))
 
 unfoldable pub store : ℕ → Particle → State → Out State
-store g p s = pick (fineGrain p) (out 0 (withGrains (set (s .grains) g p) s)) (out 5 s)
+store g p s = cond (fineGrain p) (out 0 (withGrains (set (s .grains) g p) s)) (out 5 s)
 
 -- an insertion with its heap update: 5 before 6
 abbrev pub queueRow : State → ℕ → Row Place
@@ -29,7 +29,7 @@ abbrev pub inserted : ℕ → Place → State → State
 inserted c e s = requeued c (row (insertBy e (queue s c)) (drop 1 ((queueRow s c) .spare))) s
 
 unfoldable pub insert : ℕ → Place → State → Out State
-insert c e s = pick (finePlace e) (pick (ltb (length (queue s c)) (s .room)) (out 0 (inserted c e s)) (out 6 s)) (out 5 s)
+insert c e s = cond (finePlace e) (cond (ltb (length (queue s c)) (s .room)) (out 0 (inserted c e s)) (out 6 s)) (out 5 s)
 
 -- what the scheduling of one kind found goes in
 abbrev pub put : ℕ → Plan → State → Out State
@@ -50,15 +50,15 @@ entered g c s = withLists (set (s .homes) g (pushed c (getD (s .homes) g none)))
 
 unfoldable pub enter : ℕ → ℕ → State → Out State
 enter g c s =
-    pick (has g (listed s c)) (out 8 s)
-    (pick (ltb (length (listed s c)) memberRoom) (pick (ltb (length (home s g)) homeRoom) (out 0 (entered g c s)) (out 7 s)) (out 7 s))
+    cond (has g (listed s c)) (out 8 s)
+    (cond (ltb (length (listed s c)) memberRoom) (cond (ltb (length (home s g)) homeRoom) (out 0 (entered g c s)) (out 7 s)) (out 7 s))
 
 -- leaving it: 9
 abbrev pub gone : ℕ → ℕ → State → State
 gone g c s = withLists (set (s .homes) g (pulled c (getD (s .homes) g none))) (set (s .members) c (pulled g (getD (s .members) c none))) s
 
 unfoldable pub leave : ℕ → ℕ → State → Out State
-leave g c s = pick (leb (length (home s g)) 1) (out 9 s) (out 0 (gone g c s))
+leave g c s = cond (leb (length (home s g)) 1) (out 9 s) (out 0 (gone g c s))
 
 -- the first event of all: the heap's root, its head, and the state without it, at its time
 abbrev pub first : State → ℕ

@@ -2,12 +2,11 @@
 -- Assumes nothing: these are definitions.
 use Prim.Native.Nat.{ℕ, _+_}
 use mathlib.Core.List.{List, [], _∷_}
-use mathlib.Core.Bool.{Bool, true, not, _&&_, _||_}
+use mathlib.Core.Bool.{Bool, true, not, _&&_, _||_, cond}
 use lib.Dec.{T, eqb, leb, ltb}
 use lib.ListN.{length, getD}
 use lib.Ieee.{Float, binary64, le, lt, fits}
 use lib.Ieee.Scale.{finite}
-use Rattle.halting.specs.Out.{pick}
 use Rattle.halting.specs.Every.{every, All}
 use Rattle.order.specs.Numbers.{fzero}
 use Rattle.scheduler.specs.declared.Scheduler.{Scheduler}
@@ -116,4 +115,4 @@ refusal r s = record { how = refused r; clock = fzero; count = 0; state = s }
 
 unfoldable pub runAll : Float → ℕ → State → Ran
 runAll rate b s =
-    pick (sized s) (pick (halt (s .mark)) (refusal (s .mark) s) (pick (rated rate) (pick (standing s) (runFrom rate b 0 s) (refusal 10 s)) (refusal 3 s))) (refusal 2 s)
+    cond (sized s) (cond (halt (s .mark)) (refusal (s .mark) s) (cond (rated rate) (cond (standing s) (runFrom rate b 0 s) (refusal 10 s)) (refusal 3 s))) (refusal 2 s)

@@ -1,9 +1,8 @@
 -- 01, "Collision": when two grains of a cell touch, and what inter_particle_collision.rs then stores of them, operation by operation.
 -- Assumes nothing: these are definitions.
 use Prim.Native.Nat.{ℕ}
-use mathlib.Core.Bool.{Bool, true, false}
+use mathlib.Core.Bool.{Bool, true, false, cond}
 use lib.Ieee.{Float, binary64, add, sub, mul, div, neg, lt, le}
-use Rattle.halting.specs.Out.{pick}
 use Rattle.order.specs.Numbers.{fzero, one, half, rest, eps}
 use Rattle.root.specs.declared.Root.{Root}
 use Rattle.root.specs.declared.Root.the-variants as root
@@ -43,7 +42,7 @@ abbrev pub afterRoot : Float → Float → Root → Contact
 afterRoot a b root.Refused = contact.Refused
 afterRoot a b (root.Value s) =
     let dt = mul binary64 (div binary64 one a) (sub binary64 (neg s) b) in
-    pick (lt dt fzero) contact.Never (contact.After dt)
+    cond (lt dt fzero) contact.Never (contact.After dt)
 
 abbrev pub timeOf : Float → Float → Float → Contact
 timeOf d a b = afterRoot a b (rootOf d)
@@ -54,7 +53,7 @@ tooSlow a = lt a eps
 
 abbrev pub tests : Float → Float → Float → Float → Contact → Contact
 tests a b c d k =
-    pick (tooSlow a) contact.Never (pick (le fzero b) contact.Never (pick (lt c fzero) contact.Never (pick (lt d fzero) contact.Never k)))
+    cond (tooSlow a) contact.Never (cond (le fzero b) contact.Never (cond (lt c fzero) contact.Never (cond (lt d fzero) contact.Never k)))
 
 abbrev pub contactBy : Float → Float → Float → Contact
 contactBy a b c = tests a b c (dOf a b c) (timeOf (dOf a b c) a b)

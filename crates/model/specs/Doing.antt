@@ -1,10 +1,11 @@
 -- 01, "Doing an event" and "Synchronisation": schedule_events, the five executions and a step, in the orders of event.rs. Assumes nothing: these are definitions.
 use Prim.Native.Nat.{ℕ, zero, suc}
+use mathlib.Core.Bool.{cond}
 use mathlib.Core.List.{List, [], _∷_}
 use lib.Dec.{eqb}
 use lib.ListN.{length}
 use lib.Ieee.{Float, binary64, add}
-use Rattle.halting.specs.Out.{Out, then, each, eachOf, pick}
+use Rattle.halting.specs.Out.{Out, then, each, eachOf}
 use Rattle.myvec.specs.declared.MyVec.{MyVec}
 use Rattle.model.specs.declared.Domain.{Domain}
 use Rattle.model.specs.declared.Particle.{Particle}
@@ -23,7 +24,7 @@ use Rattle.model.specs.Acts.{store, insert, put, cancel, enter, leave, h
 -- all but p, in order
 unfoldable pub others : ℕ → List ℕ → List ℕ
 others p [] = []
-others p (q ∷ qs) = pick (eqb p q) (others p qs) (q ∷ others p qs)
+others p (q ∷ qs) = cond (eqb p q) (others p qs) (q ∷ others p qs)
 
 -- a grain steps to the clock
 unfoldable pub stepGrain : ℕ → State → Out State

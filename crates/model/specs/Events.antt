@@ -1,12 +1,11 @@
 -- 01, "Doing an event": "a pending event carries its kind and the floats that its kind needs". An event, the place of the tables that holds one,
 -- and a cell's list of them in time order. Assumes nothing: these are definitions.
 use Prim.Native.Nat.{ℕ, zero, suc}
-use mathlib.Core.Bool.{Bool, true, false, _&&_, _||_}
+use mathlib.Core.Bool.{Bool, false, _&&_, _||_, cond}
 use mathlib.Core.List.{List, [], _∷_}
 use lib.Dec.{eqb}
 use lib.Ieee.{Float, le, lt}
 use lib.Ieee.Scale.{finite}
-use Rattle.halting.specs.Out.{pick}
 use Rattle.order.specs.Numbers.{fzero, last}
 use Rattle.myvec.specs.declared.MyVec.{MyVec}
 use Rattle.myvec.specs.Vec.{vec}
@@ -55,16 +54,16 @@ names Synchronisation g = false
 -- e goes after every event that is not later
 unfoldable pub insertBy : Place → List Place → List Place
 insertBy e [] = e ∷ []
-insertBy e (x ∷ xs) = pick (le (x .time) (e .time)) (x ∷ insertBy e xs) (e ∷ x ∷ xs)
+insertBy e (x ∷ xs) = cond (le (x .time) (e .time)) (x ∷ insertBy e xs) (e ∷ x ∷ xs)
 
 -- of some events those that do not name g, in order, and how many do
 unfoldable pub keepBy : ℕ → List Place → List Place
 keepBy g [] = []
-keepBy g (x ∷ xs) = pick (names (eventOf (x .kind) x) g) (keepBy g xs) (x ∷ keepBy g xs)
+keepBy g (x ∷ xs) = cond (names (eventOf (x .kind) x) g) (keepBy g xs) (x ∷ keepBy g xs)
 
 unfoldable pub goneBy : ℕ → List Place → ℕ
 goneBy g [] = 0
-goneBy g (x ∷ xs) = pick (names (eventOf (x .kind) x) g) (suc (goneBy g xs)) (goneBy g xs)
+goneBy g (x ∷ xs) = cond (names (eventOf (x .kind) x) g) (suc (goneBy g xs)) (goneBy g xs)
 
 -- an event in front of others: its time is f64::MAX where there is none
 abbrev pub headTime : List Place → Float

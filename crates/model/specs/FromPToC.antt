@@ -1,9 +1,9 @@
 -- 01, "Grid (cell.rs)", the cells that a grain goes to at start, in the order that `from_p_to_c` of particle.rs gives. Assumes nothing: these are definitions.
 use Prim.Native.Nat.{ℕ, zero, suc, _-_}
+use mathlib.Core.Bool.{cond}
 use mathlib.Core.List.{List, [], _∷_, _++_, map}
 use lib.IntN.{pos}
 use lib.Ieee.{Float, binary64, add, sub, div, lt, toUnsigned, ofInt}
-use Rattle.halting.specs.Out.{pick}
 use Rattle.order.specs.Numbers.{fzero, half, one, maxOf, minOf}
 use Rattle.myvec.specs.declared.MyVec.{MyVec}
 use Rattle.model.specs.declared.Domain.{Domain}
@@ -35,8 +35,8 @@ unfoldable pub reached : Float → ℕ → Float → List ℕ
 reached l n x =
     let min = sub binary64 x half in
     let max = add binary64 x half in
-    pick (lt min fzero) (kernel l n fzero max ++ kernel l n (add binary64 l min) l)
-    (pick (lt l max) (kernel l n fzero (sub binary64 max l) ++ kernel l n min l)
+    cond (lt min fzero) (kernel l n fzero max ++ kernel l n (add binary64 l min) l)
+    (cond (lt l max) (kernel l n fzero (sub binary64 max l) ++ kernel l n min l)
     (kernel l n min max))
 
 -- for each index in direction 1, each in direction 0

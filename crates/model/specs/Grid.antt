@@ -1,12 +1,11 @@
 -- 01, "Grid (cell.rs)": the cells of a box, their indices, bounds, neighbours and positions, all from the box and the cell's index.
 -- A direction is 0 or 1. Assumes nothing: these are definitions.
 use Prim.Native.Nat.{ℕ, zero, suc, _+_, _-_, _*_, _/_, _%_, max}
-use mathlib.Core.Bool.{Bool, true, false}
+use mathlib.Core.Bool.{Bool, true, false, cond}
 use lib.Dec.{eqb}
 use lib.IntN.{pos}
 use lib.Ieee.{Float, binary64, mul, div, ofInt, toUnsigned}
 use Rattle.order.specs.Numbers.{three}
-use Rattle.halting.specs.Out.{pick}
 use Rattle.myvec.specs.declared.MyVec.{MyVec}
 use Rattle.myvec.specs.Vec.{along}
 use Rattle.model.specs.declared.Domain.{Domain}
@@ -64,7 +63,7 @@ above d b c = shifted d b c 1
 
 -- position: NegativeEdge at 0, PositiveEdge at n - 1, else Centre
 unfoldable pub position : ℕ → Domain → ℕ → CellPosition
-position d b c = pick (eqb (index d b c) 0) NegativeEdge (pick (eqb (index d b c) (across d b - 1)) PositiveEdge Centre)
+position d b c = cond (eqb (index d b c) 0) NegativeEdge (cond (eqb (index d b c) (across d b - 1)) PositiveEdge Centre)
 
 abbrev pub isLow : CellPosition → Bool
 isLow NegativeEdge = true

@@ -1,7 +1,7 @@
 -- 01, "Periodic correction (port's rule)": it goes by the cell's position, and ignores the periodicity flag. Assumes nothing: these are definitions.
 use Prim.Native.Nat.{ℕ}
+use mathlib.Core.Bool.{cond}
 use lib.Ieee.{Float, binary64, add, sub, div, neg, lt}
-use Rattle.halting.specs.Out.{pick}
 use Rattle.order.specs.Numbers.{two}
 use Rattle.myvec.specs.declared.MyVec.{MyVec}
 use Rattle.myvec.specs.Vec.{vec}
@@ -12,7 +12,7 @@ use Rattle.model.specs.Grid.{lengthOf, position}
 
 -- below -length / 2 adds length, above length / 2 subtracts it
 abbrev pub nearer : Float → Float → Float
-nearer l x = pick (lt x (div binary64 (neg l) two)) (add binary64 x l) (pick (lt (div binary64 l two) x) (sub binary64 x l) x)
+nearer l x = cond (lt x (div binary64 (neg l) two)) (add binary64 x l) (cond (lt (div binary64 l two) x) (sub binary64 x l) x)
 
 -- Centre: unchanged; either edge: corrected
 abbrev pub corrected : Float → CellPosition → Float → Float

@@ -1,11 +1,10 @@
 -- 01, "Sizes": what is in range. A comparison with a NaN fails, so what is not a number is in no range. Assumes nothing: these are definitions.
-use Prim.Native.Nat.{ℕ, zero, suc}
+use Prim.Native.Nat.{ℕ, suc}
 use mathlib.Core.List.{List, [], _∷_}
-use mathlib.Core.Bool.{Bool, _&&_}
+use mathlib.Core.Bool.{Bool, _&&_, cond}
 use lib.Dec.{leb}
 use lib.ListN.{length}
 use lib.Ieee.{Float, binary64, sub, neg, le}
-use Rattle.halting.specs.Out.{pick}
 use Rattle.order.specs.Numbers.{fzero, half, one, nine, fortyeight, fastest, finest, coarsest}
 use Rattle.model.specs.declared.Domain.{Domain}
 use Rattle.model.specs.declared.Particle.{Particle}
@@ -35,7 +34,7 @@ rated rate = within finest coarsest rate
 
 -- start position: 0 to length where periodic, 0.5 to length - 0.5 where wall-bounded
 abbrev pub placeOk : ℕ → Domain → Float → Bool
-placeOk d b x = pick (periodic d b) (within fzero (lengthOf d b) x) (within half (sub binary64 (lengthOf d b) half) x)
+placeOk d b x = cond (periodic d b) (within fzero (lengthOf d b) x) (within half (sub binary64 (lengthOf d b) half) x)
 
 -- start velocity, each component: -1024 to 1024; value: 0 to 1
 abbrev pub grainOk : Domain → Particle → Bool
@@ -46,4 +45,4 @@ grainOk b p =
 -- the lowest grain whose numbers are out of range, and how many there are if none is
 unfoldable pub firstBad : Domain → List Particle → ℕ
 firstBad b [] = 0
-firstBad b (p ∷ ps) = pick (grainOk b p) (suc (firstBad b ps)) 0
+firstBad b (p ∷ ps) = cond (grainOk b p) (suc (firstBad b ps)) 0

@@ -1,10 +1,11 @@
 -- 01, start: checks 1, 2, 4 in that order; then grains go in by index, each to its cells in the order of from_p_to_c; then init_events.
 -- Assumes nothing: these are definitions.
 use Prim.Native.Nat.{ℕ, zero, suc}
+use mathlib.Core.Bool.{cond}
 use mathlib.Core.List.{List, [], _∷_}
 use lib.Dec.{eqb}
 use lib.ListN.{length, getD, replicate}
-use Rattle.halting.specs.Out.{Out, out, then, each, eachOf, pick}
+use Rattle.halting.specs.Out.{Out, out, then, each, eachOf}
 use Rattle.order.specs.Numbers.{fzero}
 use Rattle.scheduler.specs.Heap.{start as startHeap}
 use Rattle.model.specs.declared.Domain.{Domain}
@@ -64,4 +65,4 @@ startedAt o = started (marked (o .num) (o .st))
 
 unfoldable pub start : Domain → ℕ → List Particle → Begun
 start b room gs =
-    pick (boxOk b) (pick (countsOk room (length gs)) (pick (eqb (firstBad b gs) (length gs)) (startedAt (begin b room gs)) (refused 4 (firstBad b gs))) (refused 2 0)) (refused 1 0)
+    cond (boxOk b) (cond (countsOk room (length gs)) (cond (eqb (firstBad b gs) (length gs)) (startedAt (begin b room gs)) (refused 4 (firstBad b gs))) (refused 2 0)) (refused 1 0)

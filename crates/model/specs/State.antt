@@ -1,11 +1,10 @@
 -- The state that 01's rules work on: what the tables hold. Assumes nothing: these are definitions.
 use Prim.Native.Nat.{ℕ}
 use mathlib.Core.List.{List, [], _∷_, _++_}
-use mathlib.Core.Bool.{Bool, true, false, _||_}
+use mathlib.Core.Bool.{Bool, false, _||_, cond}
 use lib.Dec.{eqb}
 use lib.ListN.{getD, set, drop}
 use lib.Ieee.{Float}
-use Rattle.halting.specs.Out.{pick}
 use Rattle.order.specs.Numbers.{fzero}
 use Rattle.scheduler.specs.declared.Scheduler.{Scheduler}
 use Rattle.scheduler.specs.Heap.{updated}
@@ -91,7 +90,7 @@ has x (y ∷ ys) = eqb x y || has x ys
 
 unfoldable pub but : ℕ → List ℕ → List ℕ
 but x [] = []
-but x (y ∷ ys) = pick (eqb x y) ys (y ∷ but x ys)
+but x (y ∷ ys) = cond (eqb x y) ys (y ∷ but x ys)
 
 abbrev pub pushed : ℕ → Row ℕ → Row ℕ
 pushed x r = row (r .live ++ x ∷ []) (drop 1 (r .spare))

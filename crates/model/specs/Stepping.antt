@@ -1,13 +1,12 @@
 -- 01, "Stepping": where a grain is after dt, and a grain stepped to a time. Assumes nothing: these are definitions.
 use lib.Ieee.{Float, binary64, add, sub, lt}
-use Rattle.halting.specs.Out.{pick}
+use mathlib.Core.Bool.{cond}
 use Rattle.order.specs.Numbers.{fzero}
 use Rattle.myvec.specs.declared.MyVec.{MyVec}
 use Rattle.myvec.specs.Vec.{vec, vadd, vscale}
 use Rattle.model.specs.declared.Domain.{Domain}
 use Rattle.model.specs.declared.Particle.{Particle}
 use Rattle.model.specs.declared.Event.{Event}
-use Rattle.model.specs.declared.Pending.{Pending}
 use Rattle.model.specs.declared.Plan.{Plan}
 use Rattle.model.specs.declared.Plan.the-variants.{Due}
 use Rattle.model.specs.Grid.{lengthOf}
@@ -17,7 +16,7 @@ grainOf x v t w = record { pos = x; vel = v; time = t; val = w }
 
 -- below 0 adds length once, above length subtracts it once, walls or not
 abbrev pub wrapped : Float → Float → Float
-wrapped l x = pick (lt x fzero) (add binary64 x l) (pick (lt l x) (sub binary64 x l) x)
+wrapped l x = cond (lt x fzero) (add binary64 x l) (cond (lt l x) (sub binary64 x l) x)
 
 -- pos + vel * dt, wrapped in each direction
 unfoldable pub newPos : Domain → MyVec → MyVec → Float → MyVec

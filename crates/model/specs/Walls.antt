@@ -1,8 +1,7 @@
 -- 01, "Walls": when grain i, which is p, reflects in direction d in cell c, at the clock t. Assumes nothing: these are definitions.
 use Prim.Native.Nat.{ℕ}
-use mathlib.Core.Bool.{Bool, not, _||_}
+use mathlib.Core.Bool.{Bool, not, _||_, cond}
 use lib.Ieee.{Float, binary64, add, mul, div, neg}
-use Rattle.halting.specs.Out.{pick}
 use Rattle.order.specs.Numbers.{fzero, one, half}
 use Rattle.myvec.specs.Vec.{along, bent}
 use Rattle.model.specs.declared.Domain.{Domain}
@@ -16,7 +15,7 @@ use Rattle.model.specs.Moves.{still, sideLow, atEdge, gap, later}
 
 -- a wall fixes a value, 0 at the low one and 1 at the high one; the new value is half of wall plus old
 abbrev pub wallVal : ℕ → Particle → Float
-wallVal d p = mul binary64 half (add binary64 (pick (sideLow d p) fzero one) (p .val))
+wallVal d p = mul binary64 half (add binary64 (cond (sideLow d p) fzero one) (p .val))
 
 -- only wall-bounded directions, only the edge cell moved toward
 abbrev pub noWall : ℕ → Domain → ℕ → Particle → Bool
@@ -26,4 +25,4 @@ noWall d b c p = periodic d b || (still d p || not (atEdge d b c p))
 unfoldable pub wall : ℕ → Domain → Float → ℕ → ℕ → Particle → Plan
 wall d b t c i p =
     let dt = div binary64 (gap d b c half p) (along d (p .vel)) in
-    pick (noWall d b c p) Nothing (later t dt (WallReflection i (newPos b (p .pos) (p .vel) dt) (bent d (neg (along d (p .vel))) (p .vel)) (wallVal d p)))
+    cond (noWall d b c p) Nothing (later t dt (WallReflection i (newPos b (p .pos) (p .vel) dt) (bent d (neg (along d (p .vel))) (p .vel)) (wallVal d p)))

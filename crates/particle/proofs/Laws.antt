@@ -1,12 +1,11 @@
 -- A position after a step, and spans of cells: the list that they stand for is the list of the rule. Assumes nothing.
 use Prim.Native.Nat.{ℕ, _-_}
 use mathlib.Core.Path.{_≡_, refl, sym, ap, _∙_}
-use mathlib.Core.Bool.{Bool, true, false}
+use mathlib.Core.Bool.{Bool, true, false, cond}
 use mathlib.Core.List.{List, [], _∷_, _++_, map, append-nil, append-assoc}
 use native.Mathlib.Nat.{sub-self}
 use lib.Ieee.{Float, binary64, add, sub, lt}
 use Rattle.order.specs.Numbers.{fzero, half}
-use Rattle.halting.specs.Out.{pick}
 use Rattle.myvec.specs.declared.MyVec.{MyVec}
 use Rattle.myvec.specs.Vec.{vec, vadd, vscale}
 use Rattle.model.specs.declared.Domain.{Domain}
@@ -33,8 +32,8 @@ unfolding upFrom
 alone-list p = ap (λ (k : ℕ). between (p .lo) (p .hi) ++ upFrom (p .hi) k) (sub-self (p .hi)) ∙ append-nil (between (p .lo) (p .hi))
 
 by-tests : (b c : Bool) (p q r s t : Span)
-    → cellsIn (pick b (joined p q) (pick c (joined r s) (alone t)))
-    ≡ pick b (between (p .lo) (p .hi) ++ between (q .lo) (q .hi)) (pick c (between (r .lo) (r .hi) ++ between (s .lo) (s .hi)) (between (t .lo) (t .hi)))
+    → cellsIn (cond b (joined p q) (cond c (joined r s) (alone t)))
+    ≡ cond b (between (p .lo) (p .hi) ++ between (q .lo) (q .hi)) (cond c (between (r .lo) (r .hi) ++ between (s .lo) (s .hi)) (between (t .lo) (t .hi)))
 by-tests true c p q r s t = refl
 by-tests false true p q r s t = refl
 by-tests false false p q r s t = alone-list t

@@ -1,8 +1,8 @@
 -- The cells of one direction that a grain touches, as at most two spans. Assumes nothing: these are definitions.
 use Prim.Native.Nat.{ℕ}
+use mathlib.Core.Bool.{cond}
 use mathlib.Core.List.{List, _++_}
 use lib.Ieee.{Float, binary64, add, sub, lt}
-use Rattle.halting.specs.Out.{pick}
 use Rattle.order.specs.Numbers.{fzero, half}
 use Rattle.model.specs.FromPToC.{between, firstCell, endCell}
 use Rattle.particle.specs.declared.Span.{Span}
@@ -26,6 +26,6 @@ unfoldable pub spansOf : Float → ℕ → Float → Spans
 spansOf l n x =
     let min = sub binary64 x half in
     let max = add binary64 x half in
-    pick (lt min fzero) (joined (spanOf l n fzero max) (spanOf l n (add binary64 l min) l))
-    (pick (lt l max) (joined (spanOf l n fzero (sub binary64 max l)) (spanOf l n min l))
+    cond (lt min fzero) (joined (spanOf l n fzero max) (spanOf l n (add binary64 l min) l))
+    (cond (lt l max) (joined (spanOf l n fzero (sub binary64 max l)) (spanOf l n min l))
     (alone (spanOf l n min max)))

@@ -109,8 +109,3 @@ near-unique M p q f g =
 pub near-is : (M q : ℕ) → M < 4 ^ 53 → Floor M q → near M ≡ closer q M
 unfolding near
 near-is M q h f = ap (λ (x : ℕ). closer x M) (floor-unique M (root 53 M) q (root-floor 53 M h) f)
-
--- for 2^104 ≤ M, and a floor below 2^53 that is not all ones there at the end, the nearest has 53 digits: see Root
-pub floor-bounds : (M q : ℕ) → 2 ^ 104 ≤ M → M < 2 ^ 106 → Floor M q → (2 ^ 52 ≤ q) × (q < 2 ^ 53)
-floor-bounds M q a b f =
-    (le-of-lt-one (2 ^ 52) q (root-lt (2 ^ 52) (q + 1) (lt-of-le-of-lt a (f .high))), root-lt q (2 ^ 53) (lt-of-le-of-lt (f .low) b))

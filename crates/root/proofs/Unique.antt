@@ -1,7 +1,7 @@
 -- Only one value has the rule of the square root at a given value (`rooted-unique`). Assumes nothing.
 use mathlib.Core.Path.{_≡_, refl, sym, ap, _∙_, subst}
 use Prim.Native.Nat.{ℕ, zero, suc, _+_, _-_, _*_, _^_, _≤_, _<_}
-use native.Mathlib.Nat.{zero-lt-suc, mul-pos, mul-comm, mul-assoc, mul-left-comm, mul-right-comm, mul-one, eq-of-mul-eq-mul-right, pow-succ', mul-le-mul-left, mul-mul-mul-comm}
+use native.Mathlib.Nat.{zero-lt-suc, mul-pos, mul-comm, mul-assoc, mul-left-comm, mul-right-comm, mul-one, eq-of-mul-eq-mul-right, pow-succ', mul-le-mul-left, mul-mul-mul-comm, suc-inj}
 use native.Mathlib.Omega.{arith}
 use mathlib.Core.Bool.{Bool, false}
 use lib.IntN.{ℤ, pos, negsuc}
@@ -10,7 +10,7 @@ use lib.Pow.{pow-add, pow-pos}
 use lib.Ieee.{Float, nan, inf, fin, binary64, up, down, fits}
 use lib.Ieee.Fits.{down-pos}
 use lib.Ieee.Exact.{HasValue}
-use Rattle.order.proofs.Value.{no-sum, suc-same, value-unique}
+use Rattle.order.proofs.Value.{no-sum, value-unique}
 use Rattle.root.proofs.Isqrt.{near-unique}
 use Rattle.root.specs.Rule.{Nearest, Rooted}
 
@@ -49,7 +49,7 @@ module _ (M L : ℕ) (a : 2 ^ 104 ≤ M) (b : M < 2 ^ 106) (c : 2 ^ 104 ≤ L) (
   same-exp (negsuc k) (pos l) h = absurd (no-sum l k (sym (same-pow 0 (l + suc k) (sym (mul-one (M * 1)) ∙ h ∙ joined L l (suc k)) .1)))
   same-exp (negsuc k) (negsuc l) h =
       let r = same-pow (suc l) (suc k) (ap (λ (x : ℕ). x * (2 ^ suc l * 2 ^ suc l)) (sym (mul-one M)) ∙ h ∙ ap (λ (x : ℕ). x * (2 ^ suc k * 2 ^ suc k)) (mul-one L)) in
-      (r .0, ap negsuc (sym (suc-same l k (r .1))))
+      (r .0, ap negsuc (sym (suc-inj (r .1))))
 
 pub rooted-unique : (x y z : Float) → T (fits binary64 y) → T (fits binary64 z) → Rooted x y → Rooted x z → y ≡ z
 rooted-unique x y z F G p q =

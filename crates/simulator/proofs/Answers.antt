@@ -1,13 +1,12 @@
 -- What a start's answers say, over the definition that its contract cites. Assumes nothing.
 use Prim.Native.Nat.{ℕ, zero, suc, _*_, _≤_}
 use mathlib.Core.Path.{_≡_, refl, sym, ap, _∙_}
-use mathlib.Core.Bool.{Bool, true, false}
+use mathlib.Core.Bool.{Bool, true, false, cond}
 use mathlib.Core.List.{List}
 use native.Mathlib.Omega.{arith}
 use lib.Dec.{eqb}
 use lib.ListN.{length}
 use lib.Ieee.{Float}
-use Rattle.halting.specs.Out.{pick}
 use Rattle.model.specs.declared.Domain.{Domain}
 use Rattle.model.specs.declared.Started.{Started}
 use Rattle.model.specs.declared.Started.the-variants as answer
@@ -29,7 +28,7 @@ unfolding startAll
 every-start P b n room inputs t f g =
     go (boxOk b) (fits (sizesFor b n room) (length inputs) (length (t .lists)) (length (t .grains)) (length (t .queue)) (length (t .events)) (length (t .order)))
   where
-    go : (x y : Bool) → P (pick x (pick y (leaving (start b room (inputsOf n inputs)) t) (with (answer.Refused 2) t)) (with (answer.Refused 1) t))
+    go : (x y : Bool) → P (cond x (cond y (leaving (start b room (inputsOf n inputs)) t) (with (answer.Refused 2) t)) (with (answer.Refused 1) t))
     go true true = g (start b room (inputsOf n inputs)) refl
     go true false = f 2
     go false y = f 1
@@ -57,7 +56,7 @@ halted-mark : (m r : ℕ) → byMark m ≡ answer.Halted r → m ≡ r
 halted-mark zero r e = cc
 halted-mark (suc m) r e = cc
 
-by-number : (b : Bool) (r g k : ℕ) → pick b (answer.BadGrain g) (answer.Refused r) ≡ answer.Halted k → ⊥
+by-number : (b : Bool) (r g k : ℕ) → cond b (answer.BadGrain g) (answer.Refused r) ≡ answer.Halted k → ⊥
 by-number true r g k e = let z : _≡_ {A = ℕ} 0 1 = cc in omega arith
 by-number false r g k e = let z : _≡_ {A = ℕ} 0 1 = cc in omega arith
 

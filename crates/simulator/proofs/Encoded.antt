@@ -26,8 +26,9 @@ use Rattle.checks.specs.Check.{Sized, sized, listsNeed, grainsNeed, queueNeed, 
 use Rattle.checks.specs.Held.{Hold}
 use Rattle.checks.proofs.Holding.{side-rows}
 use Rattle.checks.proofs.Stages.{means-sized}
+use Rattle.tables.proofs.ListLaws.{lists-long as listed-long}
 use Rattle.tables.proofs.Runs.{rows-nums-wide, rows-reals-wide}
-use Rattle.checks.proofs.Back.{row-wide, read-back}
+use Rattle.checks.proofs.Back.{read-back}
 use Rattle.checks.proofs.Again.{legible-held}
 use Rattle.checks.specs.Encode.{over, flagged, listsHead, grainsHead, sizesIn, encoded}
 use Rattle.checks.proofs.Over.{over-again}
@@ -69,11 +70,7 @@ module _ (s : State) (K : Sound s) where
 
   -- how long each part is
   lists-many : length (flat rowNums (s .homes) ++ flat rowNums (s .members)) ≡ listsNeed (sizesIn s) - 6
-  lists-many =
-      let h : length (flat rowNums (s .homes)) ≡ length (s .grains) * 9 = length-flat rowNums 9 (s .homes) (row-wide 8 (s .homes) (H .listed .homes .wide)) ∙ ap (λ (n : ℕ). n * 9) (H .listed .homes .many) in
-      let m : length (flat rowNums (s .members)) ≡ s .sched .cells * 33 = length-flat rowNums 33 (s .members) (row-wide 32 (s .members) (H .listed .members .wide)) ∙ ap (λ (n : ℕ). n * 33) (H .listed .members .many) in
-      let a = length-append (flat rowNums (s .homes)) (flat rowNums (s .members)) in
-      omega (arith, a, h, m)
+  lists-many = let l = listed-long (H .listed) in omega (arith, l)
 
   grains-many : length (flat grainReals (s .grains)) ≡ grainsNeed (sizesIn s) - 3
   grains-many = let g : length (flat grainReals (s .grains)) ≡ length (s .grains) * 6 = row-long grainReals 6 (λ p. refl) (lib.Dec.lit< tt) (s .grains) refl in omega (arith, g)

@@ -1,7 +1,7 @@
 -- EACH NUMBER THAT CHANGES NOTHING IS GIVEN EXACTLY IF, over the lent tables: 2, 3 and 10 of a run, 1, 2 and 4 of a start. Assumes nothing.
 use Prim.Native.Nat.{ℕ, zero, suc, _≤_, _<_}
 use mathlib.Core.Path.{_≡_, refl, sym, ap, _∙_}
-use mathlib.Core.Bool.{Bool, true, false}
+use mathlib.Core.Bool.{Bool, true, false, cond}
 use mathlib.Core.List.{List}
 use native.Mathlib.Omega.{arith}
 use native.Mathlib.Decide.{ℕ-discrete}
@@ -9,7 +9,6 @@ use lib.Dec.{leb}
 use lib.ListN.{length}
 use lib.Ieee.{Float}
 use borrow.Author.Tests.{leb-true}
-use Rattle.halting.specs.Out.{pick}
 use Rattle.model.specs.declared.Domain.{Domain}
 use Rattle.model.specs.declared.Particle.{Particle}
 use Rattle.model.specs.Sizes.{boxOk, rated, firstBad}
@@ -42,7 +41,7 @@ module _ (rate : Float) (b : ℕ) (t : Tables) where
   unfolding checked
   check-case P two at three ten none = by (sized t) refl (halt m) refl (rated rate) refl (standing t) refl
     where
-      by : (x : Bool) → sized t ≡ x → (y : Bool) → halt m ≡ y → (z : Bool) → rated rate ≡ z → (w : Bool) → standing t ≡ w → P (pick x (pick y m (pick z (pick w 0 10) 3)) 2)
+      by : (x : Bool) → sized t ≡ x → (y : Bool) → halt m ≡ y → (z : Bool) → rated rate ≡ z → (w : Bool) → standing t ≡ w → P (cond x (cond y m (cond z (cond w 0 10) 3)) 2)
       by true e true f z g w h = at e f
       by true e false f true g true h = none
       by true e false f true g false h = ten e f g h

@@ -2,7 +2,7 @@
 -- reached tables. Assumes nothing.
 use Prim.Native.Nat.{ℕ, suc, _+_, _*_, _≤_, _<_}
 use mathlib.Core.Path.{_≡_, refl, sym, ap, _∙_, subst}
-use mathlib.Core.Bool.{Bool, true, false, _&&_}
+use mathlib.Core.Bool.{Bool, true, false, _&&_, cond}
 use mathlib.Core.List.{List, [], _∷_}
 use native.Mathlib.Omega.{arith}
 use native.Mathlib.Decide.{ℕ-discrete}
@@ -10,7 +10,6 @@ use lib.Dec.{eqb, leb}
 use lib.ListN.{length, length-replicate}
 use lib.Ieee.{Float}
 use borrow.Author.Tests.{leb-true}
-use Rattle.halting.specs.Out.{pick}
 use Rattle.order.specs.Numbers.{fzero}
 use Rattle.model.specs.declared.Domain.{Domain}
 use Rattle.model.specs.declared.Started.the-variants as answer
@@ -65,7 +64,7 @@ pub record Begins (b : Domain) (n room : ℕ) (inputs : List Float) (t u : Table
 not-taken : (r g : ℕ) → Taken (byNumber r g) → ⊥
 not-taken r g x = by (eqb r 4) x
   where
-    by : (c : Bool) → Taken (pick c (answer.BadGrain g) (answer.Refused r)) → ⊥
+    by : (c : Bool) → Taken (cond c (answer.BadGrain g) (answer.Refused r)) → ⊥
     by true x = x
     by false x = x
 
@@ -74,8 +73,8 @@ unfolding startAll fits
 begins b n room inputs t = by (boxOk b) (countsOk room n) (leb (n * 5) (length inputs)) (long (sizesFor b n room) (length (t .lists)) (length (t .grains)) (length (t .queue)) (length (t .events)) (length (t .order))) refl (start b room (inputsOf n inputs)) refl
   where
     by : (x y w v : Bool) → long (sizesFor b n room) (length (t .lists)) (length (t .grains)) (length (t .queue)) (length (t .events)) (length (t .order)) ≡ v → (o : Begun) → start b room (inputsOf n inputs) ≡ o
-        → Taken ((pick x (pick (y && (w && v)) (leaving o t) (with (answer.Refused 2) t)) (with (answer.Refused 1) t)) .answer)
-        → Begins b n room inputs t ((pick x (pick (y && (w && v)) (leaving o t) (with (answer.Refused 2) t)) (with (answer.Refused 1) t)) .after)
+        → Taken ((cond x (cond (y && (w && v)) (leaving o t) (with (answer.Refused 2) t)) (with (answer.Refused 1) t)) .answer)
+        → Begins b n room inputs t ((cond x (cond (y && (w && v)) (leaving o t) (with (answer.Refused 2) t)) (with (answer.Refused 1) t)) .after)
     by true true true true e (started s) f k = record { state = s; accepted = f; fits-in = e; is = refl }
     by true true true true e (begun.refused r g) f k = absurd (not-taken r g k)
     by true true true false e o f k = absurd k

@@ -2,10 +2,9 @@
 -- that hold the state which that leaves; on tables that hold a sound state it is that run. Only one outcome fits. Assumes nothing.
 use Prim.Native.Nat.{ℕ, zero, suc, _+_}
 use mathlib.Core.Path.{_≡_, refl, sym, ap, _∙_, subst}
-use mathlib.Core.Bool.{Bool, true, false, _&&_}
+use mathlib.Core.Bool.{Bool, true, false, _&&_, cond}
 use native.Mathlib.Omega.{arith}
 use lib.Ieee.{Float}
-use Rattle.halting.specs.Out.{pick}
 use Rattle.model.specs.Grid.{cells}
 use Rattle.model.specs.Sizes.{rated}
 use Rattle.model.specs.State.{State}
@@ -58,11 +57,11 @@ module _ (rate : Float) (b : ℕ) (t : Tables) (S : sized t ≡ true) (L : legib
   unfolding standing
   standing-same = ap (λ (x : Bool). x && model.standing d) L
 
-  check-is : checked rate t ≡ pick (halt (mark (t .lists))) (mark (t .lists)) (pick (rated rate) (pick (model.standing (decoded t)) 0 10) 3)
+  check-is : checked rate t ≡ cond (halt (mark (t .lists))) (mark (t .lists)) (cond (rated rate) (cond (model.standing (decoded t)) 0 10) 3)
   unfolding checked
   check-is = rw (S, standing-same)
 
-  run-in : runAll rate b (decoded t) ≡ pick (halt (mark (t .lists))) (refusal (mark (t .lists)) (decoded t)) (pick (rated rate) (pick (model.standing (decoded t)) (runFrom rate b 0 (decoded t)) (refusal 10 (decoded t))) (refusal 3 (decoded t)))
+  run-in : runAll rate b (decoded t) ≡ cond (halt (mark (t .lists))) (refusal (mark (t .lists)) (decoded t)) (cond (rated rate) (cond (model.standing (decoded t)) (runFrom rate b 0 (decoded t)) (refusal 10 (decoded t))) (refusal 3 (decoded t)))
   unfolding runAll
   run-in = rw (sized-model t S)
 
@@ -70,14 +69,14 @@ module _ (rate : Float) (b : ℕ) (t : Tables) (S : sized t ≡ true) (L : legib
   both-case : (P : RanTables → Ran → Type 0) → ((k : ℕ) → P (beside (refusal k (decoded t)) t) (refusal k (decoded t)))
       → (rated rate ≡ true → model.standing (decoded t) ≡ true → P (over-found (runFrom rate b 0 (decoded t)) t) (runFrom rate b 0 (decoded t))) → P (runTables rate b t) (runAll rate b (decoded t))
   unfolding runTables
-  both-case P stops does = subst (λ (k : ℕ). P (byCheck k rate b t) (runAll rate b d)) (sym check-is) (subst (P (byCheck (pick (halt m) m (pick (rated rate) (pick (model.standing d) 0 10) 3)) rate b t)) (sym run-in)
+  both-case P stops does = subst (λ (k : ℕ). P (byCheck k rate b t) (runAll rate b d)) (sym check-is) (subst (P (byCheck (cond (halt m) m (cond (rated rate) (cond (model.standing d) 0 10) 3)) rate b t)) (sym run-in)
       (by (halt m) refl (rated rate) refl (model.standing d) refl))
     where
       m : ℕ
       m = mark (t .lists)
 
       by : (h : Bool) → halt m ≡ h → (r : Bool) → rated rate ≡ r → (s : Bool) → model.standing (decoded t) ≡ s
-          → P (byCheck (pick h m (pick r (pick s 0 10) 3)) rate b t) (pick h (refusal m (decoded t)) (pick r (pick s (runFrom rate b 0 (decoded t)) (refusal 10 (decoded t))) (refusal 3 (decoded t))))
+          → P (byCheck (cond h m (cond r (cond s 0 10) 3)) rate b t) (cond h (refusal m (decoded t)) (cond r (cond s (runFrom rate b 0 (decoded t)) (refusal 10 (decoded t))) (refusal 3 (decoded t))))
       by true e r f s g = subst (λ (x : RanTables). P x (refusal m (decoded t))) (sym (by-halt m rate b t e)) (stops m)
       by false e true f true g = does f g
       by false e true f false g = stops 10
@@ -103,11 +102,11 @@ module _ (rate : Float) (b : ℕ) (t : Tables) (S : sized t ≡ true) (L : legib
 
 -- ---- 3. a run over tables that hold a sound state is the model's run of that state
 module _ (s : State) (t : Tables) (K : Sound s) (F : Long (sizesIn s) t) (rate : Float) (b : ℕ) where
-  checked-is : checked rate (encoded s t) ≡ pick (halt (s .mark)) (s .mark) (pick (rated rate) (pick (model.standing s) 0 10) 3)
+  checked-is : checked rate (encoded s t) ≡ cond (halt (s .mark)) (s .mark) (cond (rated rate) (cond (model.standing s) 0 10) 3)
   unfolding checked
   checked-is = rw (encoded-sized s K t F, encoded-mark s K t F, encoded-standing s K t F)
 
-  model-is : runAll rate b s ≡ pick (halt (s .mark)) (refusal (s .mark) s) (pick (rated rate) (pick (model.standing s) (runFrom rate b 0 s) (refusal 10 s)) (refusal 3 s))
+  model-is : runAll rate b s ≡ cond (halt (s .mark)) (refusal (s .mark) s) (cond (rated rate) (cond (model.standing s) (runFrom rate b 0 s) (refusal 10 s)) (refusal 3 s))
   unfolding runAll
   model-is = rw (sound-sized s K)
 
@@ -126,7 +125,7 @@ module _ (s : State) (t : Tables) (K : Sound s) (F : Long (sizesIn s) t) (rate :
   run-over = ap (λ (k : ℕ). byCheck k rate b (encoded s t)) checked-is ∙ by (halt (s .mark)) refl (rated rate) refl (model.standing s) refl ∙ sym (ap over-t model-is)
     where
       by : (h : Bool) → halt (s .mark) ≡ h → (r : Bool) → rated rate ≡ r → (m : Bool) → model.standing s ≡ m
-          → byCheck (pick h (s .mark) (pick r (pick m 0 10) 3)) rate b (encoded s t) ≡ over-t (pick h (refusal (s .mark) s) (pick r (pick m (runFrom rate b 0 s) (refusal 10 s)) (refusal 3 s)))
+          → byCheck (cond h (s .mark) (cond r (cond m 0 10) 3)) rate b (encoded s t) ≡ over-t (cond h (refusal (s .mark) s) (cond r (cond m (runFrom rate b 0 s) (refusal 10 s)) (refusal 3 s)))
       by true e r f m g = by-halt (s .mark) rate b (encoded s t) e
       by false e true f true g = goes f g
       by false e true f false g = refl

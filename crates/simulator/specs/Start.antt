@@ -2,11 +2,10 @@
 -- "start can halt too, and then gives that number". Assumes nothing: these are definitions.
 use Prim.Native.Nat.{ℕ, zero, suc, _*_}
 use mathlib.Core.List.{List}
-use mathlib.Core.Bool.{Bool, _&&_}
+use mathlib.Core.Bool.{Bool, _&&_, cond}
 use lib.Dec.{eqb, leb}
 use lib.ListN.{length}
 use lib.Ieee.{Float}
-use Rattle.halting.specs.Out.{pick}
 use Rattle.model.specs.declared.Domain.{Domain}
 use Rattle.model.specs.declared.Started.{Started}
 use Rattle.model.specs.declared.Started.the-variants as answer
@@ -39,7 +38,7 @@ byMark zero = answer.Accepted
 byMark (suc r) = answer.Halted (suc r)
 
 abbrev pub byNumber : ℕ → ℕ → Started
-byNumber r g = pick (eqb r 4) (answer.BadGrain g) (answer.Refused r)
+byNumber r g = cond (eqb r 4) (answer.BadGrain g) (answer.Refused r)
 
 abbrev pub leaving : Begun → Tables → StartedWith
 leaving (refused r g) t = record { number = r; answer = byNumber r g; after = t }
@@ -47,8 +46,8 @@ leaving (started s) t = record { number = s .mark; answer = byMark (s .mark); af
 
 unfoldable pub startAll : Domain → ℕ → ℕ → List Float → Tables → StartedWith
 startAll b n room inputs t =
-    pick (boxOk b)
-    (pick (fits (sizesFor b n room) (length inputs) (length (t .lists)) (length (t .grains)) (length (t .queue)) (length (t .events)) (length (t .order)))
+    cond (boxOk b)
+    (cond (fits (sizesFor b n room) (length inputs) (length (t .lists)) (length (t .grains)) (length (t .queue)) (length (t .events)) (length (t .order)))
     (leaving (start b room (inputsOf n inputs)) t)
     (with (answer.Refused 2) t))
     (with (answer.Refused 1) t)

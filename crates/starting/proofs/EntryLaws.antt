@@ -5,6 +5,7 @@ use mathlib.Core.List.{List, [], _∷_, _++_, map, append-assoc}
 use native.Mathlib.Numerals.{add-one}
 use native.Mathlib.Omega.{arith}
 use Rattle.halting.specs.Every.{All}
+use Rattle.halting.proofs.All.{all-after}
 use Rattle.halting.specs.Out.{Out, next, then, eachOf}
 use Rattle.model.specs.declared.Domain.{Domain}
 use Rattle.model.specs.Grid.{across}
@@ -69,10 +70,6 @@ rows-grid b is (j ∷ js) = ap (λ (l : List ℕ). rowCells (across 0 b) is j ++
 every-front : (P : ℕ → Type 0) (xs ys : List ℕ) → All P (xs ++ ys) → All P xs
 every-front P [] ys v = tt
 every-front P (x ∷ xs) ys v = (v .0, every-front P xs ys (v .1))
-
-every-back : (P : ℕ → Type 0) (xs ys : List ℕ) → All P (xs ++ ys) → All P ys
-every-back P [] ys v = v
-every-back P (x ∷ xs) ys v = every-back P xs ys (v .1)
 
 -- ---- an act at each of two lists one after the other
 module _ {S : Type 0} (act : ℕ → S → Out S) where
@@ -143,5 +140,5 @@ module _ {z : Sizes} {g : ℕ} where
     lists = L;
     ranged = E .ranged;
     known = E .known;
-    below = every-back (λ (c : ℕ). c < z .cells) xs ys (subst (All (λ (c : ℕ). c < z .cells)) e (E .below));
+    below = all-after (λ (c : ℕ). c < z .cells) xs ys (subst (All (λ (c : ℕ). c < z .cells)) e (E .below));
   }

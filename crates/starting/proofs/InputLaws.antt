@@ -1,14 +1,13 @@
 -- The start numbers: a grain read from them, and the lowest that is out of range. Assumes nothing.
 use Prim.Native.Nat.{ℕ, suc, _+_, _-_, _*_, _≤_, _<_}
 use mathlib.Core.Path.{_≡_, refl, sym, ap, _∙_, subst}
-use mathlib.Core.Bool.{Bool, true, false}
+use mathlib.Core.Bool.{Bool, true, false, cond}
 use mathlib.Core.List.{List, [], _∷_}
 use native.Mathlib.Omega.{arith}
 use lib.ListN.{length, getD}
 use lib.Ieee.{Float}
 use borrow.Rule.Slice.PartMut.{midOf}
 use Rattle.order.specs.Numbers.{fzero}
-use Rattle.halting.specs.Out.{pick}
 use Rattle.model.specs.declared.Domain.{Domain}
 use Rattle.model.specs.declared.Particle.{Particle}
 use Rattle.model.specs.Sizes.{grainOk, firstBad}
@@ -43,7 +42,7 @@ module _ (b : Domain) where
   most [] = omega arith
   most (p ∷ ps) = go (grainOk b p) (most ps)
     where
-      go : (t : Bool) → firstBad b ps ≤ length ps → pick t (suc (firstBad b ps)) 0 ≤ suc (length ps)
+      go : (t : Bool) → firstBad b ps ≤ length ps → cond t (suc (firstBad b ps)) 0 ≤ suc (length ps)
       go true h = omega (arith, h)
       go false h = omega arith
 

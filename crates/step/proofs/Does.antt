@@ -3,14 +3,14 @@ use Prim.Native.Nat.{ℕ, zero, suc, _+_, _-_, _≤_, _<_}
 use native.Mathlib.Nat.{eq-or-lt-of-le}
 use mathlib.Core.Logic.{inl, inr}
 use mathlib.Core.Path.{_≡_, refl, sym, ap, subst}
-use mathlib.Core.Bool.{Bool, true, false}
+use mathlib.Core.Bool.{Bool, true, false, cond}
 use mathlib.Core.List.{List, [], _∷_}
 use native.Mathlib.Omega.{arith}
 use lib.Dec.{eqb}
 use lib.ListN.{length, getD}
 use borrow.Author.Tests.{ne-eqb}
 use borrow.Rule.Slice.PartMut.{midOf}
-use Rattle.halting.specs.Out.{Out, out, pick, next, then, each, eachOf}
+use Rattle.halting.specs.Out.{Out, out, next, then, each, eachOf}
 use Rattle.halting.specs.Every.{All}
 use Rattle.model.specs.State.{State}
 use Rattle.model.specs.Doing.{others}
@@ -77,7 +77,7 @@ but-one b act (q ∷ l) s = by (eqb b q) (λ u. but-one b act l u)
     rest o zero f = f (o .st)
     rest o (suc n) f = refl
 
-    by : (t : Bool) → ((u : State) → eachOf (unless b act) l u ≡ eachOf act (others b l) u) → then (pick t (out 0 s) (act q s)) (eachOf (unless b act) l) ≡ eachOf act (pick t (others b l) (q ∷ others b l)) s
+    by : (t : Bool) → ((u : State) → eachOf (unless b act) l u ≡ eachOf act (others b l) u) → then (cond t (out 0 s) (act q s)) (eachOf (unless b act) l) ≡ eachOf act (cond t (others b l) (q ∷ others b l)) s
     by true f = f s
     by false f = rest (act q s) ((act q s) .num) f
 

@@ -1,12 +1,12 @@
 -- What each scheduling does to the tables, from what its calls do. Assumes nothing.
 use Prim.Native.Nat.{ℕ, zero, suc, _-_, _<_}
 use mathlib.Core.Path.{_≡_, sym, ap, subst, _∙_}
-use mathlib.Core.Bool.{Bool}
+use mathlib.Core.Bool.{Bool, cond}
 use mathlib.Core.List.{List}
 use lib.Ieee.{Float}
 use lib.ListN.{getD}
 use borrow.Author.Tests.{eq-eqb, ne-eqb}
-use Rattle.halting.specs.Out.{Out, out, pick, next, then, each, eachOf}
+use Rattle.halting.specs.Out.{Out, out, next, then, each, eachOf}
 use Rattle.cell.specs.declared.Cell.{Cell}
 use Rattle.cell.specs.Cell.{cellOf}
 use Rattle.cell.proofs.Laws.{index-cell}
@@ -27,10 +27,10 @@ use Rattle.step.proofs.Leaves.{put-does}
 
 -- ---- the one left out, and the others
 pub unless-out : {P : State → Type 0} (b : ℕ) (act : ℕ → State → Out State) (q : ℕ) → b ≡ q → Does P P 0 (unless b act q)
-unless-out b act q e = does-as (λ s p. sym (ap (λ (t : Bool). pick t (out 0 s) (act q s)) (eq-eqb b q e))) does-none
+unless-out b act q e = does-as (λ s p. sym (ap (λ (t : Bool). cond t (out 0 s) (act q s)) (eq-eqb b q e))) does-none
 
 pub unless-in : {P Q : State → Type 0} {r : ℕ} (b : ℕ) (act : ℕ → State → Out State) (q : ℕ) → (b ≡ q → ⊥) → Does P Q r (act q) → Does P Q r (unless b act q)
-unless-in b act q n d = does-as (λ s p. sym (ap (λ (t : Bool). pick t (out 0 s) (act q s)) (ne-eqb b q n))) d
+unless-in b act q n d = does-as (λ s p. sym (ap (λ (t : Bool). cond t (out 0 s) (act q s)) (ne-eqb b q n))) d
 
 -- what a grain's reader gave
 abbrev Read : List Float → ℕ → Particle → Type 0

@@ -1,15 +1,11 @@
 -- What a step finds first in tables that hold a state in which 01's standing facts hold, and what it does. Assumes nothing.
-use Prim.Native.Nat.{ℕ, zero, suc, _+_, _*_, _<_}
-use mathlib.Core.Path.{_≡_, refl, sym, ap, subst, _∙_}
-use mathlib.Core.Bool.{Bool, true, false}
+use Prim.Native.Nat.{ℕ, _+_, _*_, _<_}
+use mathlib.Core.Path.{_≡_, sym, ap, subst, _∙_}
+use mathlib.Core.Bool.{Bool, true}
 use mathlib.Core.List.{List}
 use native.Mathlib.Omega.{arith}
-use lib.Dec.{eqb}
 use lib.Ieee.{Float}
-use borrow.Author.Tests.{ne-eqb}
-use native.Mathlib.Nat.{suc-ne-zero}
 use lib.ListN.{length, getD, List·getD-append}
-use Rattle.halting.specs.Out.{pick}
 use Rattle.cell.specs.declared.Grid.{Grid}
 use Rattle.model.specs.declared.Domain.{Domain}
 use Rattle.model.specs.declared.Place.{Place}
@@ -17,21 +13,20 @@ use Rattle.model.specs.declared.Event.{Event}
 use Rattle.model.specs.declared.Event.the-variants.{InterParticleCollision, MoveToNeighbour, MoveOutOfCell, WallReflection, Synchronisation}
 use Rattle.model.specs.Grid.{cells}
 use Rattle.model.specs.Events.{eventOf}
-use Rattle.model.specs.State.{State, listed, queue, has, requeued, marked}
+use Rattle.model.specs.State.{State, listed, queue, has, requeued}
 use Rattle.model.specs.Acts.{first, head, taken}
-use Rattle.model.specs.Doing.{execute, headEvent, event, step, finish, wasSync, synchronised, done}
+use Rattle.model.specs.Doing.{execute, headEvent, event, step}
 use Rattle.model.specs.Sound.{Named, Stands}
 use Rattle.model.proofs.Keeps.{head-held, first-in}
 use Rattle.model.proofs.Plans.{cells-some}
 use Rattle.model.proofs.Steps.{first-some}
 use Rattle.tables.specs.declared.Sizes.{Sizes}
 use Rattle.tables.specs.Holds.{Queued, Holds}
-use Rattle.acts.specs.Tell.{At, Pair}
+use Rattle.acts.specs.Tell.{Pair}
 use Rattle.acts.proofs.Loaded.{heaped-long}
 use Rattle.acts.proofs.Queues.{count-at}
 use Rattle.acts.proofs.Frame.{taken-all}
-use Rattle.step.specs.declared.World.{World}
-use Rattle.step.specs.World.{Held, Says, Does, Apt, isSync, worldAt, howOf}
+use Rattle.step.specs.World.{Held, Says, Does, Apt, isSync, worldAt}
 
 -- ---- the tables
 module _ {z : Sizes} {l : List ℕ} {g : List Float} {q : List ℕ} {e : List Float} {o : List ℕ} (s : State) (h : Holds z l g q e o s) where
@@ -100,54 +95,3 @@ module _ {z : Sizes} {l : List ℕ} {g : List Float} {q q₁ : List ℕ} {e e₁
 
   pub step-sync : {c : Bool} → c ≡ isSync ev → c ≡ isSync (headEvent s)
   step-sync c = c ∙ ap isSync event-is
-
--- ---- the definition's step, from what a step answered
-was-sync : (ev : Event) → wasSync ev ≡ pick (isSync ev) synchronised done
-was-sync (InterParticleCollision p q x y v w k) = refl
-was-sync (MoveToNeighbour p x k) = refl
-was-sync (MoveOutOfCell p x k) = refl
-was-sync (WallReflection p x v w) = refl
-was-sync Synchronisation = refl
-
--- the mark is not in these tables
-marked-held : {z : Sizes} {w : World} {l : List ℕ} {g : List Float} {q : List ℕ} {e : List Float} {o : List ℕ} (r : ℕ) (s : State) → Held z w l g q e o s → Held z w l g q e o (marked r s)
-marked-held r s h = record {
-  listed = h .listed;
-  seen = record {
-    at = h .seen .at;
-    grained = h .seen .grained;
-    queued = let k = h .seen .queued in record { ranged = k .ranged; tables = k .tables; heap = k .heap; room-is = k .room-is };
-  };
-}
-
-module _ (rate : Float) (s : State) {r : ℕ} (e : r ≡ (event rate s) .num) where
-  pub how-is : (b : Bool) → b ≡ isSync (headEvent s) → (step rate s) .how ≡ howOf r b
-  unfolding step
-  how-is b i = by ((event rate s) .num) ∙ ap (λ (k : ℕ). howOf k b) (sym e)
-    where
-      by : (k : ℕ) → (finish k ((event rate s) .st) (headEvent s)) .how ≡ howOf k b
-      by zero = was-sync (headEvent s) ∙ ap (λ (c : Bool). pick c synchronised done) (sym i)
-      by (suc k) = refl
-
-  -- the state is that of the acts, its mark the number of a halt
-  pub state-is : (step rate s) .state ≡ pick (eqb r 0) ((event rate s) .st) (marked r ((event rate s) .st))
-  unfolding step
-  state-is = by ((event rate s) .num) ∙ ap (λ (k : ℕ). pick (eqb k 0) ((event rate s) .st) (marked k ((event rate s) .st))) (sym e)
-    where
-      by : (k : ℕ) → (finish k ((event rate s) .st) (headEvent s)) .state ≡ pick (eqb k 0) ((event rate s) .st) (marked k ((event rate s) .st))
-      by zero = refl
-      by (suc k) = sym (ap (λ (c : Bool). pick c ((event rate s) .st) (marked (suc k) ((event rate s) .st))) (ne-eqb (suc k) 0 (suc-ne-zero k)))
-
-  pub state-held : {z : Sizes} {w : World} {l : List ℕ} {g : List Float} {q : List ℕ} {h : List Float} {o : List ℕ} → Held z w l g q h o ((event rate s) .st) → Held z w l g q h o ((step rate s) .state)
-  state-held {z} {w} {l} {g} {q} {h} {o} k = subst (Held z w l g q h o) (sym state-is) (by (eqb r 0))
-    where
-      by : (c : Bool) → Held z w l g q h o (pick c ((event rate s) .st) (marked r ((event rate s) .st)))
-      by true = k
-      by false = marked-held r ((event rate s) .st) k
-
--- what is held at some clock is held
-pub held-holds : {z : Sizes} {w : World} {l : List ℕ} {g : List Float} {q : List ℕ} {e : List Float} {o : List ℕ} {s : State} → Held z w l g q e o s → Holds z l g q e o s
-held-holds h = record { listed = h .listed; grained = h .seen .grained; queued = h .seen .queued }
-
-pub holds-held : {z : Sizes} {w : World} {l : List ℕ} {g : List Float} {q : List ℕ} {e : List Float} {o : List ℕ} {s : State} → Holds z l g q e o s → At (w .domain) (w .clock) s → Held z w l g q e o s
-holds-held h a = record { listed = h .listed; seen = record { at = a; grained = h .grained; queued = h .queued } }

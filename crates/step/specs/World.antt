@@ -1,11 +1,11 @@
 -- What it means that the tables hold a state of this box at this clock, and what an act over them answers and leaves. Assumes nothing: these are definitions.
-use Prim.Native.Nat.{ℕ, zero, suc, _<_}
+use Prim.Native.Nat.{ℕ, _<_}
 use mathlib.Core.Path.{_≡_}
-use mathlib.Core.Bool.{Bool, true, false}
+use mathlib.Core.Bool.{Bool, true, false, cond}
 use mathlib.Core.List.{List}
 use lib.Dec.{eqb}
 use lib.Ieee.{Float}
-use Rattle.halting.specs.Out.{Out, out, pick}
+use Rattle.halting.specs.Out.{Out, out}
 use Rattle.cell.specs.declared.Cell.{Cell}
 use Rattle.cell.specs.declared.Grid.{Grid}
 use Rattle.model.specs.declared.Domain.{Domain}
@@ -17,7 +17,7 @@ use Rattle.model.specs.Grid.{cells}
 use Rattle.model.specs.Moves.{toNeighbour, outOfCell}
 use Rattle.model.specs.Walls.{wall}
 use Rattle.model.specs.State.{State, listed}
-use Rattle.model.specs.Doing.{Finder, Stepped, done, synchronised, halted}
+use Rattle.model.specs.Doing.{Finder}
 use Rattle.tables.specs.declared.Sizes.{Sizes}
 use Rattle.tables.specs.Holds.{Grained, Listed, Queued}
 use Rattle.step.specs.declared.World.{World}
@@ -64,7 +64,7 @@ pub record Does (P Q : State → Type 0) (r : ℕ) (act : State → Out State) :
 
 -- nothing where q is the one left out
 abbrev pub unless : ℕ → (ℕ → State → Out State) → ℕ → State → Out State
-unless p act q s = pick (eqb p q) (out 0 s) (act q s)
+unless p act q s = cond (eqb p q) (out 0 s) (act q s)
 
 -- the rule of each kind of event at a cell's bounds
 abbrev pub finder : Bound → Finder
@@ -89,8 +89,3 @@ isSync Synchronisation = true
 
 abbrev pub worldAt : Domain → Grid → Float → World
 worldAt b g t = record { domain = b; grid = g; clock = t }
-
--- how a step of the definition ended, from the number and the flag that a step answers
-abbrev pub howOf : ℕ → Bool → Stepped
-howOf zero b = pick b synchronised done
-howOf (suc r) b = halted (suc r)

@@ -3,7 +3,7 @@ use mathlib.Core.Path.{_≡_, sym, ap, _∙_, subst}
 use Prim.Native.Nat.{ℕ, suc, _+_, _-_, _*_, _≤_, _<_}
 use native.Mathlib.Omega.{arith}
 use mathlib.Core.List.{List, [], _∷_, _++_, append-assoc, append-nil}
-use mathlib.Core.Bool.{Bool, true, false}
+use mathlib.Core.Bool.{Bool, true, false, cond}
 use lib.Dec.{eqb}
 use lib.ListN.{length, getD, set, take, drop, length-append, length-set}
 use lib.Seq.{getD-take, getD-drop}
@@ -12,7 +12,6 @@ use Rattle.halting.specs.Every.{All}
 use Rattle.chunks.specs.Flat.{flat}
 use Rattle.halting.proofs.All.{all-at, all-set, all-mid, all-to}
 use Rattle.chunks.proofs.Laws.{length-flat, length-front, flat-cut, flat-set, mid-at, put-at}
-use Rattle.halting.specs.Out.{pick}
 use Rattle.model.specs.Sizes.{memberRoom, homeRoom}
 use Rattle.model.specs.State.{Row, none, liveAt, has, but, pushed, pulled}
 use Rattle.model.proofs.Lists.{length-but}
@@ -102,7 +101,7 @@ unfolding but
 all-but P x [] v = tt
 all-but P x (y ∷ l) v = go (eqb x y) (all-but P x l (v .1))
   where
-    go : (b : Bool) → All P (but x l) → All P (pick b l (y ∷ but x l))
+    go : (b : Bool) → All P (but x l) → All P (cond b l (y ∷ but x l))
     go true w = v .1
     go false w = (v .0, w)
 
@@ -210,10 +209,3 @@ module _ {z : Sizes} {l : List ℕ} {hs ms : List (Row ℕ)} (S : Listed z l hs 
   member-live c h =
       family-live (S .members) (flat rowNums hs) [] c (memberFrom z c) (memberFrom z c + 1 + getD l (memberFrom z c) 0 - (memberFrom z c + 1)) h at-members (let k = homes-long in omega arith)
       (let n = member-count c h in omega arith)
-
-  -- the numbers in use name cells and grains
-  pub home-below : (g : ℕ) → g < z .grains → All (λ (c : ℕ). c < z .cells) (liveAt hs g)
-  home-below g h = row-below (S .homes) g h
-
-  pub member-below : (c : ℕ) → c < z .cells → All (λ (g : ℕ). g < z .grains) (liveAt ms c)
-  member-below c h = row-below (S .members) c h

@@ -8,7 +8,7 @@ use lib.ListN.{length, replicate, getD, set, length-append, length-replicate, re
 use lib.Seq.{set-at, getD-at}
 use lib.Ieee.{Float, le, lt}
 use lib.Ieee.Scale.{finite}
-use mathlib.Core.Bool.{Bool, true, false, _&&_, and-assoc}
+use mathlib.Core.Bool.{Bool, true, false, _&&_, and-assoc, cond}
 use lib.Dec.{eqb, ltb, lit<}
 use borrow.Author.Tests.{eq-eqb, ne-eqb, le-ltb}
 use borrow.Rule.Slice.PartMut.{midOf, putMid}
@@ -18,7 +18,6 @@ use Rattle.chunks.specs.Flat.{flat}
 use Rattle.chunks.proofs.Laws.{mid-tail, put-tail, row-long, row-get, row-put}
 use Rattle.order.specs.Numbers.{last}
 use Rattle.model.specs.declared.Place.{Place}
-use Rattle.halting.specs.Out.{pick}
 use Rattle.model.specs.Events.{insertBy, zeroP, keepBy, goneBy, names, eventOf, fineV, finePlace}
 use Rattle.model.specs.State.{Row}
 use Rattle.model.specs.Sound.{Held, Queue}
@@ -425,7 +424,7 @@ unfolding keepBy
 keep-append g [] b = refl
 keep-append g (x ∷ a) b = go (names (eventOf (x .kind) x) g) (keep-append g a b)
   where
-    go : (t : Bool) → keepBy g (a ++ b) ≡ keepBy g a ++ keepBy g b → pick t (keepBy g (a ++ b)) (x ∷ keepBy g (a ++ b)) ≡ pick t (keepBy g a) (x ∷ keepBy g a) ++ keepBy g b
+    go : (t : Bool) → keepBy g (a ++ b) ≡ keepBy g a ++ keepBy g b → cond t (keepBy g (a ++ b)) (x ∷ keepBy g (a ++ b)) ≡ cond t (keepBy g a) (x ∷ keepBy g a) ++ keepBy g b
     go true e = e
     go false e = ap (λ (l : List Place). x ∷ l) e
 

@@ -84,12 +84,6 @@ pub record Holds (z : Sizes) (lists : List ℕ) (grains : List Float) (queue : L
 abbrev pub Ready : Sizes → List ℕ → List Float → List ℕ → Type 0
 Ready z queue events order = (s : State) × Queued z queue events order s
 
-abbrev pub AllReady : Sizes → List ℕ → List Float → List ℕ → List Float → List ℕ → Type 0
-AllReady z lists grains queue events order = (s : State) × Holds z lists grains queue events order s
-
 -- what an act answers and leaves is the outcome o of the model's
 abbrev pub Told : Sizes → List ℕ → List Float → List ℕ → ℕ → Out State → Type 0
 Told z queue events order r o = (r ≡ o .num) × Queued z queue events order (o .st)
-
-abbrev pub AllTold : Sizes → List ℕ → List Float → List ℕ → List Float → List ℕ → ℕ → Out State → Type 0
-AllTold z lists grains queue events order r o = (r ≡ o .num) × Holds z lists grains queue events order (o .st)
