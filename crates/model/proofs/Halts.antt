@@ -70,10 +70,10 @@ begins-does [] w s l u d = d .1
 begins-does (a ∷ xs) ended s l u d = absurd d
 begins-does (a ∷ xs) (act b f) s l u d = subst (λ (x : Act). ((perform x s) .num ≡ 0) × Does xs ((perform x s) .st) u) (sym (d .0)) (d .1, begins-does xs (f ((perform b s) .st)) ((perform b s) .st) l u (d .2))
 
+-- a halt in a row is a halt
 pub in-row : (w : Acts) (r : ℕ) (s v : State) → HaltIn w r s v → Halt r s v
 in-row w r s v h = record { acts = h .acts; at = h .at; did = begins-does (h .acts) w s (act (h .refused-act) (h .later)) (h .at) (h .did); act = h .refused-act; refuses = h .refuses; left = h .left; five = h .five; nine = h .nine }
 
--- a row that is not done whole: its first acts are done, and the next is refused
 turn-halts : (a : Act) (f : State → Acts) (s : State) (r k : ℕ) → (perform a s) .num ≡ k → ((u : State) → (doing (f u) u) .num ≡ r → 0 < r → HaltIn (f u) r u (marked r ((doing (f u) u) .st)))
     → let o = next k ((perform a s) .st) (λ u. doing (f u) u) in o .num ≡ r → 0 < r → HaltIn (act a f) r s (marked r (o .st))
 turn-halts a f s r zero e rest q p =
@@ -95,6 +95,7 @@ turn-halts a f s r (suc k) e rest q p =
       nine = let b = w .2 in omega (arith, b, n);
     }
 
+-- a row that is not done whole: its first acts are done, and the next is refused
 pub row-halts : (w : Acts) (s : State) (r : ℕ) → (doing w s) .num ≡ r → 0 < r → HaltIn w r s (marked r ((doing w s) .st))
 unfolding doing
 row-halts ended s r q p = absurd (omega (arith, q, p))
@@ -115,6 +116,7 @@ step-halts-in-order rate s r e =
     left : (event rate s) .num ≡ r → 0 < r → (step rate s) .state ≡ marked r ((event rate s) .st)
     left q p = unfold step in finish-left ((event rate s) .num) ((event rate s) .st) (headEvent s) (omega (arith, q)) ∙ ap (λ (k : ℕ). marked k ((event rate s) .st)) q
 
+-- so some acts were done, up to one that was refused
 pub step-halts : (rate : Float) (s : State) (r : ℕ) → (step rate s) .how ≡ halted r → Halt r (taken s) ((step rate s) .state)
 step-halts rate s r e = in-row (actsOf rate (headEvent s) (taken s)) r (taken s) ((step rate s) .state) (step-halts-in-order rate s r e)
 
@@ -127,6 +129,7 @@ run-halts-in-order rate b s r e =
     let w : Ended rate s b (refused r) c ((runFrom rate b 0 s) .state) = subst (λ (h : How). Ended rate s b h c ((runFrom rate b 0 s) .state)) e (counts rate s b .ended) in
     subst (HaltIn (actsOf rate (headEvent u) (taken u)) r (taken u)) (ap (λ (m : Moved). m .state) (w .1)) (step-halts-in-order rate u r (ap (λ (m : Moved). m .how) (w .1)))
 
+-- so its last, halting step did some acts, up to one that was refused
 pub run-halts : (rate : Float) (b : ℕ) (s : State) (r : ℕ) → (runFrom rate b 0 s) .how ≡ refused r → Halt r (taken (steps rate ((runFrom rate b 0 s) .count) s)) ((runFrom rate b 0 s) .state)
 run-halts rate b s r e =
     let u = steps rate ((runFrom rate b 0 s) .count) s in
@@ -166,6 +169,7 @@ start-halts-in-order b room gs s e n =
     positive zero z = absurd (z refl)
     positive (suc k) z = omega arith
 
+-- so some acts were done, up to one that was refused
 pub start-halts : (b : Domain) (room : ℕ) (gs : List Particle) (s : State) → start b room gs ≡ started s → (s .mark ≡ 0 → ⊥) → Halt (s .mark) (clear b room (length gs)) s
 start-halts b room gs s e n = in-row (startActs b gs (clear b room (length gs))) (s .mark) (clear b room (length gs)) s (start-halts-in-order b room gs s e n)
 

@@ -40,6 +40,7 @@ same-prefix (x ∷ xs) (y ∷ ys) (act c l) s a b f g u v r q p k d e h i =
     let t = same-prefix xs ys (l ((perform c s) .st)) ((perform c s) .st) a b f g u v r q p k (d .2) e (h .2) i in
     ((λ j. (d .0 ∙ sym (h .0)) j ∷ t .0 j), t .1, t .2)
 
+-- two halts in one row from one state are one: the number, the acts done, the refused act, the state left
 pub one-halt : (w : Acts) (r q : ℕ) (s u v : State) (h : HaltIn w r s u) (k : HaltIn w q s v) → (r ≡ q) × (h .acts ≡ k .acts) × (h .refused-act ≡ k .refused-act) × (u ≡ v)
 one-halt w r q s u v h k =
     let p : 0 < r = let a = h .five in omega (arith, a) in
@@ -48,7 +49,6 @@ one-halt w r q s u v h k =
     let n : r ≡ q = ap (λ (x : Out State). x .num) (sym (h .refuses)) ∙ (λ i. (perform (t .1 i) (t .2 i)) .num) ∙ ap (λ (x : Out State). x .num) (k .refuses) in
     (n, t .0, t .1, h .left ∙ (λ i. marked (n i) (t .2 i)) ∙ sym (k .left))
 
--- and it is what doing the row gives
 does-so : (xs : List Act) (w : Acts) (s : State) (a : Act) (f : State → Acts) (u : State) (r : ℕ) → 0 < r → Begins xs w s (act a f) u → perform a u ≡ out r u → doing w s ≡ out r u
 unfolding doing
 does-so [] w s a f u r p d e = (λ i. doing (d .0 i) (d .1 i)) ∙ then-stop r u (perform a u) (λ x. doing (f x) x) (sym e) (λ z. omega (arith, z, p))
@@ -56,15 +56,16 @@ does-so (x ∷ xs) ended s a f u r p d e = absurd d
 does-so (x ∷ xs) (act b g) s a f u r p d e =
     then-go ((perform b s) .num) ((perform b s) .st) (perform b s) (λ y. doing (g y) y) refl (d .1) ∙ does-so xs (g ((perform b s) .st)) ((perform b s) .st) a f u r p (d .2) e
 
+-- a halt in a row is what doing the row gives
 pub halt-does : (w : Acts) (r : ℕ) (s v : State) (h : HaltIn w r s v) → doing w s ≡ out r (h .at)
 halt-does w r s v h = does-so (h .acts) w s (h .refused-act) (h .later) (h .at) r (let a = h .five in omega (arith, a)) (h .did) (h .refuses)
 
--- a halt in a row does the row's first act before all others, or that act is the refused one
 begins-first : (xs : List Act) (w : Acts) (s : State) (a : Act) (f : State → Acts) (u : State) → Begins xs w s (act a f) u → firstOf xs a ≡ firstAct w a
 begins-first [] w s a f u d = ap (λ (x : Acts). firstAct x a) (sym (d .0))
 begins-first (x ∷ xs) ended s a f u d = absurd d
 begins-first (x ∷ xs) (act b g) s a f u d = d .0
 
+-- a halt in a row does the row's first act before all others, or that act is the refused one
 pub first-first : (w : Acts) (r : ℕ) (s v : State) (h : HaltIn w r s v) → firstOf (h .acts) (h .refused-act) ≡ firstAct w (h .refused-act)
 first-first w r s v h = begins-first (h .acts) w s (h .refused-act) (h .later) (h .at) (h .did)
 

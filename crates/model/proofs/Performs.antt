@@ -88,7 +88,7 @@ act-same (cancelling g c) s = same-done s _
 act-same (entering g c) s = enter-same g c s
 act-same (leaving g c) s = leave-same g c s
 
--- ---- rows of acts
+-- ---- acts done one after another
 does-on : (xs bs : List Act) (s u v : State) → Does xs s u → Does bs u v → Does (xs ++ bs) s v
 does-on [] bs s u v d e = subst (λ (x : State). Does bs x v) (sym d) e
 does-on (a ∷ xs) bs s u v d e = (d .0, does-on xs bs ((perform a s) .st) u v (d .1) e)
@@ -135,6 +135,7 @@ before ended g s = g s
 before (act a f) g s = act a (λ u. before (f u) g u)
 
 infixr 5 _⨟_
+-- one after the other
 abbrev pub _⨟_ : (State → Acts) → (State → Acts) → State → Acts
 _⨟_ f g s = before (f s) g s
 
@@ -148,30 +149,38 @@ inTurn f zero c s = ended
 inTurn f (suc m) c s = (f c ⨟ inTurn f m (suc c)) s
 
 -- ---- the acts of schedule_events and of the five executions, as event.rs orders them
+-- a grain steps to the clock
 abbrev pub stepping : ℕ → State → Acts
 stepping g s = only (storing g (stepped (s .box) (s .clock) (grain s g))) s
 
+-- what scheduling a collision of p and q finds goes in
 abbrev pub colliding : ℕ → ℕ → ℕ → State → Acts
 colliding c p q s = only (putting c (collision (s .box) (s .clock) c p q (grain s p) (grain s q))) s
 
+-- what a finder finds in one direction goes in
 abbrev pub finding : Finder → ℕ → ℕ → ℕ → State → Acts
 finding f c p d s = only (putting c (f d (s .box) (s .clock) c p (grain s p))) s
 
+-- moves to the neighbour, moves out of the cell, walls, each in both directions
 abbrev pub bounding : ℕ → ℕ → State → Acts
 bounding c p = inTurn (finding toNeighbour c p) 2 0 ⨟ inTurn (finding outOfCell c p) 2 0 ⨟ inTurn (finding wall c p) 2 0
 
+-- schedule_events of p in cell c: the others that it lists step, then collisions with them, then boundaries
 abbrev pub scheduling : ℕ → ℕ → State → Acts
 scheduling p c s = let qs = others p (listed s c) in (ofEach stepping qs ⨟ ofEach (colliding c p) qs ⨟ bounding c p) s
 
+-- in each cell that lists p, in order: its events are scheduled, its events are cancelled
 abbrev pub reschedules : ℕ → State → Acts
 reschedules p s = ofEach (scheduling p) (home s p) s
 
 abbrev pub forgets : ℕ → State → Acts
 forgets p s = ofEach (λ c. only (cancelling p c)) (home s p) s
 
+-- a synchronisation goes in
 abbrev pub syncing : Float → Act
 syncing t = putting 0 (Due (record { time = t; event = Synchronisation }))
 
+-- the five executions
 abbrev pub actsOf : Float → Event → State → Acts
 actsOf rate (InterParticleCollision p q x y v w k) s =
     (only (storing p (grainOf x v (s .clock) k)) ⨟ only (storing q (grainOf y w (s .clock) k)) ⨟ forgets p ⨟ forgets q ⨟ reschedules p ⨟ reschedules q) s
@@ -180,21 +189,26 @@ actsOf rate (MoveOutOfCell p x k) s = (only (storing p (landed x (s .clock) (gra
 actsOf rate (WallReflection p x v w) s = (only (storing p (grainOf x v (s .clock) w)) ⨟ forgets p ⨟ reschedules p) s
 actsOf rate Synchronisation s = (inTurn stepping (length (s .grains)) 0 ⨟ only (syncing (add binary64 (s .clock) rate))) s
 
--- ---- the acts of a start: grains by index, each to its cells in order; then init_events
+-- ---- the acts of a start, in 01's order
+-- a grain's numbers, then its entries
 abbrev pub goes : List Particle → ℕ → State → Acts
 goes gs i = let p = getD gs i zeroG in only (storing i (grainOf (p .pos) (p .vel) fzero (p .val))) ⨟ (λ u. ofEach (λ c. only (entering i c)) (cellsOfGrain (u .box) (p .pos)) u)
 
+-- each with those after it
 unfoldable pub pairing : ℕ → List ℕ → State → Acts
 pairing c [] s = ended
 pairing c (p ∷ qs) s = (ofEach (colliding c p) qs ⨟ pairing c qs) s
 
+-- the first synchronisation, in cell 0
 abbrev pub firstSync : ℕ → State → Acts
 firstSync zero s = only (syncing fzero) s
 firstSync (suc c) s = ended
 
+-- init_events in one cell
 abbrev pub initiates : ℕ → State → Acts
 initiates c = firstSync c ⨟ (λ u. pairing c (listed u c) u) ⨟ (λ w. ofEach (bounding c) (listed w c) w)
 
+-- all grains, then all cells
 abbrev pub startActs : Domain → List Particle → State → Acts
 startActs b gs = inTurn (goes gs) (length gs) 0 ⨟ inTurn initiates (cells b) 0
 
