@@ -1,7 +1,7 @@
 -- HALTS OVER ANY TABLES: a run that passes its checks and is refused halts by 5 to 9 with exactly the acts before the refused one done and its number as the mark, and
 -- every later run on those tables gives that number again and changes nothing. Assumes nothing.
 use Prim.Native.Nat.{ℕ}
-use mathlib.Core.Path.{_≡_, refl, sym, ap, _∙_, subst}
+use mathlib.Core.Path.{_≡_, sym, ap, _∙_, subst}
 use mathlib.Core.Bool.{true}
 use lib.Ieee.{Float}
 use Rattle.model.specs.State.{State}

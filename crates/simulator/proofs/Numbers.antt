@@ -17,7 +17,6 @@ use Rattle.model.specs.Run.{How, synchronised, spent, refused, runFrom}
 use Rattle.model.specs.Standing.{Standing}
 use Rattle.model.specs.Check.{halt}
 use Rattle.model.specs.Check as model
-use Rattle.model.proofs.Queue.{and-l, and-r}
 use Rattle.model.proofs.Reflect.{Says, says-standing}
 use Rattle.model.proofs.Halts.{run-halts}
 use Rattle.model.proofs.Exactly.{Exactly, differ}
