@@ -10,9 +10,11 @@ use borrow.Author.Tests.{leb-true, leb-false, ltb-true, ltb-false}
 use Rattle.halting.specs.Out.{out}
 use Rattle.model.specs.declared.Particle.{Particle}
 use Rattle.model.specs.declared.Place.{Place}
-use Rattle.model.specs.Events.{finePlace}
+use Rattle.model.specs.declared.Plan.{Plan}
+use Rattle.model.specs.declared.Plan.the-variants.{Nothing, Due, Refused}
+use Rattle.model.specs.Events.{placeOf, finePlace}
 use Rattle.model.specs.State.{State, home, listed, queue, has, withGrains}
-use Rattle.model.specs.Acts.{fineGrain, store, inserted, insert, entered, enter, gone, leave}
+use Rattle.model.specs.Acts.{fineGrain, store, inserted, insert, put, entered, enter, gone, leave}
 use Rattle.halting.proofs.Bools.{differ}
 
 -- A exactly if B
@@ -52,6 +54,18 @@ module _ (c : ℕ) (e : Place) (s : State) where
       by true f true r = record { only = λ h. absurd (omega (arith, h)); so = λ h. let a : length (queue s c) < s .room = ltb-true _ _ r in let b = h .1 in absurd (omega (arith, a, b)) }
       by true f false r = record { only = λ h. (f, ltb-false _ _ r); so = λ h. refl }
       by false f y r = record { only = λ h. absurd (omega (arith, h)); so = λ h. differ (h .0) f }
+
+-- what a scheduling found cannot be stored: it is refused, or due with a number that is not finite or a time not below f64::MAX
+abbrev pub Unfit : Plan → Type 0
+Unfit Nothing = ⊥
+Unfit (Due e) = finePlace (placeOf e) ≡ false
+Unfit Refused = Unit {0}
+
+-- what a scheduling found is refused by 5 exactly if it cannot be stored
+pub put-gives-5 : (c : ℕ) (x : Plan) (s : State) → Exactly ((put c x s) .num ≡ 5) (Unfit x)
+put-gives-5 c Nothing s = record { only = λ h. absurd (omega (arith, h)); so = λ h. absurd h }
+put-gives-5 c (Due e) s = insert-gives-5 c (placeOf e) s
+put-gives-5 c Refused s = record { only = λ h. tt; so = λ h. refl }
 
 module _ (g c : ℕ) (s : State) where
   abbrev cell : Bool

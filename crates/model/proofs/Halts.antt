@@ -11,7 +11,7 @@ use lib.ListN.{length}
 use lib.Ieee.{Float}
 use native.Mathlib.Decide.{ℕ-discrete}
 use borrow.Author.Tests.{le-leb, leb-true, eqb-true}
-use Rattle.halting.specs.Out.{Out, out}
+use Rattle.halting.specs.Out.{Out, out, next}
 use Rattle.model.specs.declared.Domain.{Domain}
 use Rattle.model.specs.declared.Particle.{Particle}
 use Rattle.model.specs.declared.Event.{Event}
@@ -27,7 +27,7 @@ use Rattle.model.specs.Reached.{Call, after, Reached, steps}
 use Rattle.model.specs.Sound.{Stands}
 use Rattle.halting.proofs.Bools.{clash}
 use Rattle.model.proofs.Counts.{Ended, counts}
-use Rattle.model.proofs.Performs.{Act, perform, Does, Refuses, Acted, act-same, execute-acted, begin-acted}
+use Rattle.model.proofs.Performs.{Act, perform, Does, act-same, Acts, ended, act, doing, actsOf, startActs, execute-is, begin-is}
 use Rattle.model.proofs.Runs.{run-stands}
 use Rattle.model.proofs.Stands.{sound-fitted}
 use Rattle.model.proofs.Refusals.{halted-again, run-case}
@@ -47,36 +47,93 @@ pub record Halt (r : ℕ) (s v : State) : Type 0 where
   pub five : 5 ≤ r
   pub nine : r ≤ 9
 
-halt-of : (s : State) (r : ℕ) (u : State) (xs : List Act) → Does xs s u → Refuses r u → (r ≡ 0 → ⊥) → Halt r s (marked r u)
-halt-of s zero u xs d e n = absurd (n refl)
-halt-of s (suc r) u xs d e n =
-    let q : (perform (e .0) u) .num ≡ suc r = ap (λ (o : Out State). o .num) (e .1) in
-    let w = act-same (e .0) u (λ z. n (sym q ∙ z)) in
-    record { acts = xs; at = u; did = d; act = e .0; refuses = e .1; left = refl; five = let a = w .1 in omega (arith, a, q); nine = let a = w .2 in omega (arith, a, q) }
+-- these acts are the first of the row from s, each done; they lead to u, where `left` of the row is still to do
+abbrev pub Begins : List Act → Acts → State → Acts → State → Type 0
+Begins [] w s left u = (w ≡ left) × (s ≡ u)
+Begins (a ∷ xs) ended s left u = ⊥
+Begins (a ∷ xs) (act b f) s left u = (a ≡ b) × ((perform b s) .num ≡ 0) × Begins xs (f ((perform b s) .st)) ((perform b s) .st) left u
 
-acted-halt : (s : State) (o : Out State) (r : ℕ) → Acted s o → o .num ≡ r → 0 < r → Halt r s (marked r (o .st))
-acted-halt s o r a e p = subst (λ (k : ℕ). Halt k s (marked k (o .st))) e (halt-of s (o .num) (o .st) (a .acts) (a .did) (a .refuses) (λ z. omega (arith, e, z)))
+-- the same of a row of acts in 01's order: those done are its first, and the refused one is its next
+pub record HaltIn (w : Acts) (r : ℕ) (s v : State) : Type 0 where
+  pub acts : List Act
+  pub at : State
+  pub refused-act : Act
+  pub later : State → Acts
+  pub did : Begins acts w s (act refused-act later) at
+  pub refuses : perform refused-act at ≡ out r at
+  pub left : v ≡ marked r at
+  pub five : 5 ≤ r
+  pub nine : r ≤ 9
+
+begins-does : (xs : List Act) (w : Acts) (s : State) (l : Acts) (u : State) → Begins xs w s l u → Does xs s u
+begins-does [] w s l u d = d .1
+begins-does (a ∷ xs) ended s l u d = absurd d
+begins-does (a ∷ xs) (act b f) s l u d = subst (λ (x : Act). ((perform x s) .num ≡ 0) × Does xs ((perform x s) .st) u) (sym (d .0)) (d .1, begins-does xs (f ((perform b s) .st)) ((perform b s) .st) l u (d .2))
+
+-- a halt in a row is a halt
+pub in-row : (w : Acts) (r : ℕ) (s v : State) → HaltIn w r s v → Halt r s v
+in-row w r s v h = record { acts = h .acts; at = h .at; did = begins-does (h .acts) w s (act (h .refused-act) (h .later)) (h .at) (h .did); act = h .refused-act; refuses = h .refuses; left = h .left; five = h .five; nine = h .nine }
+
+turn-halts : (a : Act) (f : State → Acts) (s : State) (r k : ℕ) → (perform a s) .num ≡ k → ((u : State) → (doing (f u) u) .num ≡ r → 0 < r → HaltIn (f u) r u (marked r ((doing (f u) u) .st)))
+    → let o = next k ((perform a s) .st) (λ u. doing (f u) u) in o .num ≡ r → 0 < r → HaltIn (act a f) r s (marked r (o .st))
+turn-halts a f s r zero e rest q p =
+    let h = rest ((perform a s) .st) q p in
+    record { acts = a ∷ h .acts; at = h .at; refused-act = h .refused-act; later = h .later; did = (refl, e, h .did); refuses = h .refuses; left = h .left; five = h .five; nine = h .nine }
+turn-halts a f s r (suc k) e rest q p =
+    let n : (perform a s) .num ≡ r = e ∙ q in
+    let w = act-same a s (λ z. omega (arith, z, n, p)) in
+    let same : perform a s ≡ out r s = w .0 ∙ ap (λ (m : ℕ). out m s) n in
+    record {
+      acts = [];
+      at = s;
+      refused-act = a;
+      later = f;
+      did = (refl, refl);
+      refuses = same;
+      left = ap (λ (o : Out State). marked r (o .st)) same;
+      five = let b = w .1 in omega (arith, b, n);
+      nine = let b = w .2 in omega (arith, b, n);
+    }
+
+-- a row that is not done whole: its first acts are done, and the next is refused
+pub row-halts : (w : Acts) (s : State) (r : ℕ) → (doing w s) .num ≡ r → 0 < r → HaltIn w r s (marked r ((doing w s) .st))
+unfolding doing
+row-halts ended s r q p = absurd (omega (arith, q, p))
+row-halts (act a f) s r q p = turn-halts a f s r ((perform a s) .num) refl (λ u. row-halts (f u) u r) q p
 
 finish-left : (r : ℕ) (u : State) (e : Event) → 0 < r → (finish r u e) .state ≡ marked r u
 finish-left zero u e p = absurd (omega arith)
 finish-left (suc r) u e p = refl
 
--- a step that halts: the head was taken out, the heap updated and the clock set, and then the acts before the refused one were done
-pub step-halts : (rate : Float) (s : State) (r : ℕ) → (step rate s) .how ≡ halted r → Halt r (taken s) ((step rate s) .state)
-step-halts rate s r e =
+-- a step that halts: the head was taken out, the heap updated and the clock set; of the event's acts those before the refused one were done, in 01's order
+pub step-halts-in-order : (rate : Float) (s : State) (r : ℕ) → (step rate s) .how ≡ halted r → HaltIn (actsOf rate (headEvent s) (taken s)) r (taken s) ((step rate s) .state)
+step-halts-in-order rate s r e =
     let m = halted-mark rate s r e in
-    let h : Halt r (taken s) (marked r ((event rate s) .st)) = acted-halt (taken s) (event rate s) r (unfold event in execute-acted rate (headEvent s) (taken s)) (m .2) (m .1) in
-    subst (Halt r (taken s)) (sym (left (m .2) (m .1))) h
+    let w = actsOf rate (headEvent s) (taken s) in
+    let d : doing w (taken s) ≡ event rate s = unfold event in execute-is rate (headEvent s) (taken s) in
+    subst (HaltIn w r (taken s)) (ap (λ (o : Out State). marked r (o .st)) d ∙ sym (left (m .2) (m .1))) (row-halts w (taken s) r (ap (λ (o : Out State). o .num) d ∙ m .2) (m .1))
   where
     left : (event rate s) .num ≡ r → 0 < r → (step rate s) .state ≡ marked r ((event rate s) .st)
     left q p = unfold step in finish-left ((event rate s) .num) ((event rate s) .st) (headEvent s) (omega (arith, q)) ∙ ap (λ (k : ℕ). marked k ((event rate s) .st)) q
 
+-- so some acts were done, up to one that was refused
+pub step-halts : (rate : Float) (s : State) (r : ℕ) → (step rate s) .how ≡ halted r → Halt r (taken s) ((step rate s) .state)
+step-halts rate s r e = in-row (actsOf rate (headEvent s) (taken s)) r (taken s) ((step rate s) .state) (step-halts-in-order rate s r e)
+
 -- a run that halts: its counted steps were done whole, and the next one halted so
+pub run-halts-in-order : (rate : Float) (b : ℕ) (s : State) (r : ℕ) → (runFrom rate b 0 s) .how ≡ refused r
+    → let u = steps rate ((runFrom rate b 0 s) .count) s in HaltIn (actsOf rate (headEvent u) (taken u)) r (taken u) ((runFrom rate b 0 s) .state)
+run-halts-in-order rate b s r e =
+    let c = (runFrom rate b 0 s) .count in
+    let u = steps rate c s in
+    let w : Ended rate s b (refused r) c ((runFrom rate b 0 s) .state) = subst (λ (h : How). Ended rate s b h c ((runFrom rate b 0 s) .state)) e (counts rate s b .ended) in
+    subst (HaltIn (actsOf rate (headEvent u) (taken u)) r (taken u)) (ap (λ (m : Moved). m .state) (w .1)) (step-halts-in-order rate u r (ap (λ (m : Moved). m .how) (w .1)))
+
+-- so its last, halting step did some acts, up to one that was refused
 pub run-halts : (rate : Float) (b : ℕ) (s : State) (r : ℕ) → (runFrom rate b 0 s) .how ≡ refused r → Halt r (taken (steps rate ((runFrom rate b 0 s) .count) s)) ((runFrom rate b 0 s) .state)
 run-halts rate b s r e =
-    let c = (runFrom rate b 0 s) .count in
-    let w : Ended rate s b (refused r) c ((runFrom rate b 0 s) .state) = subst (λ (h : How). Ended rate s b h c ((runFrom rate b 0 s) .state)) e (counts rate s b .ended) in
-    subst (Halt r (taken (steps rate c s))) (ap (λ (m : Moved). m .state) (w .1)) (step-halts rate (steps rate c s) r (ap (λ (m : Moved). m .how) (w .1)))
+    let u = steps rate ((runFrom rate b 0 s) .count) s in
+    in-row (actsOf rate (headEvent u) (taken u)) r (taken u) ((runFrom rate b 0 s) .state) (run-halts-in-order rate b s r e)
 
 -- what an accepted start was given, and what it is
 pub record Accepted (b : Domain) (room : ℕ) (gs : List Particle) (s : State) : Type 0 where
@@ -96,12 +153,25 @@ accepted b room gs s = by (boxOk b) refl (countsOk room (length gs)) refl (eqb (
     by true p false q z r e = absurd (let z : _≡_ {A = ℕ} 0 1 = cc in omega arith)
     by false p y q z r e = absurd (let z : _≡_ {A = ℕ} 0 1 = cc in omega arith)
 
--- a start that halts: every place was cleared, and then the acts before the refused one were done
+-- a start that halts: every place was cleared, and of the start's acts those before the refused one were done, in 01's order
+pub start-halts-in-order : (b : Domain) (room : ℕ) (gs : List Particle) (s : State) → start b room gs ≡ started s → (s .mark ≡ 0 → ⊥)
+    → HaltIn (startActs b gs (clear b room (length gs))) (s .mark) (clear b room (length gs)) s
+start-halts-in-order b room gs s e n =
+    let o = begin b room gs in
+    let c = clear b room (length gs) in
+    let w = startActs b gs c in
+    let q : s ≡ marked (o .num) (o .st) = accepted b room gs s e .is in
+    let d : doing w c ≡ o = begin-is b room gs in
+    let m : s .mark ≡ o .num = ap (λ (u : State). u .mark) q in
+    subst (HaltIn w (s .mark) c) ((λ i. marked (m i) ((d i) .st)) ∙ sym q) (row-halts w c (s .mark) (ap (λ (x : Out State). x .num) d ∙ sym m) (positive (s .mark) n))
+  where
+    positive : (k : ℕ) → (k ≡ 0 → ⊥) → 0 < k
+    positive zero z = absurd (z refl)
+    positive (suc k) z = omega arith
+
+-- so some acts were done, up to one that was refused
 pub start-halts : (b : Domain) (room : ℕ) (gs : List Particle) (s : State) → start b room gs ≡ started s → (s .mark ≡ 0 → ⊥) → Halt (s .mark) (clear b room (length gs)) s
-start-halts b room gs s e n =
-    let q = accepted b room gs s e .is in
-    subst (λ (u : State). Halt (u .mark) (clear b room (length gs)) u) (sym q)
-    (halt-of (clear b room (length gs)) ((begin b room gs) .num) ((begin b room gs) .st) (begin-acted b room gs .acts) (begin-acted b room gs .did) (begin-acted b room gs .refuses) (λ z. n (ap (λ (u : State). u .mark) q ∙ z)))
+start-halts b room gs s e n = in-row (startActs b gs (clear b room (length gs))) (s .mark) (clear b room (length gs)) s (start-halts-in-order b room gs s e n)
 
 -- ---- 2. a number that is no halt's leaves all as it was
 refused-is : {a b : ℕ} → refused a ≡ refused b → a ≡ b

@@ -30,6 +30,7 @@ pub mod Reached
 pub mod Demand3
 pub mod Performs
 pub mod Halts
+pub mod OneHalt
 pub mod Roots
 pub mod Fresh
 pub mod Never

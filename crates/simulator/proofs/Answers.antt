@@ -1,6 +1,6 @@
 -- What a start's answers say, over the definition that its contract cites. Assumes nothing.
 use Prim.Native.Nat.{ℕ, zero, suc, _*_, _≤_}
-use mathlib.Core.Path.{_≡_, refl, sym, ap, _∙_}
+use mathlib.Core.Path.{_≡_, refl, sym, ap, _∙_, subst}
 use mathlib.Core.Bool.{Bool, true, false, cond}
 use mathlib.Core.List.{List}
 use native.Mathlib.Omega.{arith}
@@ -11,6 +11,7 @@ use Rattle.model.specs.declared.Domain.{Domain}
 use Rattle.model.specs.declared.Started.{Started}
 use Rattle.model.specs.declared.Started.the-variants as answer
 use Rattle.model.specs.Sizes.{boxOk}
+use Rattle.model.specs.State.{State}
 use Rattle.model.specs.Check.{Fits}
 use Rattle.model.specs.Start.{Begun, refused, started, start}
 use Rattle.model.proofs.Never.{no-8-or-9-at-start}
@@ -59,6 +60,23 @@ halted-mark (suc m) r e = cc
 by-number : (b : Bool) (r g k : ℕ) → cond b (answer.BadGrain g) (answer.Refused r) ≡ answer.Halted k → ⊥
 by-number true r g k e = let z : _≡_ {A = ℕ} 0 1 = cc in omega arith
 by-number false r g k e = let z : _≡_ {A = ℕ} 0 1 = cc in omega arith
+
+not-accepted : (m r : ℕ) → byMark m ≡ answer.Halted r → m ≡ 0 → ⊥
+not-accepted zero r e z = let q : _≡_ {A = ℕ} 0 1 = cc in omega arith
+not-accepted (suc m) r e z = omega (arith, z)
+
+-- a start that halted by r left a state with r as its mark
+pub halted-start : (b : Domain) (n room : ℕ) (inputs : List Float) (t : Tables) (r : ℕ) → (startAll b n room inputs t) .answer ≡ answer.Halted r
+    → (s : State) → start b room (inputsOf n inputs) ≡ started s → (s .mark ≡ r) × (s .mark ≡ 0 → ⊥)
+halted-start b n room inputs t r =
+    every-start (λ (w : StartedWith). w .answer ≡ answer.Halted r → (s : State) → start b room (inputsOf n inputs) ≡ started s → (s .mark ≡ r) × (s .mark ≡ 0 → ⊥)) b n room inputs t
+    (λ k e. absurd (let z : _≡_ {A = ℕ} 0 1 = cc in omega arith)) go
+  where
+    go : (x : Begun) → start b room (inputsOf n inputs) ≡ x → (leaving x t) .answer ≡ answer.Halted r → (s : State) → start b room (inputsOf n inputs) ≡ started s → (s .mark ≡ r) × (s .mark ≡ 0 → ⊥)
+    go (refused k g) e h s f = absurd (by-number (eqb k 4) k g r h)
+    go (started u) e h s f =
+        let q : u ≡ s = cc in
+        subst (λ (x : State). (x .mark ≡ r) × (x .mark ≡ 0 → ⊥)) q (halted-mark (u .mark) r h, not-accepted (u .mark) r h)
 
 pub halts-fairly : (b : Domain) (n room : ℕ) (inputs : List Float) (t : Tables) → Fits b → (r : ℕ) → (startAll b n room inputs t) .answer ≡ answer.Halted r → (r ≡ 8 → ⊥) × (r ≡ 9 → ⊥)
 halts-fairly b n room inputs t f r =

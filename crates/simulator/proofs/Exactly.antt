@@ -12,7 +12,7 @@ use borrow.Author.Tests.{leb-true}
 use Rattle.model.specs.declared.Domain.{Domain}
 use Rattle.model.specs.declared.Particle.{Particle}
 use Rattle.model.specs.Sizes.{boxOk, rated, firstBad}
-use Rattle.model.specs.Start.{start, startedAt, begin}
+use Rattle.model.specs.Start.{begin}
 use Rattle.model.specs.Run.{refused}
 use Rattle.model.specs.Check.{halt}
 use Rattle.halting.proofs.Bools.{and-l, and-r, differ}
@@ -36,7 +36,7 @@ module _ (rate : Float) (b : ℕ) (t : Tables) where
   m = mark (t .lists)
 
   -- the check's number, by its tests
-  check-case : (P : ℕ → Type 0) → (sized t ≡ false → P 2) → (sized t ≡ true → halt m ≡ true → P m) → (sized t ≡ true → halt m ≡ false → rated rate ≡ false → P 3)
+  pub check-case : (P : ℕ → Type 0) → (sized t ≡ false → P 2) → (sized t ≡ true → halt m ≡ true → P m) → (sized t ≡ true → halt m ≡ false → rated rate ≡ false → P 3)
       → (sized t ≡ true → halt m ≡ false → rated rate ≡ true → standing t ≡ false → P 10) → P 0 → P (checked rate t)
   unfolding checked
   check-case P two at three ten none = by (sized t) refl (halt m) refl (rated rate) refl (standing t) refl
@@ -48,7 +48,7 @@ module _ (rate : Float) (b : ℕ) (t : Tables) where
       by true e false f false g w h = three e f g
       by false e y f z g w h = two e
 
-  halt-most : halt m ≡ true → (5 ≤ m) × (m ≤ 9)
+  pub halt-most : halt m ≡ true → (5 ≤ m) × (m ≤ 9)
   halt-most e = (leb-true _ _ (and-l (leb 5 m) (leb m 9) e), leb-true _ _ (and-r (leb 5 m) (leb m 9) e))
 
   -- a run refuses by its check's number, or halts by 5 to 9
@@ -97,15 +97,18 @@ module _ (b : Domain) (n room : ℕ) (inputs : List Float) (t : Tables) where
   many : length (inputsOf n inputs) ≡ n
   many = cut-long inputAt 5 n inputs
 
-  -- a start that was not refused does not give 1 to 4
+  -- a start that was not refused gives 0 or a halt's number, so not 1 to 4
+  pub begin-halts : boxOk b ≡ true → fit ≡ true → firstBad b (inputsOf n inputs) ≡ n → ((begin b room (inputsOf n inputs)) .num ≡ 0 → ⊥) → (5 ≤ (begin b room (inputsOf n inputs)) .num) × ((begin b room (inputsOf n inputs)) .num ≤ 9)
+  begin-halts box f g z =
+      let h = start-halts b room gs _ (start-good b room gs box (counts-ok b n room inputs t box f) (g ∙ sym many)) z in
+      (h .five, h .nine)
+
   begin-not : (r : ℕ) → 0 < r → r < 5 → boxOk b ≡ true → fit ≡ true → firstBad b (inputsOf n inputs) ≡ n → (begin b room (inputsOf n inputs)) .num ≡ r → ⊥
   begin-not r p q box f g e =
-      let s : start b room gs ≡ startedAt (begin b room gs) = start-good b room gs box (counts-ok b n room inputs t box f) (g ∙ sym many) in
-      let h = start-halts b room gs _ s (λ z. omega (arith, z, e, p)) in
-      let a = h .five in
+      let a = begin-halts box f g (λ z. omega (arith, z, e, p)) .0 in
       omega (arith, a, e, q)
 
-  start-case : (P : ℕ → Type 0) → (boxOk b ≡ false → P 1) → (boxOk b ≡ true → fit ≡ false → P 2) → (boxOk b ≡ true → fit ≡ true → (firstBad b (inputsOf n inputs) ≡ n → ⊥) → P 4)
+  pub start-case : (P : ℕ → Type 0) → (boxOk b ≡ false → P 1) → (boxOk b ≡ true → fit ≡ false → P 2) → (boxOk b ≡ true → fit ≡ true → (firstBad b (inputsOf n inputs) ≡ n → ⊥) → P 4)
       → (boxOk b ≡ true → fit ≡ true → firstBad b (inputsOf n inputs) ≡ n → P ((begin b room (inputsOf n inputs)) .num)) → P number
   start-case P one two four none = by (boxOk b) refl fit refl
     where

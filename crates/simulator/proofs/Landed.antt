@@ -4,6 +4,7 @@ use Prim.Native.Nat.{ℕ, suc, _+_, _*_, _≤_, _<_}
 use mathlib.Core.Path.{_≡_, refl, sym, ap, _∙_, subst}
 use mathlib.Core.Bool.{Bool, true, false, _&&_, cond}
 use mathlib.Core.List.{List, [], _∷_}
+use mathlib.Core.Logic.{inl, inr}
 use native.Mathlib.Omega.{arith}
 use native.Mathlib.Decide.{ℕ-discrete}
 use lib.Dec.{eqb, leb}
@@ -18,22 +19,24 @@ use Rattle.model.specs.Sizes.{boxOk, countsOk, rated}
 use Rattle.model.specs.State.{State, zeroG}
 use Rattle.model.specs.Sound.{Sound}
 use Rattle.model.specs.Acts.{taken}
-use Rattle.model.specs.Doing.{Moved, Whole}
+use Rattle.model.specs.Doing.{Moved, Whole, headEvent}
 use Rattle.model.specs.Run.{How, synchronised, spent, refused, Ran, runFrom}
 use Rattle.model.specs.Start.{Begun, started, start, clear, begin}
 use Rattle.model.specs.Start as begun
-use Rattle.model.specs.Check.{refusal, runAll}
+use Rattle.model.specs.Check.{Fits, Fitted, halt, refusal, runAll}
 use Rattle.model.specs.Reached.{most, Call, after, Reached, steps}
 use Rattle.halting.proofs.Bools.{and-l, and-r}
+use Rattle.model.proofs.Stands.{sound-fitted}
+use Rattle.model.proofs.Reflect.{says-stands}
 use Rattle.model.proofs.Whole.{runs}
 use Rattle.model.proofs.Counts.{Ended, counts}
 use Rattle.model.proofs.Reached.{Well, runAll-well, reached-well, counted-runs}
 use Rattle.model.proofs.Demand3.{AfterStep, after-each-step, splits}
-use Rattle.model.proofs.Performs.{begin-acted}
-use Rattle.model.proofs.Halts.{Halt, run-halts, accepted, reached-halted}
+use Rattle.model.proofs.Performs.{actsOf, startActs, begin-acted}
+use Rattle.model.proofs.Halts.{Halt, HaltIn, in-row, start-halts-in-order, accepted, reached-marked}
 use Rattle.tables.specs.declared.Sizes.{Sizes}
 use Rattle.checks.specs.Decode.{Tables, mark, decoded}
-use Rattle.checks.specs.Check.{listsNeed, grainsNeed, queueNeed, eventsNeed, long}
+use Rattle.checks.specs.Check.{listsNeed, grainsNeed, queueNeed, eventsNeed, long, sized, standing, checked}
 use Rattle.checks.proofs.Cut.{cut-long}
 use Rattle.starting.specs.Inputs.{inputAt, inputsOf}
 use Rattle.checks.specs.Encode.{sizesIn, encoded}
@@ -42,9 +45,11 @@ use Rattle.simulator.specs.Start.{fits, with, byNumber, leaving, startAl
 use Rattle.running.specs.Ran.{RanTables, beside}
 use Rattle.simulator.specs.Run.{runTables}
 use Rattle.simulator.specs.Reached.{Taken, afterCalls, ReachedTables}
+use Rattle.simulator.proofs.Answers.{halted-start}
 use Rattle.simulator.proofs.Kept.{does-kept, all-kept}
-use Rattle.simulator.proofs.Encoded.{Long, decoded-encoded}
-use Rattle.simulator.proofs.Ran.{sizes-same, run-over}
+use Rattle.simulator.proofs.Encoded.{Long, decoded-encoded, encoded-standing, encoded-sized}
+use Rattle.simulator.proofs.Ran.{halted-tables, sizes-same, run-over}
+use Rattle.simulator.proofs.Halted.{halts-fitted}
 
 -- ---- 1. reached tables hold a reached state
 pub record Reaches (t : Tables) : Type 0 where
@@ -120,15 +125,29 @@ calls-over (k ∷ ks) s t w F =
     let q = calls-over ks u t v (subst (λ (z : Sizes). Long z t) (sym e) F) in
     (ap (λ (x : RanTables). afterCalls ks (x .after)) (run-over s t (w .sound) F (k .rate) (k .budget)) ∙ q .0, q .1)
 
+-- a start that is taken leaves a reached state, and the cleared tables have places for it
+module _ (b : Domain) (F : Fits b) (n room : ℕ) (inputs : List Float) (t : Tables) (k : Taken ((startAll b n room inputs t) .answer)) where
+  begun-so : Begins b n room inputs t ((startAll b n room inputs t) .after)
+  begun-so = begins b n room inputs t k
+
+  begun-reached : Reached (begun-so .state)
+  begun-reached = record { box = b; fits = F; room = room; grains = inputsOf n inputs; begun = begun-so .state; accepted = begun-so .accepted; calls = []; there = unfold after in refl }
+
+  begun-well : Well (begun-so .state)
+  begun-well = reached-well (begun-so .state) begun-reached
+
+  begun-long : Long (sizesIn (begun-so .state)) (cleared t)
+  begun-long =
+      let s = begun-so .state in
+      let e = start-kept b room n inputs s (begun-so .accepted) in
+      let z : sizesFor b n room ≡ sizesIn s = λ i. record { grains = sym (e .2) i; cells = sym (begun-well .sound .heap .cells ∙ ap cells (e .0)) i; room = sym (e .1) i } in
+      subst (λ (y : Sizes). Long y (cleared t)) z (long-apart (sizesFor b n room) t (begun-so .fits-in))
+
 pub reaches : (t : Tables) → ReachedTables t → Reaches t
 reaches t r =
-    let g = begins (r .box) (r .count) (r .room) (r .inputs) (r .lent) (r .taken) in
+    let g = begun-so (r .box) (r .fits) (r .count) (r .room) (r .inputs) (r .lent) (r .taken) in
     let s = g .state in
-    let first : Reached s = record { box = r .box; fits = r .fits; room = r .room; grains = inputsOf (r .count) (r .inputs); begun = s; accepted = g .accepted; calls = []; there = unfold after in refl } in
-    let w = reached-well s first in
-    let k = start-kept (r .box) (r .room) (r .count) (r .inputs) s (g .accepted) in
-    let z : sizesFor (r .box) (r .count) (r .room) ≡ sizesIn s = λ i. record { grains = sym (k .2) i; cells = sym (w .sound .heap .cells ∙ ap cells (k .0)) i; room = sym (k .1) i } in
-    let q = calls-over (r .calls) s (cleared (r .lent)) w (subst (λ (y : Sizes). Long y (cleared (r .lent))) z (long-apart (sizesFor (r .box) (r .count) (r .room)) (r .lent) (g .fits-in))) in
+    let q = calls-over (r .calls) s (cleared (r .lent)) (begun-well (r .box) (r .fits) (r .count) (r .room) (r .inputs) (r .lent) (r .taken)) (begun-long (r .box) (r .fits) (r .count) (r .room) (r .inputs) (r .lent) (r .taken)) in
     record {
       state = after (r .calls) s;
       reached = record { box = r .box; fits = r .fits; room = r .room; grains = inputsOf (r .count) (r .inputs); begun = s; accepted = g .accepted; calls = r .calls; there = refl };
@@ -144,6 +163,10 @@ module _ (t : Tables) (h : Reaches t) where
 
   pub read-is : decoded t ≡ h .state
   read-is = ap decoded (h .is) ∙ decoded-encoded (h .state) sound (h .ground) (h .long)
+
+  -- they pass check 2
+  passes : sized t ≡ true
+  passes = subst (λ (x : Tables). sized x ≡ true) (sym (h .is)) (encoded-sized (h .state) sound (h .ground) (h .long))
 
   pub run-is : (rate : Float) (b : ℕ) → runTables rate b t ≡ beside (runAll rate b (h .state)) (encoded ((runAll rate b (h .state)) .state) (h .ground))
   run-is rate b = ap (runTables rate b) (h .is) ∙ run-over (h .state) (h .ground) sound (h .long) rate b
@@ -234,24 +257,37 @@ after-each-step-tables t r k n N =
     (record { from = s; reached = h .reached; call = k; n = n; counted = c; before = sym (at n (omega arith)); after′ = sym (at (suc n) (omega arith)) })
 
 -- ---- 5. HALTS: a run that halts leaves the acts before the refused one done and its number as the mark, and every later run gives it again and changes nothing
+check-passed : (rate : Float) (t : Tables) → sized t ≡ true → mark (t .lists) ≡ 0 → rated rate ≡ true → standing t ≡ true → checked rate t ≡ 0
+unfolding checked
+check-passed rate t z m R p = rw (z, m, R, p)
+
 pub halts-tables : (t : Tables) → ReachedTables t → (rate : Float) → rated rate ≡ true → mark (t .lists) ≡ 0 → (b r : ℕ) → (runTables rate b t) .how ≡ refused r
     → Halt r (taken (steps rate ((runTables rate b t) .count) (decoded t))) (decoded ((runTables rate b t) .after))
 halts-tables t q rate R m b r e =
     let h = reaches t q in
     let s = h .state in
     let z : s .mark ≡ 0 = sym (ap (λ (x : State). x .mark) (read-is t h)) ∙ m in
-    let st = reached-well s (h .reached) .stands z in
-    let a : runAll rate b s ≡ runFrom rate b 0 s = runs rate b s R st in
-    let f : (runFrom rate b 0 s) .how ≡ refused r = sym (ap (λ (x : RanTables). x .how) (run-is t h rate b) ∙ ap (λ (x : Ran). x .how) a) ∙ e in
-    let c : (runTables rate b t) .count ≡ (runFrom rate b 0 s) .count = ap (λ (x : RanTables). x .count) (run-is t h rate b) ∙ ap (λ (x : Ran). x .count) a in
-    let v : decoded ((runTables rate b t) .after) ≡ (runFrom rate b 0 s) .state = left-read t h rate b ∙ ap (λ (x : Ran). x .state) a in
-    let n : taken (steps rate ((runTables rate b t) .count) (decoded t)) ≡ taken (steps rate ((runFrom rate b 0 s) .count) s) = λ i. taken (steps rate (c i) (read-is t h i)) in
-    subst (λ (x : State). Halt r x (decoded ((runTables rate b t) .after))) (sym n) (subst (Halt r (taken (steps rate ((runFrom rate b 0 s) .count) s))) (sym v) (run-halts rate b s r f))
+    let f : Fitted s = sound-fitted s (sound t h) in
+    let p : standing t ≡ true = ap standing (h .is) ∙ encoded-standing s (sound t h) (h .ground) (h .long) ∙ says-stands s f .holds (reached-well s (h .reached) .stands z) in
+    let C = check-passed rate t (passes t h) m R p in
+    let u = steps rate ((runTables rate b t) .count) (decoded t) in
+    in-row (actsOf rate (headEvent u) (taken u)) r (taken u) (decoded ((runTables rate b t) .after)) (halts-fitted t (subst Fitted (sym (read-is t h)) f) rate C b r e .did)
 
 pub halted-again-tables : (t : Tables) → ReachedTables t → (mark (t .lists) ≡ 0 → ⊥) → (rate : Float) (b : ℕ) → runTables rate b t ≡ beside (refusal (mark (t .lists)) (decoded t)) t
 halted-again-tables t q n rate b =
     let h = reaches t q in
-    let s = h .state in
-    let m : s .mark ≡ mark (t .lists) = sym (ap (λ (x : State). x .mark) (read-is t h)) in
-    run-is t h rate b ∙ ap (λ (x : Ran). beside x (encoded (x .state) (h .ground))) (reached-halted s (h .reached) (λ z. n (sym m ∙ z)) rate b)
-    ∙ (λ i. beside (refusal (m i) s) (sym (h .is) i))
+    let m : (h .state) .mark ≡ mark (t .lists) = sym (ap (λ (x : State). x .mark) (read-is t h)) in
+    halted-tables rate b t (passes t h) (subst (λ (k : ℕ). halt k ≡ true) m (elim (reached-marked (h .state) (h .reached)) [ inl z ↦ absurd (n (sym m ∙ z)) | inr k ↦ k ]))
+
+-- a start that halts: every place was cleared, and of the start's acts in 01's order those before the refused one were done
+pub start-halts-tables : (b : Domain) → Fits b → (n room : ℕ) (inputs : List Float) (t : Tables) (r : ℕ) → (startAll b n room inputs t) .answer ≡ answer.Halted r
+    → let gs = inputsOf n inputs in HaltIn (startActs b gs (clear b room (length gs))) r (clear b room (length gs)) (decoded ((startAll b n room inputs t) .after))
+start-halts-tables b F n room inputs t r e =
+    let gs = inputsOf n inputs in
+    let c = clear b room (length gs) in
+    let k : Taken ((startAll b n room inputs t) .answer) = subst Taken (sym e) tt in
+    let g = begun-so b F n room inputs t k in
+    let s = g .state in
+    let m = halted-start b n room inputs t r e s (g .accepted) in
+    let read : decoded ((startAll b n room inputs t) .after) ≡ s = ap decoded (g .is) ∙ decoded-encoded s (begun-well b F n room inputs t k .sound) (cleared t) (begun-long b F n room inputs t k) in
+    subst (HaltIn (startActs b gs c) r c) (sym read) (subst (λ (x : ℕ). HaltIn (startActs b gs c) x c s) (m .0) (start-halts-in-order b room gs s (g .accepted) (m .1)))

@@ -8,7 +8,7 @@ use lib.Ieee.{Float}
 use Rattle.model.specs.Grid.{cells}
 use Rattle.model.specs.Sizes.{rated}
 use Rattle.model.specs.State.{State}
-use Rattle.model.specs.Sound.{Sound}
+use Rattle.model.specs.Sound.{Sound, Stands}
 use Rattle.model.specs.Run.{How, synchronised, spent, refused, Ran, runFrom}
 use Rattle.model.specs.Check.{halt, refusal, runAll}
 use Rattle.model.specs.Check as model
@@ -86,6 +86,18 @@ module _ (rate : Float) (b : ℕ) (t : Tables) (S : sized t ≡ true) (L : legib
   pub answers : beside (runAll rate b (decoded t)) ((runTables rate b t) .after) ≡ runTables rate b t
   answers = both-case (λ x r. beside r (x .after) ≡ x) (λ k. refl) (λ R s. refl)
 
+  -- the state that steps leave is sound, and the tables have places for it
+  pub left-sound : rated rate ≡ true → Stands (decoded t) → Sound ((runFrom rate b 0 (decoded t)) .state)
+  left-sound R st = run-well rate R (decoded t) st b .sound
+
+  pub left-long : rated rate ≡ true → Stands (decoded t) → Long (sizesIn ((runFrom rate b 0 (decoded t)) .state)) t
+  left-long R st =
+      let u = (runFrom rate b 0 (decoded t)) .state in
+      let n : (sizesIn (decoded t)) .grains ≡ (sizesOf (t .lists)) .grains = cut-long grainAt 6 ((sizesOf (t .lists)) .grains) (grainsPart (t .grains)) in
+      let z : sizesIn u ≡ sizesOf (t .lists) = sizes-same (decoded t) u (st .sound) (left-sound R st) (run-kept rate b 0 (decoded t)) ∙ (λ i. record { grains = n i; cells = (sizesOf (t .lists)) .cells; room = (sizesOf (t .lists)) .room }) in
+      let F = sized-means t S in
+      subst (λ (y : Sizes). Long y t) (sym z) (record { lists = F .lists-long; grains = F .grains-long; queue = F .queue-long; events = F .events-long; order = F .order-long })
+
   -- and the state that the tables hold afterwards
   pub leaves : Fits (t .grains) → Fits (t .events) → decoded ((runTables rate b t) .after) ≡ (runAll rate b (decoded t)) .state
   leaves f g = both-case (λ x r. decoded (x .after) ≡ r .state) (λ k. refl) (λ R s. held R s)
@@ -93,12 +105,7 @@ module _ (rate : Float) (b : ℕ) (t : Tables) (S : sized t ≡ true) (L : legib
       held : rated rate ≡ true → model.standing (decoded t) ≡ true → decoded (encoded ((runFrom rate b 0 (decoded t)) .state) t) ≡ (runFrom rate b 0 (decoded t)) .state
       held R s =
           let st = says-stands (decoded t) (fitted t f g) .means s in
-          let u = (runFrom rate b 0 (decoded t)) .state in
-          let K : Sound u = run-well rate R (decoded t) st b .sound in
-          let n : (sizesIn (decoded t)) .grains ≡ (sizesOf (t .lists)) .grains = cut-long grainAt 6 ((sizesOf (t .lists)) .grains) (grainsPart (t .grains)) in
-          let z : sizesIn u ≡ sizesOf (t .lists) = sizes-same (decoded t) u (st .sound) K (run-kept rate b 0 (decoded t)) ∙ (λ i. record { grains = n i; cells = (sizesOf (t .lists)) .cells; room = (sizesOf (t .lists)) .room }) in
-          let F = sized-means t S in
-          decoded-encoded u K t (subst (λ (y : Sizes). Long y t) (sym z) (record { lists = F .lists-long; grains = F .grains-long; queue = F .queue-long; events = F .events-long; order = F .order-long }))
+          decoded-encoded ((runFrom rate b 0 (decoded t)) .state) (left-sound R st) t (left-long R st)
 
 -- ---- 3. a run over tables that hold a sound state is the model's run of that state
 module _ (s : State) (t : Tables) (K : Sound s) (F : Long (sizesIn s) t) (rate : Float) (b : ℕ) where
