@@ -1,37 +1,47 @@
--- The theorems of demand 3 over the definitions of document 01, and what leads to them: acts, a step, a run, a start, the checks; then what is claimed.
-pub mod Cases
-pub mod Places
-pub mod Lists
+-- The theorems over the definitions of document 01, and what leads to them.
+-- What is claimed: demand 3 (Demand3) of what is reached (Reached), shown not to be empty (Shown); halts (Halts, OneHalt), the numbers given exactly if (Exactly, Refusals), what
+-- counts are (Counts), what cannot happen (Never); an equal waits (Inserts), a cancelling forgets (Forgets), no grain is born outside every cell (Born); 01's examples (Starred).
+pub mod Demand3
+pub mod Reached
+pub mod Shown
+pub mod Halts
+pub mod OneHalt
 pub mod Exactly
+pub mod Refusals
+pub mod Counts
+pub mod Never
 pub mod Inserts
-pub mod Queue
-pub mod Keeps
-pub mod Plans
-pub mod Frame
 pub mod Forgets
+pub mod Born
+pub mod Starred
+
+-- Acts: outcomes by their tests (Cases), rows of acts (Performs), what they leave (Frame) and keep (Keeps), of lists (Lists), a queue (Queue) and an event's place (Places).
+pub mod Cases
+pub mod Performs
+pub mod Frame
+pub mod Keeps
+pub mod Lists
+pub mod Queue
+pub mod Places
+
+-- A step: what scheduling finds (Plans), executions (Schedule), the step (Steps); a run of them (Runs), behind its checks (Whole); the checks (Reflect, Stands).
+pub mod Plans
 pub mod Schedule
 pub mod Steps
-pub mod Counts
 pub mod Runs
-pub mod Refusals
-pub mod Stands
-pub mod Reflect
 pub mod Whole
+pub mod Reflect
+pub mod Stands
+
+-- A start: from cleared places (Cleared) to the standing facts (Starts); no 8 or 9 (Fresh), the first event of all (Roots).
+pub mod Cleared
+pub mod Starts
+pub mod Fresh
+pub mod Roots
+
+-- from_p_to_c: the box's cells (Grid, and by quarters of a length Quarters), ends of a kernel (Kernels), at most two in a direction (Few), and lists of cells (Placed).
+pub mod Grid
 pub mod Quarters
 pub mod Kernels
 pub mod Few
-pub mod Grid
 pub mod Placed
-pub mod Born
-pub mod Cleared
-pub mod Starts
-pub mod Starred
-pub mod Reached
-pub mod Demand3
-pub mod Performs
-pub mod Halts
-pub mod OneHalt
-pub mod Roots
-pub mod Fresh
-pub mod Never
-pub mod Shown

@@ -184,13 +184,6 @@ module _ (t : Tables) (h : Reaches t) where
   left-read : (rate : Float) (b : ℕ) → decoded ((runTables rate b t) .after) ≡ left rate b
   left-read rate b = ap (λ (x : RanTables). decoded (x .after)) (run-is rate b) ∙ decoded-encoded (left rate b) (left-sound rate b) (h .ground) (left-long rate b)
 
-  -- the answer, and the state that the tables hold afterwards
-  pub model-run : (rate : Float) (b : ℕ) → beside (runAll rate b (decoded t)) ((runTables rate b t) .after) ≡ runTables rate b t
-  model-run rate b = ap (λ (s : State). beside (runAll rate b s) ((runTables rate b t) .after)) read-is ∙ ap (λ (x : RanTables). beside (runAll rate b (h .state)) (x .after)) (run-is rate b) ∙ sym (run-is rate b)
-
-  pub model-left : (rate : Float) (b : ℕ) → decoded ((runTables rate b t) .after) ≡ (runAll rate b (decoded t)) .state
-  model-left rate b = left-read rate b ∙ ap (λ (s : State). (runAll rate b s) .state) (sym read-is)
-
 -- ---- 3. DEMAND 3: a run of j + k events is a run of j and, if that was spent, a run of k
 pub record SplitsTables (rate : Float) (j k : ℕ) (t : Tables) : Type 0 where
   pub followed : (runTables rate j t) .how ≡ spent

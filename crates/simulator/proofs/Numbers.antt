@@ -19,7 +19,8 @@ use Rattle.model.specs.Check.{halt}
 use Rattle.model.specs.Check as model
 use Rattle.model.proofs.Reflect.{Says, says-standing}
 use Rattle.model.proofs.Halts.{run-halts}
-use Rattle.model.proofs.Exactly.{Exactly, differ}
+use Rattle.halting.proofs.Bools.{differ}
+use Rattle.model.proofs.Exactly.{Exactly}
 use Rattle.checks.specs.Decode.{Tables, mark, decoded}
 use Rattle.checks.specs.Check.{sized, legible, standing, checked}
 use Rattle.checks.specs.Held.{Fits}
