@@ -14,7 +14,6 @@ pub mod Inserts
 pub mod Forgets
 pub mod Born
 pub mod Starred
-
 -- Acts: outcomes by their tests (Cases), rows of acts (Performs), what they leave (Frame) and keep (Keeps), of lists (Lists), a queue (Queue) and an event's place (Places).
 pub mod Cases
 pub mod Performs
@@ -23,7 +22,6 @@ pub mod Keeps
 pub mod Lists
 pub mod Queue
 pub mod Places
-
 -- A step: what scheduling finds (Plans), executions (Schedule), the step (Steps); a run of them (Runs), behind its checks (Whole); the checks (Reflect, Stands).
 pub mod Plans
 pub mod Schedule
@@ -32,13 +30,11 @@ pub mod Runs
 pub mod Whole
 pub mod Reflect
 pub mod Stands
-
 -- A start: from cleared places (Cleared) to the standing facts (Starts); no 8 or 9 (Fresh), the first event of all (Roots).
 pub mod Cleared
 pub mod Starts
 pub mod Fresh
 pub mod Roots
-
 -- from_p_to_c: the box's cells (Grid, and by quarters of a length Quarters), ends of a kernel (Kernels), at most two in a direction (Few), and lists of cells (Placed).
 pub mod Grid
 pub mod Quarters
