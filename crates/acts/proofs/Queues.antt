@@ -29,7 +29,7 @@ use Rattle.model.proofs.Queue.{length-insert}
 use Rattle.tables.specs.declared.Sizes.{Sizes}
 use Rattle.tables.specs.Layout.{places, placeNums, placeReals, queueNums, queueReals, orderBytes}
 use Rattle.tables.specs.Holds.{Ranged, Run, Good, Tabled, Queued, Told}
-use Rattle.tables.proofs.Runs.{rows-nums-wide, rows-reals-wide}
+use Rattle.tables.proofs.Runs.{nums-long, reals-long, rows-nums-wide, rows-reals-wide}
 use Rattle.acts.specs.declared.queue.CellRow.{CellRow}
 use Rattle.acts.specs.Queues.{placed, without, headless, RowOf, loaded}
 use Rattle.acts.proofs.Rows.{placed-run, headless-run, head-run, good-placed, good-without, good-headless}
