@@ -28,7 +28,7 @@
 #[allow(unsafe_code)]
 mod calls;
 #[allow(unsafe_code)]
-mod declared;
+mod linked;
 mod error;
 mod event;
 mod simulation;
