@@ -9,16 +9,17 @@ use Rattle.model.specs.Reports.{startNumber}
 use Rattle.checks.specs.Decode.{Tables}
 use Rattle.simulator.specs.Start.{StartedWith, with}
 use Rattle.running.specs.Ran.{RanTables, toldTables}
-use Rattle.fesolopi.specs.Codes.{grainNamed, begun, begunBy, reportNumber, clockTold, eventsTold, ended, endedBy}
+use Rattle.running.specs.Going.{clockOf}
+use Rattle.fesolopi.specs.Codes.{grainNamed, begun, begunBy, reportNumber, eventsTold, ended, endedBy}
 
 pub start-told : (a : Started) (n g : ℕ) (t : Tables) (s : StartedWith) → n ≡ startNumber a → g ≡ grainNamed a → with a t ≡ s → begun n g t ≡ begunBy s
 start-told a n g t s en eg e = ap (λ (k : ℕ). begun k g t) en ∙ ap (λ (k : ℕ). begun (startNumber a) k t) eg ∙ ap begunBy e
 
-report-told : (r : Report) (t : Tables) → ended (reportNumber r) (clockTold r) (eventsTold r) t ≡ endedBy (toldTables r t)
+report-told : (r : Report) (t : Tables) → ended (reportNumber r) (clockOf r) (eventsTold r) t ≡ endedBy (toldTables r t)
 report-told (report.Synchronised c n) t = refl
 report-told (report.Spent c n) t = refl
 report-told (report.Refused k c n) t = refl
 
-pub run-told : (r : Report) (n : ℕ) (c : Float) (k : ℕ) (t : Tables) (s : RanTables) → n ≡ reportNumber r → c ≡ clockTold r → k ≡ eventsTold r → toldTables r t ≡ s → ended n c k t ≡ endedBy s
+pub run-told : (r : Report) (n : ℕ) (c : Float) (k : ℕ) (t : Tables) (s : RanTables) → n ≡ reportNumber r → c ≡ clockOf r → k ≡ eventsTold r → toldTables r t ≡ s → ended n c k t ≡ endedBy s
 run-told r n c k t s en ec ek e =
-    ap (λ (x : ℕ). ended x c k t) en ∙ ap (λ (x : Float). ended (reportNumber r) x k t) ec ∙ ap (λ (x : ℕ). ended (reportNumber r) (clockTold r) x t) ek ∙ report-told r t ∙ ap endedBy e
+    ap (λ (x : ℕ). ended x c k t) en ∙ ap (λ (x : Float). ended (reportNumber r) x k t) ec ∙ ap (λ (x : ℕ). ended (reportNumber r) (clockOf r) x t) ek ∙ report-told r t ∙ ap endedBy e

@@ -65,11 +65,6 @@ reportNumber (report.Synchronised t n) = 0
 reportNumber (report.Spent t n) = 11
 reportNumber (report.Refused r t n) = r
 
-abbrev pub clockTold : Report → Float
-clockTold (report.Synchronised t n) = t
-clockTold (report.Spent t n) = t
-clockTold (report.Refused r t n) = t
-
 abbrev pub eventsTold : Report → ℕ
 eventsTold (report.Synchronised t n) = n
 eventsTold (report.Spent t n) = n

@@ -7,7 +7,7 @@ ghost use Rattle.root.specs.Rule.{number as rootNumber};
 ghost use Rattle.checks.specs.Decode.{tables};
 ghost use Rattle.simulator.specs.Start.{startAll};
 ghost use Rattle.simulator.specs.Run.{runTables};
-ghost use Rattle.fesolopi.specs.Codes.{boxed, grainNamed, begun, begunBy, reportNumber, clockTold, eventsTold, ended, endedBy, rootValue};
+ghost use Rattle.fesolopi.specs.Codes.{boxed, grainNamed, begun, begunBy, reportNumber, eventsTold, ended, endedBy, rootValue};
 ghost use Rattle.fesolopi.specs.Needed.{refusedBy, needed, neededFor};
 use cell::Grid;
 use model::Domain;
@@ -99,7 +99,7 @@ pub extern "C" fn fesolopi_run(
         ≡ endedBy (runTables rate budget (tables (now (lists .entry)) (now (grains .entry)) (now (queue .entry)) (now (events .entry)) (now (order .entry)))) ⌝ }
 {
     let report = simulator::run::run(lists, grains, queue, events, order, rate, budget);
-    *clock = clock_told(report);
+    *clock = running::clock_of(report);
     *done = events_told(report);
     run_number(report)
 }
@@ -122,21 +122,6 @@ fn run_number(report: Report) -> u64
             clock: _,
             events: _,
         } => number,
-    }
-}
-
-// Its clock.
-fn clock_told(report: Report) -> f64
-    ensures { λ r. ⌜ r ≡ clockTold report ⌝ }
-{
-    match report {
-        Report::Synchronised { clock, events: _ } => clock,
-        Report::Spent { clock, events: _ } => clock,
-        Report::Refused {
-            number: _,
-            clock,
-            events: _,
-        } => clock,
     }
 }
 

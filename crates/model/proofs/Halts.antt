@@ -174,7 +174,7 @@ pub start-halts : (b : Domain) (room : ℕ) (gs : List Particle) (s : State) →
 start-halts b room gs s e n = in-row (startActs b gs (clear b room (length gs))) (s .mark) (clear b room (length gs)) s (start-halts-in-order b room gs s e n)
 
 -- ---- 2. a number that is no halt's leaves all as it was
-refused-is : {a b : ℕ} → refused a ≡ refused b → a ≡ b
+pub refused-is : {a b : ℕ} → refused a ≡ refused b → a ≡ b
 refused-is e = cc
 
 pub halt-range : (m : ℕ) → halt m ≡ true → (5 ≤ m) × (m ≤ 9)

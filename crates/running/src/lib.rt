@@ -16,7 +16,7 @@ use myvec::MyVec;
 use tables::Sizes;
 
 // The clock that a run with this report leaves.
-fn clock_of(report: Report) -> f64
+pub fn clock_of(report: Report) -> f64
     ensures { λ r. ⌜ r ≡ clockOf report ⌝ }
 {
     match report {

@@ -18,7 +18,7 @@ use Rattle.model.specs.Standing.{Standing}
 use Rattle.model.specs.Check.{halt}
 use Rattle.model.specs.Check as model
 use Rattle.model.proofs.Reflect.{Says, says-standing}
-use Rattle.model.proofs.Halts.{run-halts}
+use Rattle.model.proofs.Halts.{run-halts, refused-is}
 use Rattle.halting.proofs.Bools.{differ}
 use Rattle.model.proofs.Exactly.{Exactly}
 use Rattle.checks.specs.Decode.{Tables, mark, decoded}
@@ -62,9 +62,6 @@ start-number b n room inputs t =
     ])
 
 -- ---- a run
-refused-is : {k r : ℕ} → refused k ≡ refused r → k ≡ r
-refused-is e = cc
-
 no-halt : (r : ℕ) → OneOf r (2 ∷ 3 ∷ 10 ∷ []) → 5 ≤ r → r ≤ 9 → ⊥
 no-halt r o h k = elim o [ inl e ↦ omega (arith, e, h) | inr p ↦ elim p [ inl e ↦ omega (arith, e, h) | inr q ↦ elim q [ inl e ↦ omega (arith, e, k) | inr z ↦ z ] ] ]
 

@@ -7,8 +7,8 @@ use Rattle.fesolopi.proofs.fesolopi_run.Tie as tie
 run-requires : tie.Need-run-requires
 run-requires c κs = search needs
 
-clock-told-requires : tie.Need-clock-told-requires
-clock-told-requires c κs = search needs
+clock-of-requires : tie.Need-clock-of-requires
+clock-of-requires c κs = search needs
 
 events-told-requires : tie.Need-events-told-requires
 events-told-requires c κs = search needs
@@ -32,14 +32,14 @@ same-length-5 : tie.Need-same-length-5
 same-length-5 c = c .before .before .before .before .order .given
 
 returns : tie.Need-returns
-returns c = run-told (c .before .before .before .before .before .before .before .before .before .before .before .before .before .run .result) _ _ _ _ _ (c .run-number .ensures) (c .before .before .clock-told .ensures) (c .before .events-told .ensures) (c .before .before .before .before .before .before .before .before .before .before .before .before .before .run .ensures)
+returns c = run-told (c .before .before .before .before .before .before .before .before .before .before .before .before .before .run .result) _ _ _ _ _ (c .run-number .ensures) (c .before .before .clock-of .ensures) (c .before .events-told .ensures) (c .before .before .before .before .before .before .before .before .before .before .before .before .before .run .ensures)
 
 pub fesolopi-run-spec : {M : Type 1} → statement M
 fesolopi-run-spec =
     tie.close
     (tie.spec
     run-requires
-    clock-told-requires
+    clock-of-requires
     events-told-requires
     run-number-requires
     same-length
