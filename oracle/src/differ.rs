@@ -14,7 +14,8 @@ pub fn differ() -> bool {
     shown.iter().all(|&s| s)
 }
 
-fn told(holds: bool, what: String) -> bool {
+/// Prints what was shown, or that it was not.
+pub fn told(holds: bool, what: String) -> bool {
     println!("{} {what}", if holds { "shown:" } else { "NOT SHOWN:" });
     holds
 }

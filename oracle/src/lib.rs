@@ -15,6 +15,7 @@ pub mod replay;
 pub mod rust;
 pub mod scenes;
 pub mod starts;
+pub mod straight;
 pub mod tables;
 pub mod text;
 pub mod vectors;

@@ -1,5 +1,5 @@
 // The oracle's commands.
-use oracle::{account, compare, crafted, differ, dumps, listings, lost, replay, vectors};
+use oracle::{account, compare, crafted, differ, dumps, listings, lost, replay, straight, vectors};
 
 const USAGE: &str = "usage:
   oracle dump published|rules|model [EVENTS..]   start text on stdin; dumps after so many events
@@ -7,6 +7,7 @@ const USAGE: &str = "usage:
   oracle refusals                                crafted inputs for every refusal, by the model
   oracle differ                                  what docs/DIFFERENCES.md says, by running it
   oracle lost                                    the grain that the text as published loses
+  oracle straight                                grains that no event names; a pair that is pending twice
   oracle vectors FOLDER                          files for other programs to replay
   oracle leaves                                  those of single schedulings and the like as words, on stdout
   oracle replay FOLDER                           what the program replay reads, and what it must write
@@ -22,6 +23,7 @@ fn main() {
         ["differ"] => passed(differ::differ()),
         ["vectors", folder] => vectors::vectors(folder),
         ["lost"] => passed(lost::lost()),
+        ["straight"] => passed(straight::straight()),
         ["leaves"] => replay::leaves(),
         ["replay", folder] => account::replay(folder),
         ["listings", folder] => listings::listings(folder),

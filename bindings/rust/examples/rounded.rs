@@ -1,0 +1,131 @@
+//! How often round start positions halt a run: of each kind of position, 300 random starts in which no grain
+//! overlaps another, each followed for 50 units of time.
+//!
+//! A start is on a border if some coordinate of a grain is exactly a radius away from a border of a cell.
+//!
+//!     cargo run --release --offline --example rounded
+use fesolopi::{Domain, Error, Grain, Simulation};
+
+const SEED: u64 = 1;
+const STARTS: usize = 300;
+const GRAINS: usize = 200;
+const LENGTH: f64 = 24.;
+/// The length of a cell in this box.
+const CELL: f64 = 3.;
+const RADIUS: f64 = 0.5;
+/// Enough that no cell is full of events.
+const ROOM: u64 = 128;
+const END: f64 = 50.;
+
+/// A kind of position. Each coordinate is a whole number divided by `scale`, or any float, and up to `jitter`
+/// more or less than that.
+struct Kind {
+    name: &'static str,
+    scale: Option<f64>,
+    jitter: f64,
+}
+
+const KINDS: [Kind; 6] = [
+    Kind { name: "1 decimal", scale: Some(10.), jitter: 0. },
+    Kind { name: "2 decimals", scale: Some(100.), jitter: 0. },
+    Kind { name: "3 decimals", scale: Some(1_000.), jitter: 0. },
+    Kind { name: "4 decimals", scale: Some(10_000.), jitter: 0. },
+    Kind { name: "full floats", scale: None, jitter: 0. },
+    Kind { name: "1 decimal, jitter 0.001", scale: Some(10.), jitter: 0.001 },
+];
+
+/// A small generator of random numbers (splitmix64), so that a seed gives the same starts everywhere.
+struct Random(u64);
+
+impl Random {
+    fn bits(&mut self) -> u64 {
+        self.0 = self.0.wrapping_add(0x9E37_79B9_7F4A_7C15);
+        let mut z = self.0;
+        z = (z ^ (z >> 30)).wrapping_mul(0xBF58_476D_1CE4_E5B9);
+        z = (z ^ (z >> 27)).wrapping_mul(0x94D0_49BB_1331_11EB);
+        z ^ (z >> 31)
+    }
+
+    /// A float from `low` to `high`, full width.
+    fn between(&mut self, low: f64, high: f64) -> f64 {
+        low + (high - low) * ((self.bits() >> 11) as f64 / (1u64 << 53) as f64)
+    }
+}
+
+fn coordinate(kind: &Kind, random: &mut Random) -> f64 {
+    let any = random.between(0., LENGTH);
+    let rounded = kind.scale.map_or(any, |scale| (any * scale).round() / scale);
+    rounded + random.between(-kind.jitter, kind.jitter)
+}
+
+/// Whether two grains overlap, the shortest way round.
+fn overlap(p: [f64; 2], q: [f64; 2]) -> bool {
+    let [dx, dy] = [0, 1].map(|dim| {
+        let apart = (p[dim] - q[dim]).abs();
+        apart.min(LENGTH - apart)
+    });
+    dx * dx + dy * dy < 4. * RADIUS * RADIUS
+}
+
+/// A start. A position that is out of the box, or overlaps one before it, is drawn again.
+fn drawn(kind: &Kind, random: &mut Random) -> Vec<Grain> {
+    let mut grains: Vec<Grain> = vec![];
+    while grains.len() < GRAINS {
+        let position = [0, 1].map(|_| coordinate(kind, random));
+        let inside = position.iter().all(|x| (0. ..=LENGTH).contains(x));
+        if inside && grains.iter().all(|grain| !overlap(grain.position, position)) {
+            let velocity = [0, 1].map(|_| random.between(-1., 1.));
+            grains.push(Grain { position, velocity, value: 0.5 });
+        }
+    }
+    grains
+}
+
+fn on_a_border(grains: &[Grain]) -> bool {
+    grains.iter().flat_map(|grain| grain.position).any(|x| [RADIUS, CELL - RADIUS].contains(&(x % CELL)))
+}
+
+/// The number and the time of the halt, if a run from this start halts.
+fn halt(grains: &[Grain]) -> Option<(u64, f64)> {
+    let domain = Domain { lengths: [LENGTH, LENGTH], periodic: [true, true] };
+    let mut simulation = Simulation::start(&domain, ROOM, grains).expect("an accepted start");
+    while simulation.clock() < END {
+        match simulation.run(1., 1_000_000) {
+            Ok(_) => {}
+            Err(Error::Halted { by, clock, .. }) => return Some((by.number(), clock)),
+            Err(error) => panic!("{error}"),
+        }
+    }
+    None
+}
+
+/// Does the starts of a kind, and prints their row of the table.
+fn measure(kind: &Kind) {
+    let mut random = Random(SEED);
+    let (mut halts, mut border, mut border_halted) = (vec![], 0, 0);
+    for _ in 0..STARTS {
+        let grains = drawn(kind, &mut random);
+        let (on_a_border, halt) = (on_a_border(&grains), halt(&grains));
+        border += u64::from(on_a_border);
+        border_halted += u64::from(on_a_border && halt.is_some());
+        halts.extend(halt);
+    }
+    halts.sort_by(|a, b| a.1.total_cmp(&b.1));
+    let all = halts.len();
+    let median = halts.get(all / 2).map_or("-".into(), |(_, time)| format!("{time:.2}"));
+    let [by_8, by_9] = [8, 9].map(|number| halts.iter().filter(|halt| halt.0 == number).count());
+    let other = all - by_8 - by_9;
+    let name = kind.name;
+    println!(
+        "| {name} | {STARTS} | {all} | {by_8} | {by_9} | {other} | {median} | {border} | {border_halted} |"
+    );
+}
+
+fn main() {
+    println!("{GRAINS} grains in a periodic box, {LENGTH} by {LENGTH}, until time {END}; seed {SEED}\n");
+    println!(
+        "| Positions | Starts | Halted | By 8 | By 9 | Other | Median time | On a border | Of these halted |"
+    );
+    println!("|---|---|---|---|---|---|---|---|---|");
+    KINDS.iter().for_each(measure);
+}
