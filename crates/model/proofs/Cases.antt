@@ -1,6 +1,7 @@
 -- What each act's outcome is, by its tests, in 01's order: an act is done only where all of them pass. Assumes nothing.
 use Prim.Native.Nat.{ℕ, _≤_, _<_}
 use mathlib.Core.Path.{_≡_, refl}
+use mathlib.Core.List.{List}
 use mathlib.Core.Bool.{Bool, true, false, cond}
 use lib.Dec.{ltb, leb}
 use lib.ListN.{length, set}
@@ -8,9 +9,12 @@ use borrow.Author.Tests.{ltb-true, ltb-false, leb-false}
 use Rattle.halting.specs.Out.{Out, out}
 use Rattle.model.specs.declared.Particle.{Particle}
 use Rattle.model.specs.declared.Place.{Place}
-use Rattle.model.specs.Events.{finePlace}
-use Rattle.model.specs.State.{State, home, listed, queue, has, withGrains}
-use Rattle.model.specs.Acts.{fineGrain, store, insert, inserted, enter, entered, leave, gone}
+use Rattle.model.specs.declared.Plan.{Plan}
+use Rattle.model.specs.declared.Plan.the-variants.{Nothing, Due, Refused}
+use Rattle.scheduler.specs.declared.Scheduler.{Scheduler}
+use Rattle.model.specs.Events.{finePlace, placeOf}
+use Rattle.model.specs.State.{Row, State, home, listed, queue, has, withGrains, withQueues, requeued}
+use Rattle.model.specs.Acts.{fineGrain, store, insert, inserted, put, enter, entered, leave, gone}
 
 pub on-test : {A : Type 0} (P : A → Type 0) (b : Bool) (x y : A) → (b ≡ true → P x) → (b ≡ false → P y) → P (cond b x y)
 on-test P true x y f g = f refl
@@ -29,6 +33,12 @@ module _ (P : Out State → Type 0) (s : State) where
       on-test P (finePlace e) (cond (ltb (length (queue s c)) (s .room)) (out 0 (inserted c e s)) (out 6 s)) (out 5 s)
       (λ f. on-test P (ltb (length (queue s c)) (s .room)) (out 0 (inserted c e s)) (out 6 s) (λ r. done f (ltb-true _ _ r)) (λ r. six (ltb-false _ _ r)))
       (λ f. five)
+
+  -- what was found goes in: of the state only events change
+  pub put-case : (c : ℕ) (x : Plan) → ((r : ℕ) → P (out r s)) → ((q : List (Row Place)) (h : Scheduler) → P (out 0 (withQueues q h s))) → P (put c x s)
+  put-case c Nothing same new = same 0
+  put-case c (Due e) same new = insert-case c (placeOf e) (same 5) (λ r. same 6) (λ f r. unfold requeued in new _ _)
+  put-case c Refused same new = same 5
 
   -- 8 before 7, the cell's room before the grain's
   pub enter-case : (g c : ℕ) → (has g (listed s c) ≡ true → P (out 8 s)) → P (out 7 s) → (has g (listed s c) ≡ false → length (listed s c) < 32 → length (home s g) < 8 → P (out 0 (entered g c s))) → P (enter g c s)

@@ -79,7 +79,7 @@ module _ (l : List ℕ) (p : ℕ) (no′ : has p l ≡ false) where
       by true e = clash (sym no′ ∙ ap (λ (x : ℕ). has x l) (sym (eqb-true q p e)) ∙ h)
       by false e = e
 
-  unnamed : (n c : ℕ) (e : Event) → Named n c l e → names e p ≡ false
+  pub unnamed : (n c : ℕ) (e : Event) → Named n c l e → names e p ≡ false
   unnamed n c (InterParticleCollision i j x y v w k) h = rw (other i (h .0), other j (h .1))
   unnamed n c (MoveToNeighbour i x k) h = other i (h .0)
   unnamed n c (MoveOutOfCell i x k) h = other i (h .0)

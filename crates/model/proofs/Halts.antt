@@ -27,7 +27,8 @@ use Rattle.model.specs.Reached.{Call, after, Reached, steps}
 use Rattle.model.specs.Sound.{Stands}
 use Rattle.halting.proofs.Bools.{clash}
 use Rattle.model.proofs.Counts.{Ended, counts}
-use Rattle.model.proofs.Performs.{Act, perform, Does, act-same, Acts, ended, act, doing, actsOf, startActs, execute-is, begin-is}
+use Rattle.model.specs.Rows.{Act, perform, Acts, ended, act, doing, actsOf, startActs}
+use Rattle.model.proofs.Performs.{Does, act-same, execute-is, begin-is}
 use Rattle.model.proofs.Runs.{run-stands}
 use Rattle.model.proofs.Stands.{sound-fitted}
 use Rattle.model.proofs.Refusals.{halted-again, run-case}

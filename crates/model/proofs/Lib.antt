@@ -14,6 +14,26 @@ pub mod Inserts
 pub mod Forgets
 pub mod Born
 pub mod Starred
+-- What is said over the history of acts (Histories): no event from an old velocity (NoneOld), none missing (Watched), nothing else pending (NothingElse), and that the history is
+-- true (True), with velocities that only turns change (Velocities); computed on two runs (Stake, Tested).
+pub mod Histories
+pub mod NoneOld
+pub mod Watched
+pub mod NothingElse
+pub mod True
+pub mod Velocities
+pub mod Stake
+pub mod Tested
+-- Laws of histories: what is pending by them (Told), the induction over steps and runs (Along), grains made free of events (Renews), tries at the clock (AtClock), of a rule (Tries),
+-- by schedule_events (Scheduled), and of a rule by who asks (Asked), each once (Orderly).
+pub mod Told
+pub mod Along
+pub mod Renews
+pub mod AtClock
+pub mod Tries
+pub mod Scheduled
+pub mod Asked
+pub mod Orderly
 -- Acts: outcomes by their tests (Cases), rows of acts (Performs), what they leave (Frame) and keep (Keeps), of lists (Lists), a queue (Queue) and an event's place (Places).
 pub mod Cases
 pub mod Performs

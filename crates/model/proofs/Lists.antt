@@ -1,5 +1,5 @@
 -- Lists of numbers, and rows of them: what an entry and a removal keep. Assumes nothing.
-use Prim.Native.Nat.{ℕ, suc, _+_, _<_}
+use Prim.Native.Nat.{ℕ, zero, suc, _+_, _<_}
 use mathlib.Core.Path.{_≡_, refl, sym, ap, _∙_}
 use mathlib.Core.List.{List, [], _∷_, _++_}
 use mathlib.Core.Bool.{Bool, true, false, not, _&&_, _||_, or-false, or-assoc, and-comm, and-true, or-true}
@@ -22,6 +22,14 @@ set-every P d l m i a long p q j h = elim (ℕ-discrete j i) [
   | yes e ↦ rw (e, getD-set-same l i a d (omega (arith, long))) q
   | no n ↦ rw (getD-set-other l i j a d n) (p j h n)
 ]
+
+-- one is read, whichever was replaced and whether it is there or not
+pub set-case : {A : Type 0} (P : A → Type 0) (d : A) (l : List A) (i j : ℕ) (a : A) → (i ≡ j → P a) → P (getD l j d) → P (getD (set l i a) j d)
+set-case P d [] i j a new old = old
+set-case P d (x ∷ xs) zero zero a new old = new refl
+set-case P d (x ∷ xs) zero (suc j) a new old = old
+set-case P d (x ∷ xs) (suc i) zero a new old = old
+set-case P d (x ∷ xs) (suc i) (suc j) a new old = set-case P d xs i j a (λ e. new (ap suc e)) old
 
 pub live-same : {A : Type 0} (l : List (Row A)) (i : ℕ) (r : Row A) → i < length l → liveAt (set l i r) i ≡ r .live
 live-same {A} l i r h = ap (λ (q : Row A). q .live) (getD-set-same l i r none h)

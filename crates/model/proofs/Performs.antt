@@ -5,41 +5,26 @@ use mathlib.Core.Path.{_≡_, refl, sym, ap, subst, _∙_}
 use mathlib.Core.List.{List, [], _∷_, _++_}
 use native.Mathlib.Omega.{arith}
 use lib.ListN.{length, getD}
-use lib.Ieee.{Float, binary64, add}
+use lib.Ieee.{Float, binary64, add, sub}
 use Rattle.model.specs.declared.Domain.{Domain}
 use Rattle.model.specs.declared.Particle.{Particle}
 use Rattle.model.specs.declared.Event.{Event}
 use Rattle.model.specs.declared.Event.the-variants.{InterParticleCollision, MoveToNeighbour, MoveOutOfCell, WallReflection, Synchronisation}
 use Rattle.model.specs.declared.Place.{Place}
-use Rattle.model.specs.declared.Plan.{Plan}
 use Rattle.model.specs.declared.Plan.the-variants.{Nothing, Due, Refused}
 use Rattle.halting.specs.Out.{Out, out, next, then, each, eachOf}
 use Rattle.order.specs.Numbers.{fzero}
-use Rattle.model.specs.Stepping.{grainOf, stepped}
+use Rattle.model.specs.Stepping.{grainOf, newPos}
 use Rattle.model.specs.Collision.{collision}
-use Rattle.model.specs.Moves.{toNeighbour, outOfCell}
-use Rattle.model.specs.Walls.{wall}
 use Rattle.model.specs.Grid.{cells}
 use Rattle.model.specs.FromPToC.{cellsOfGrain}
 use Rattle.model.specs.Events.{placeOf}
 use Rattle.model.specs.State.{State, zeroG, grain, home, listed}
-use Rattle.model.specs.Acts.{store, insert, inserted, put, cancel, enter, entered, leave, gone}
-use Rattle.model.specs.Doing.{Finder, others, stepGrain, scheduleCollision, scheduleBy, boundaries, scheduleWith, scheduleEvents, landed, again, forget, doCollision, doNeighbour, doOut, doWall, doSync, execute}
+use Rattle.model.specs.Acts.{store, insert, inserted, enter, entered, leave, gone}
+use Rattle.model.specs.Doing.{others, stepGrain, scheduleCollision, scheduleBy, boundaries, scheduleWith, scheduleEvents, landed, again, forget, doCollision, doNeighbour, doOut, doWall, doSync, execute}
 use Rattle.model.specs.Start.{clear, goesIn, pairs, syncIn, initCell, begin}
+use Rattle.model.specs.Rows.{Bound, entry, exit, reflection, pair, finder, Act, moving, turning, trying, cancelling, entering, leaving, perform, Acts, ended, act, doing, only, before, _⨟_, ofEach, inTurn, stepping, colliding, finding, bounding, scheduling, reschedules, forgets, syncing, actsOf, goes, pairing, firstSync, initiates, startActs}
 use Rattle.model.proofs.Cases.{store-case, insert-case, enter-case, leave-case}
-
--- ---- the acts: storing a grain's new numbers, an insertion of what was found, a cancelling in one cell, an entry in both lists, a leaving
-pub data Act : Type 0 where
-  storing : ℕ → Particle → Act
-  putting : ℕ → Plan → Act
-  cancelling entering leaving : ℕ → ℕ → Act
-
-abbrev pub perform : Act → State → Out State
-perform (storing g p) s = store g p s
-perform (putting c x) s = put c x s
-perform (cancelling g c) s = cancel g c s
-perform (entering g c) s = enter g c s
-perform (leaving g c) s = leave g c s
 
 -- these acts, one after another, were done and led from s to u
 abbrev pub Does : List Act → State → State → Type 0
@@ -79,10 +64,11 @@ leave-same : (g c : ℕ) (s : State) → Same s (leave g c s)
 leave-same g c s = leave-case (Same s) s g c (same-at s 9 (omega arith) (omega arith)) (λ a. same-done s (gone g c s))
 
 pub act-same : (a : Act) (s : State) → Same s (perform a s)
-act-same (storing g p) s = store-same g p s
-act-same (putting c Nothing) s = same-done s s
-act-same (putting c (Due e)) s = insert-same c (placeOf e) s
-act-same (putting c Refused) s = same-at s 5 (omega arith) (omega arith)
+act-same (moving g x t) s = store-same g (landed x t (grain s g)) s
+act-same (turning g p) s = store-same g p s
+act-same (trying c r Nothing) s = same-done s s
+act-same (trying c r (Due e)) s = insert-same c (placeOf e) s
+act-same (trying c r Refused) s = same-at s 5 (omega arith) (omega arith)
 act-same (cancelling g c) s = same-done s _
 act-same (entering g c) s = enter-same g c s
 act-same (leaving g c) s = leave-same g c s
@@ -114,106 +100,9 @@ next-acted s (suc r) u k xs d e f = record { acts = xs; did = d; refuses = e }
 follow : (s : State) (o : Out State) (k : State → Out State) → Acted s o → ((w : State) → Acted w (k w)) → Acted s (then o k)
 follow s o k a f = next-acted s (o .num) (o .st) k (a .acts) (a .did) (a .refuses) f
 
--- ---- rows of acts in 01's order: which acts are still to do depends on the state that the one before left
-pub data Acts : Type 0 where
-  ended : Acts
-  act : Act → (State → Acts) → Acts
-
--- done one after another, up to the first that is refused
-unfoldable pub doing : Acts → State → Out State
-doing ended s = out 0 s
-doing (act a f) s = then (perform a s) (λ u. doing (f u) u)
-
--- one act alone
-abbrev pub only : Act → State → Acts
-only a s = act a (λ u. ended)
-
--- a row, and what is to do from the state that it leaves
-unfoldable pub before : Acts → (State → Acts) → State → Acts
-before ended g s = g s
-before (act a f) g s = act a (λ u. before (f u) g u)
-
-infixr 5 _⨟_
--- one after the other
-abbrev pub _⨟_ : (State → Acts) → (State → Acts) → State → Acts
-_⨟_ f g s = before (f s) g s
-
--- for each of a list; for c, c + 1, .., m of them
-unfoldable pub ofEach : (ℕ → State → Acts) → List ℕ → State → Acts
-ofEach f [] s = ended
-ofEach f (x ∷ xs) s = (f x ⨟ ofEach f xs) s
-
-unfoldable pub inTurn : (ℕ → State → Acts) → ℕ → ℕ → State → Acts
-inTurn f zero c s = ended
-inTurn f (suc m) c s = (f c ⨟ inTurn f m (suc c)) s
-
--- ---- the acts of schedule_events and of the five executions, as event.rs orders them
--- a grain steps to the clock
-abbrev pub stepping : ℕ → State → Acts
-stepping g s = only (storing g (stepped (s .box) (s .clock) (grain s g))) s
-
--- what scheduling a collision of p and q finds goes in
-abbrev pub colliding : ℕ → ℕ → ℕ → State → Acts
-colliding c p q s = only (putting c (collision (s .box) (s .clock) c p q (grain s p) (grain s q))) s
-
--- what a finder finds in one direction goes in
-abbrev pub finding : Finder → ℕ → ℕ → ℕ → State → Acts
-finding f c p d s = only (putting c (f d (s .box) (s .clock) c p (grain s p))) s
-
--- moves to the neighbour, moves out of the cell, walls, each in both directions
-abbrev pub bounding : ℕ → ℕ → State → Acts
-bounding c p = inTurn (finding toNeighbour c p) 2 0 ⨟ inTurn (finding outOfCell c p) 2 0 ⨟ inTurn (finding wall c p) 2 0
-
--- schedule_events of p in cell c: the others that it lists step, then collisions with them, then boundaries
-abbrev pub scheduling : ℕ → ℕ → State → Acts
-scheduling p c s = let qs = others p (listed s c) in (ofEach stepping qs ⨟ ofEach (colliding c p) qs ⨟ bounding c p) s
-
--- in each cell that lists p, in order: its events are scheduled, its events are cancelled
-abbrev pub reschedules : ℕ → State → Acts
-reschedules p s = ofEach (scheduling p) (home s p) s
-
-abbrev pub forgets : ℕ → State → Acts
-forgets p s = ofEach (λ c. only (cancelling p c)) (home s p) s
-
--- a synchronisation goes in
-abbrev pub syncing : Float → Act
-syncing t = putting 0 (Due (record { time = t; event = Synchronisation }))
-
--- the five executions
-abbrev pub actsOf : Float → Event → State → Acts
-actsOf rate (InterParticleCollision p q x y v w k) s =
-    (only (storing p (grainOf x v (s .clock) k)) ⨟ only (storing q (grainOf y w (s .clock) k)) ⨟ forgets p ⨟ forgets q ⨟ reschedules p ⨟ reschedules q) s
-actsOf rate (MoveToNeighbour p x k) s = (only (storing p (landed x (s .clock) (grain s p))) ⨟ only (entering p k) ⨟ scheduling p k) s
-actsOf rate (MoveOutOfCell p x k) s = (only (storing p (landed x (s .clock) (grain s p))) ⨟ only (cancelling p k) ⨟ only (leaving p k)) s
-actsOf rate (WallReflection p x v w) s = (only (storing p (grainOf x v (s .clock) w)) ⨟ forgets p ⨟ reschedules p) s
-actsOf rate Synchronisation s = (inTurn stepping (length (s .grains)) 0 ⨟ only (syncing (add binary64 (s .clock) rate))) s
-
--- ---- the acts of a start, in 01's order
--- a grain's numbers, then its entries
-abbrev pub goes : List Particle → ℕ → State → Acts
-goes gs i = let p = getD gs i zeroG in only (storing i (grainOf (p .pos) (p .vel) fzero (p .val))) ⨟ (λ u. ofEach (λ c. only (entering i c)) (cellsOfGrain (u .box) (p .pos)) u)
-
--- each with those after it
-unfoldable pub pairing : ℕ → List ℕ → State → Acts
-pairing c [] s = ended
-pairing c (p ∷ qs) s = (ofEach (colliding c p) qs ⨟ pairing c qs) s
-
--- the first synchronisation, in cell 0
-abbrev pub firstSync : ℕ → State → Acts
-firstSync zero s = only (syncing fzero) s
-firstSync (suc c) s = ended
-
--- init_events in one cell
-abbrev pub initiates : ℕ → State → Acts
-initiates c = firstSync c ⨟ (λ u. pairing c (listed u c) u) ⨟ (λ w. ofEach (bounding c) (listed w c) w)
-
--- all grains, then all cells
-abbrev pub startActs : Domain → List Particle → State → Acts
-startActs b gs = inTurn (goes gs) (length gs) 0 ⨟ inTurn initiates (cells b) 0
-
 -- ---- doing a row of acts is what the definitions of 01 do
-record Is (f : State → Out State) (g : State → Acts) : Type 0 where
-  same : (s : State) → doing (g s) s ≡ f s
+pub record Is (f : State → Out State) (g : State → Acts) : Type 0 where
+  pub same : (s : State) → doing (g s) s ≡ f s
 
 next-ended : (r : ℕ) (u : State) → next r u (λ w. out 0 w) ≡ out r u
 next-ended zero u = refl
@@ -228,7 +117,7 @@ unfolding doing before
 before-is ended g s = refl
 before-is (act a f) g s = (λ i. then (perform a s) (λ u. before-is (f u) g u i)) ∙ next-then ((perform a s) .num) ((perform a s) .st) (λ u. doing (f u) u) (λ u. doing (g u) u)
 
-is-one : (a : Act) → Is (perform a) (only a)
+pub is-one : (a : Act) → Is (perform a) (only a)
 is-one a = record { same = λ s. unfold doing in next-ended ((perform a s) .num) ((perform a s) .st) }
 
 is-then : {f g : State → Out State} {v w : State → Acts} → Is f v → Is g w → Is (λ s. then (f s) g) (v ⨟ w)
@@ -245,39 +134,39 @@ is-turns p zero c = record { same = λ s. refl }
 is-turns p (suc m) c = record { same = λ s. is-then (p c) (is-turns p m (suc c)) .same s }
 
 step-is : (g : ℕ) → Is (stepGrain g) (stepping g)
-step-is g = record { same = λ s. unfold stepGrain in is-one (storing g (stepped (s .box) (s .clock) (grain s g))) .same s }
+step-is g = record { same = λ s. unfold stepGrain in is-one (moving g (newPos (s .box) ((grain s g) .pos) ((grain s g) .vel) (sub binary64 (s .clock) ((grain s g) .time))) (s .clock)) .same s }
 
 collide-is : (c p q : ℕ) → Is (scheduleCollision c p q) (colliding c p q)
-collide-is c p q = record { same = λ s. is-one (putting c (collision (s .box) (s .clock) c p q (grain s p) (grain s q))) .same s }
+collide-is c p q = record { same = λ s. is-one (trying c (pair p q) (collision (s .box) (s .clock) c p q (grain s p) (grain s q))) .same s }
 
-find-is : (f : Finder) (c p d : ℕ) → Is (scheduleBy f c p d) (finding f c p d)
-find-is f c p d = record { same = λ s. is-one (putting c (f d (s .box) (s .clock) c p (grain s p))) .same s }
+find-is : (b : Bound) (c p d : ℕ) → Is (scheduleBy (finder b) c p d) (finding b c p d)
+find-is b c p d = record { same = λ s. is-one (trying c _ (finder b d (s .box) (s .clock) c p (grain s p))) .same s }
 
 boundaries-is : (c p : ℕ) → Is (boundaries c p) (bounding c p)
-boundaries-is c p = record { same = λ s. unfold boundaries in is-then (is-turns (find-is toNeighbour c p) 2 0) (is-then (is-turns (find-is outOfCell c p) 2 0) (is-turns (find-is wall c p) 2 0)) .same s }
+boundaries-is c p = record { same = λ s. unfold boundaries in is-then (is-turns (find-is entry c p) 2 0) (is-then (is-turns (find-is exit c p) 2 0) (is-turns (find-is reflection c p) 2 0)) .same s }
 
 schedule-is : (p c : ℕ) → Is (scheduleEvents p c) (scheduling p c)
 schedule-is p c = record { same = λ s. unfold scheduleEvents scheduleWith in is-then (is-each step-is (others p (listed s c))) (is-then (is-each (collide-is c p) (others p (listed s c))) (boundaries-is c p)) .same s }
 
-again-is : (p : ℕ) → Is (again p) (reschedules p)
+pub again-is : (p : ℕ) → Is (again p) (reschedules p)
 again-is p = record { same = λ s. unfold again in is-each (schedule-is p) (home s p) .same s }
 
-forget-is : (p : ℕ) → Is (forget p) (forgets p)
+pub forget-is : (p : ℕ) → Is (forget p) (forgets p)
 forget-is p = record { same = λ s. unfold forget in is-each (λ c. is-one (cancelling p c)) (home s p) .same s }
 
 -- EXECUTING AN EVENT IS DOING ITS ROW OF ACTS, up to the first that is refused
 pub execute-is : (rate : Float) (e : Event) (s : State) → doing (actsOf rate e s) s ≡ execute rate e s
 unfolding doCollision doNeighbour doOut doWall doSync
 execute-is rate (InterParticleCollision p q x y v w k) s =
-    is-then (is-one (storing p (grainOf x v (s .clock) k))) (is-then (is-one (storing q (grainOf y w (s .clock) k)))
+    is-then (is-one (turning p (grainOf x v (s .clock) k))) (is-then (is-one (turning q (grainOf y w (s .clock) k)))
     (is-then (forget-is p) (is-then (forget-is q) (is-then (again-is p) (again-is q))))) .same s
-execute-is rate (MoveToNeighbour p x k) s = is-then (is-one (storing p (landed x (s .clock) (grain s p)))) (is-then (is-one (entering p k)) (schedule-is p k)) .same s
-execute-is rate (MoveOutOfCell p x k) s = is-then (is-one (storing p (landed x (s .clock) (grain s p)))) (is-then (is-one (cancelling p k)) (is-one (leaving p k))) .same s
-execute-is rate (WallReflection p x v w) s = is-then (is-one (storing p (grainOf x v (s .clock) w))) (is-then (forget-is p) (again-is p)) .same s
+execute-is rate (MoveToNeighbour p x k) s = is-then (is-one (moving p x (s .clock))) (is-then (is-one (entering p k)) (schedule-is p k)) .same s
+execute-is rate (MoveOutOfCell p x k) s = is-then (is-one (moving p x (s .clock))) (is-then (is-one (cancelling p k)) (is-one (leaving p k))) .same s
+execute-is rate (WallReflection p x v w) s = is-then (is-one (turning p (grainOf x v (s .clock) w))) (is-then (forget-is p) (again-is p)) .same s
 execute-is rate Synchronisation s = is-then (is-turns step-is (length (s .grains)) 0) (is-one (syncing (add binary64 (s .clock) rate))) .same s
 
 goes-is : (gs : List Particle) (i : ℕ) → Is (goesIn gs i) (goes gs i)
-goes-is gs i = record { same = λ s. unfold goesIn in is-then (is-one (storing i _)) (record { same = λ u. is-each (λ c. is-one (entering i c)) (cellsOfGrain (u .box) ((getD gs i zeroG) .pos)) .same u }) .same s }
+goes-is gs i = record { same = λ s. unfold goesIn in is-then (is-one (turning i _)) (record { same = λ u. is-each (λ c. is-one (entering i c)) (cellsOfGrain (u .box) ((getD gs i zeroG) .pos)) .same u }) .same s }
 
 pairs-is : (c : ℕ) (l : List ℕ) → Is (pairs c l) (pairing c l)
 unfolding pairs pairing doing

@@ -66,7 +66,7 @@ boundaries-keeps c p s sound i =
     (keeps-on s u _ k (bound-keeps outOfCell (λ u c′ p′ d h j. outOfCell-apt (cells (u .box)) c′ (listed u c′) (u .clock) (h .clock) (h .fit) d (u .box) p′ (grain u p′) (j .there)) c p u (k .sound) (in-frame p c s u (k .frame) i)))
     (λ w l. keeps-on s w _ l (bound-keeps wall (λ u c′ p′ d h j. wall-apt (cells (u .box)) c′ (listed u c′) (u .clock) (h .clock) (h .fit) d (u .box) p′ (grain u p′) (j .there)) c p w (l .sound) (in-frame p c s w (l .frame) i))))
 
-has-others : (p q : ℕ) (l : List ℕ) → has q (others p l) ≡ true → (has q l ≡ true) × (eqb p q ≡ false)
+pub has-others : (p q : ℕ) (l : List ℕ) → has q (others p l) ≡ true → (has q l ≡ true) × (eqb p q ≡ false)
 unfolding has others
 has-others p q [] h = (h, clash h)
 has-others p q (x ∷ xs) h = by (eqb p x) refl (has-others p q xs)

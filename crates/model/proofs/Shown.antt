@@ -39,13 +39,13 @@ use Rattle.halting.proofs.Bools.{clash, and-l, and-r}
 use Rattle.model.proofs.Queue.{T-of}
 use Rattle.model.proofs.Starred.{sameList, same-list}
 
-abbrev box : Domain
+abbrev pub box : Domain
 box = boxOf (vec (ofBits binary64 0x402299999999999a) (ofBits binary64 0x4023666666666666)) true false
 
-abbrev grains : List Particle
+abbrev pub grains : List Particle
 grains = grainOf (vec (ofBits binary64 0x4010666666666666) (ofBits binary64 0x400199999999999a)) (vec (ofBits binary64 0x3fc0a3d70a3d70a4) (ofBits binary64 0x3ff199999999999a)) fzero (ofBits binary64 0x3fd3333333333333) ∷ grainOf (vec (ofBits binary64 0x401199999999999a) (ofBits binary64 0x4015333333333333)) (vec (ofBits binary64 0x3fb1eb851eb851ec) (ofBits binary64 0xbfeccccccccccccd)) fzero (ofBits binary64 0x3fe6666666666666) ∷ []
 
-abbrev rate : Float
+abbrev pub rate : Float
 rate = ofBits binary64 0x4014000000000000
 
 -- the kinds of the next n events: 1 collision, 2 entry, 3 leaving, 4 reflection, 5 synchronisation
@@ -74,7 +74,7 @@ computed : T (tested (start box 16 grains))
 unfolding round add sub mul div neg lt le eq ofInt toUnsigned ofBits rootOf sqrtOf near root leadingZeros across position insertBy keepBy goneBy finePlace newPos apart upFrom reached rows cellsOfGrain heads requeued has but fineGrain store insert cancelled enter leave taken later collision toNeighbour outOfCell wall eachOf others stepGrain boundaries scheduleWith scheduleEvents again forget doCollision doNeighbour doOut doWall doSync event step firstBad clear goesIn pairs initCell begin start each timeIn swapAt childIn down downshifted parentIn up upshifted updated numbered startHeap every syncs sound standing runFrom runAll
 computed = tt
 
-box-fits : Fits box
+pub box-fits : Fits box
 unfolding fits ofBits
 box-fits = record { first = tt; second = tt }
 

@@ -11,10 +11,13 @@ pub mod Events
 pub mod State
 pub mod Acts
 pub mod Doing
+pub mod Rows
 pub mod Run
 pub mod Start
 pub mod Standing
 pub mod Sound
 pub mod Check
 pub mod Reached
+pub mod History
+pub mod Missing
 pub mod Reports

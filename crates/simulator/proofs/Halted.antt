@@ -14,7 +14,7 @@ use Rattle.model.specs.Check as model
 use Rattle.model.specs.Reached.{steps}
 use Rattle.halting.proofs.Bools.{and-l, and-r}
 use Rattle.model.proofs.Reflect.{says-stands}
-use Rattle.model.proofs.Performs.{actsOf}
+use Rattle.model.specs.Rows.{actsOf}
 use Rattle.model.proofs.Halts.{HaltIn, run-halts-in-order, in-range}
 use Rattle.checks.specs.Decode.{Tables, mark, decoded}
 use Rattle.checks.specs.Check.{legible, standing, checked}

@@ -8,13 +8,14 @@ use Rattle.model.specs.declared.Event.{Event}
 use Rattle.model.specs.declared.Place.{Place}
 use Rattle.model.specs.declared.Plan.the-variants.{Nothing, Due, Refused}
 use Rattle.model.specs.Events.{placeOf}
-use Rattle.model.specs.State.{State, requeued}
+use Rattle.model.specs.State.{State, grain, requeued}
 use Rattle.model.specs.Acts.{insert, cancelled, taken}
-use Rattle.model.specs.Doing.{Stepped, done, synchronised, halted, finish, headEvent, event, step}
+use Rattle.model.specs.Doing.{Stepped, done, synchronised, halted, finish, headEvent, event, step, landed}
 use Rattle.model.specs.Run.{Ran, onward, runFrom}
 use Rattle.model.specs.Check.{runAll}
 use Rattle.model.proofs.Cases.{store-case, insert-case, enter-case, leave-case}
-use Rattle.model.proofs.Performs.{Act, storing, putting, cancelling, entering, leaving, perform, Does, execute-acted}
+use Rattle.model.specs.Rows.{Act, moving, turning, trying, cancelling, entering, leaving, perform}
+use Rattle.model.proofs.Performs.{Does, execute-acted}
 use Rattle.model.proofs.Refusals.{run-case}
 
 pub record Kept (s u : State) : Type 0 where
@@ -34,10 +35,11 @@ insert-kept c e s = insert-case (λ o. Kept s (o .st)) s c e (kept-refl s) (λ r
 
 act-kept : (a : Act) (s : State) → Kept s ((perform a s) .st)
 unfolding cancelled requeued
-act-kept (storing g p) s = store-case (λ o. Kept s (o .st)) s g p (kept-refl s) (λ f. record { box = refl; room = refl; few = length-set (s .grains) g p })
-act-kept (putting c Nothing) s = kept-refl s
-act-kept (putting c (Due e)) s = insert-kept c (placeOf e) s
-act-kept (putting c Refused) s = kept-refl s
+act-kept (moving g x t) s = store-case (λ o. Kept s (o .st)) s g (landed x t (grain s g)) (kept-refl s) (λ f. record { box = refl; room = refl; few = length-set (s .grains) g (landed x t (grain s g)) })
+act-kept (turning g p) s = store-case (λ o. Kept s (o .st)) s g p (kept-refl s) (λ f. record { box = refl; room = refl; few = length-set (s .grains) g p })
+act-kept (trying c r Nothing) s = kept-refl s
+act-kept (trying c r (Due e)) s = insert-kept c (placeOf e) s
+act-kept (trying c r Refused) s = kept-refl s
 act-kept (cancelling g c) s = record { box = refl; room = refl; few = refl }
 act-kept (entering g c) s = enter-case (λ o. Kept s (o .st)) s g c (λ a. kept-refl s) (kept-refl s) (λ a b d. record { box = refl; room = refl; few = refl })
 act-kept (leaving g c) s = leave-case (λ o. Kept s (o .st)) s g c (kept-refl s) (λ a. record { box = refl; room = refl; few = refl })

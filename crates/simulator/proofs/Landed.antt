@@ -3,7 +3,7 @@
 use Prim.Native.Nat.{ℕ, suc, _+_, _*_, _≤_, _<_}
 use mathlib.Core.Path.{_≡_, refl, sym, ap, _∙_, subst}
 use mathlib.Core.Bool.{Bool, true, false, _&&_, cond}
-use mathlib.Core.List.{List, [], _∷_}
+use mathlib.Core.List.{List, [], _∷_, _++_}
 use mathlib.Core.Logic.{inl, inr}
 use native.Mathlib.Omega.{arith}
 use native.Mathlib.Decide.{ℕ-discrete}
@@ -24,7 +24,7 @@ use Rattle.model.specs.Run.{How, synchronised, spent, refused, Ran, runFrom}
 use Rattle.model.specs.Start.{Begun, started, start, clear, begin}
 use Rattle.model.specs.Start as begun
 use Rattle.model.specs.Check.{Fits, Fitted, halt, refusal, runAll}
-use Rattle.model.specs.Reached.{most, Call, after, Reached, steps}
+use Rattle.model.specs.Reached.{most, Call, after, Reached, StepOf, steps}
 use Rattle.halting.proofs.Bools.{and-l, and-r}
 use Rattle.model.proofs.Stands.{sound-fitted}
 use Rattle.model.proofs.Reflect.{says-stands}
@@ -32,7 +32,10 @@ use Rattle.model.proofs.Whole.{runs}
 use Rattle.model.proofs.Counts.{Ended, counts}
 use Rattle.model.proofs.Reached.{Well, runAll-well, reached-well, counted-runs}
 use Rattle.model.proofs.Demand3.{AfterStep, after-each-step, splits}
-use Rattle.model.proofs.Performs.{actsOf, startActs, begin-acted}
+use Rattle.model.specs.Rows.{actsOf, startActs}
+use Rattle.model.specs.History.{history}
+use Rattle.model.proofs.Histories.{Said, reached-said, step-reached}
+use Rattle.model.proofs.Performs.{begin-acted}
 use Rattle.model.proofs.Halts.{Halt, HaltIn, in-row, start-halts-in-order, accepted, reached-marked}
 use Rattle.tables.specs.declared.Sizes.{Sizes}
 use Rattle.checks.specs.Decode.{Tables, mark, decoded}
@@ -236,18 +239,27 @@ state-at rate s b n N = by ((runFrom rate n 0 s) .how) ((counts rate s n) .ended
         ])
     by (refused r) e = absurd (subst (λ (m : Moved). Whole (m .how)) (e .1) ((counts rate s b) .whole c (omega arith) (let f = e .0 in omega (arith, f))))
 
-pub after-each-step-tables : (t : Tables) → ReachedTables t → (k : Call) (n : ℕ) → n < (runTables (k .rate) (k .budget) t) .count
-    → AfterStep (decoded ((runTables (k .rate) n t) .after)) (decoded ((runTables (k .rate) (suc n) t) .after))
-after-each-step-tables t r k n N =
-    let h = reaches t r in
-    let s = h .state in
-    let c : n < (runAll (k .rate) (k .budget) s) .count = subst (λ (x : RanTables). n < x .count) (run-is t h (k .rate) (k .budget)) N in
-    let w = counted-runs (k .rate) (k .budget) s n (sound t h) c in
-    let at : (m : ℕ) → m ≤ suc n → decoded ((runTables (k .rate) m t) .after) ≡ steps (k .rate) m s =
-    λ m M. left-read t h (k .rate) m ∙ ap (λ (x : Ran). x .state) (runs (k .rate) m s (w .0) (w .1))
-    ∙ state-at (k .rate) s (k .budget) m (subst (λ (x : Ran). m ≤ x .count) (runs (k .rate) (k .budget) s (w .0) (w .1)) (omega (arith, c))) in
-    after-each-step (decoded ((runTables (k .rate) n t) .after)) (decoded ((runTables (k .rate) (suc n) t) .after))
-    (record { from = s; reached = h .reached; call = k; n = n; counted = c; before = sym (at n (omega arith)); after′ = sym (at (suc n) (omega arith)) })
+module _ (t : Tables) (r : ReachedTables t) (k : Call) (n : ℕ) (N : n < (runTables (k .rate) (k .budget) t) .count) where
+  abbrev now : State
+  now = (reaches t r) .state
+
+  counted : n < (runAll (k .rate) (k .budget) now) .count
+  counted = subst (λ (x : RanTables). n < x .count) (run-is t (reaches t r) (k .rate) (k .budget)) N
+
+  goes-on : (b : ℕ) → runAll (k .rate) b now ≡ runFrom (k .rate) b 0 now
+  goes-on b = let w = counted-runs (k .rate) (k .budget) now n (sound t (reaches t r)) counted in runs (k .rate) b now (w .0) (w .1)
+
+  within-count : n < (runFrom (k .rate) (k .budget) 0 now) .count
+  within-count = subst (λ (x : Ran). n < x .count) (goes-on (k .budget)) counted
+
+  step-tables : StepOf (decoded ((runTables (k .rate) n t) .after)) (decoded ((runTables (k .rate) (suc n) t) .after))
+  step-tables = record { from = now; reached = (reaches t r) .reached; call = k; n = n; counted = counted; before = sym (at n (omega arith)); after′ = sym (at (suc n) (omega arith)) }
+    where
+      at : (m : ℕ) → m ≤ suc n → decoded ((runTables (k .rate) m t) .after) ≡ steps (k .rate) m now
+      at m M = left-read t (reaches t r) (k .rate) m ∙ ap (λ (x : Ran). x .state) (goes-on m) ∙ state-at (k .rate) now (k .budget) m (let c = within-count in omega (arith, c, M))
+
+  pub after-each-step-tables : AfterStep (decoded ((runTables (k .rate) n t) .after)) (decoded ((runTables (k .rate) (suc n) t) .after))
+  after-each-step-tables = after-each-step _ _ step-tables
 
 -- ---- 5. HALTS: a run that halts leaves the acts before the refused one done and its number as the mark, and every later run gives it again and changes nothing
 check-passed : (rate : Float) (t : Tables) → sized t ≡ true → mark (t .lists) ≡ 0 → rated rate ≡ true → standing t ≡ true → checked rate t ≡ 0
@@ -284,3 +296,42 @@ start-halts-tables b F n room inputs t r e =
     let m = halted-start b n room inputs t r e s (g .accepted) in
     let read : decoded ((startAll b n room inputs t) .after) ≡ s = ap decoded (g .is) ∙ decoded-encoded s (begun-well b F n room inputs t k .sound) (cleared t) (begun-long b F n room inputs t k) in
     subst (HaltIn (startActs b gs c) r c) (sym read) (subst (λ (x : ℕ). HaltIn (startActs b gs c) x c s) (m .0) (start-halts-in-order b room gs s (g .accepted) (m .1)))
+
+-- ---- 6. THE HISTORY: of reached tables that are not halted, what is said over the history of acts of the state that they are read as: no event from an old velocity,
+-- none missing, nothing else pending
+abbrev pub SaidOf : (t : Tables) → ReachedTables t → Type 0
+SaidOf t r = let h = reaches t r in Said (history (h .state) (h .reached)) (clear (h .reached .box) (h .reached .room) (length (h .reached .grains))) (decoded t)
+
+pub said-tables : (t : Tables) (r : ReachedTables t) → mark (t .lists) ≡ 0 → SaidOf t r
+said-tables t r m =
+    let h = reaches t r in
+    let z : (h .state) .mark ≡ 0 = sym (ap (λ (x : State). x .mark) (read-is t h)) ∙ m in
+    subst (Said (history (h .state) (h .reached)) (clear (h .reached .box) (h .reached .room) (length (h .reached .grains)))) (sym (read-is t h)) (reached-said (h .state) (h .reached) z)
+
+-- and after each unhalted step of all runs: the tables after n events are reached by a run with budget n, and not halted
+after-more : (ks : List Call) (k : Call) (t : Tables) → afterCalls (ks ++ k ∷ []) t ≡ (runTables (k .rate) (k .budget) (afterCalls ks t)) .after
+unfolding afterCalls
+after-more [] k t = refl
+after-more (j ∷ ks) k t = after-more ks k ((runTables (j .rate) (j .budget) t) .after)
+
+pub run-reaches : (t : Tables) → ReachedTables t → (k : Call) → ReachedTables ((runTables (k .rate) (k .budget) t) .after)
+run-reaches t r k = record {
+  box = r .box;
+  fits = r .fits;
+  count = r .count;
+  room = r .room;
+  inputs = r .inputs;
+  lent = r .lent;
+  taken = r .taken;
+  calls = r .calls ++ k ∷ [];
+  there = after-more (r .calls) k ((startAll (r .box) (r .count) (r .room) (r .inputs) (r .lent)) .after) ∙ ap (λ (x : Tables). (runTables (k .rate) (k .budget) x) .after) (r .there);
+}
+
+pub each-step-said-tables : (t : Tables) → ReachedTables t → (k : Call) (n : ℕ) → n < (runTables (k .rate) (k .budget) t) .count
+    → let u = (runTables (k .rate) (suc n) t) .after in (r : ReachedTables u) × (mark (u .lists) ≡ 0) × SaidOf u r
+each-step-said-tables t r k n N =
+    let small : suc n ≤ most = let c = within-count t r k n N in let a = counts (k .rate) ((reaches t r) .state) (k .budget) .small in let b = k .small in omega (arith, a, b, c) in
+    let u = (runTables (k .rate) (suc n) t) .after in
+    let q = run-reaches t r (record { rate = k .rate; budget = suc n; small = small }) in
+    let free : mark (u .lists) ≡ 0 = step-reached _ (decoded u) (step-tables t r k n N) .1 in
+    (q, free, said-tables u q free)

@@ -1,0 +1,122 @@
+-- ONLY A TURN CHANGES A VELOCITY: every other act, done or refused, and every event and step that does not turn a grain keep its velocity's bits. Of any state. Assumes nothing.
+use Prim.Native.Nat.{ℕ, zero, suc}
+use mathlib.Core.Path.{_≡_, refl, ap, subst, _∙_}
+use mathlib.Core.List.{List, [], _∷_}
+use mathlib.Core.Bool.{Bool, false, _||_}
+use lib.Dec.{eqb}
+use lib.ListN.{length}
+use lib.Ieee.{Float}
+use borrow.Author.Tests.{eqb-false}
+use Rattle.halting.specs.Out.{Out, next}
+use Rattle.halting.proofs.Bools.{or-false-l, or-false-r}
+use Rattle.myvec.specs.declared.MyVec.{MyVec}
+use Rattle.model.specs.declared.Particle.{Particle}
+use Rattle.model.specs.declared.Event.{Event}
+use Rattle.model.specs.declared.Event.the-variants.{InterParticleCollision, MoveToNeighbour, MoveOutOfCell, WallReflection, Synchronisation}
+use Rattle.model.specs.State.{State, zeroG, grain, home, listed, requeued}
+use Rattle.model.specs.Stepping.{grainOf}
+use Rattle.model.specs.Acts.{cancelled, taken}
+use Rattle.model.specs.Doing.{landed, finish, execute, headEvent, event, step}
+use Rattle.model.specs.Rows.{Act, moving, turning, trying, cancelling, entering, leaving, perform, Acts, ended, act, doing, only, _⨟_, stepping, colliding, finding, bounding, scheduling, reschedules, forgets, actsOf, pairing, firstSync, initiates}
+use Rattle.model.specs.History.{did, turns}
+use Rattle.model.proofs.Cases.{store-case, put-case, enter-case, leave-case}
+use Rattle.model.proofs.Lists.{set-case}
+use Rattle.model.proofs.Performs.{execute-is}
+use Rattle.model.proofs.Renews.{reflects, collides}
+use Rattle.model.proofs.Told.{Every, every-before, every-each, every-turn}
+
+-- the grains that an event turns: a collision its two, a reflection its one; entering, leaving and a synchronisation none
+abbrev pub turnedBy : Event → ℕ → Bool
+turnedBy (InterParticleCollision p q x y v w k) g = eqb p g || eqb q g
+turnedBy (MoveToNeighbour p x k) g = false
+turnedBy (MoveOutOfCell p x k) g = false
+turnedBy (WallReflection p x v w) g = eqb p g
+turnedBy Synchronisation g = false
+
+-- ---- rows that turn no grain g
+-- an act that does not
+abbrev pub Calm : ℕ → Act → Type 0
+Calm g a = turns g (did a) ≡ false
+
+module _ (g : ℕ) where
+  calm-bound : (c p : ℕ) (s : State) → Every (Calm g) (bounding c p s)
+  calm-bound c p s =
+      every-before (Calm g) _ _ s (every-turn (Calm g) (finding _ c p) 2 0 s (λ d u. (refl, λ v. tt)))
+      (λ u. every-before (Calm g) _ _ u (every-turn (Calm g) (finding _ c p) 2 0 u (λ d v. (refl, λ v. tt))) (λ v. every-turn (Calm g) (finding _ c p) 2 0 v (λ d v. (refl, λ v. tt))))
+
+  calm-schedule : (p c : ℕ) (s : State) → Every (Calm g) (scheduling p c s)
+  calm-schedule p c s =
+      every-before (Calm g) _ _ s (every-each (Calm g) stepping _ s (λ q u. (refl, λ v. tt)))
+      (λ u. every-before (Calm g) _ _ u (every-each (Calm g) (colliding c p) _ u (λ q v. (refl, λ v. tt))) (calm-bound c p))
+
+  pub calm-again : (p : ℕ) (s : State) → Every (Calm g) (reschedules p s)
+  calm-again p s = every-each (Calm g) (scheduling p) (home s p) s (calm-schedule p)
+
+  calm-forget : (p : ℕ) (s : State) → Every (Calm g) (forgets p s)
+  calm-forget p s = every-each (Calm g) (λ c. only (cancelling p c)) (home s p) s (λ c u. (refl, λ v. tt))
+
+  calm-pairs : (c : ℕ) (l : List ℕ) (s : State) → Every (Calm g) (pairing c l s)
+  unfolding pairing
+  calm-pairs c [] s = tt
+  calm-pairs c (p ∷ qs) s = every-before (Calm g) _ _ s (every-each (Calm g) (colliding c p) qs s (λ q u. (refl, λ v. tt))) (calm-pairs c qs)
+
+  calm-sync : (c : ℕ) (s : State) → Every (Calm g) (firstSync c s)
+  calm-sync zero s = (refl, λ u. tt)
+  calm-sync (suc c) s = tt
+
+  pub calm-init : (c : ℕ) (s : State) → Every (Calm g) (initiates c s)
+  calm-init c s =
+      every-before (Calm g) _ _ s (calm-sync c s)
+      (λ u. every-before (Calm g) _ _ u (calm-pairs c (listed u c) u) (λ w. every-each (Calm g) (bounding c) (listed w c) w (calm-bound c)))
+
+  pub calm-wall : (p : ℕ) (x : Particle) (s : State) → eqb p g ≡ false → Every (Calm g) (reflects p x s)
+  calm-wall p x s e = every-before (Calm g) _ _ s (e, λ u. tt) (λ u. every-before (Calm g) _ _ u (calm-forget p u) (calm-again p))
+
+  pub calm-both : (p q : ℕ) (s : State) → Every (Calm g) ((reschedules p ⨟ reschedules q) s)
+  calm-both p q s = every-before (Calm g) (reschedules p s) (reschedules q) s (calm-again p s) (calm-again q)
+
+  pub calm-collision : (p : ℕ) (x : Particle) (q : ℕ) (y : Particle) (s : State) → eqb p g ≡ false → eqb q g ≡ false → Every (Calm g) (collides p x q y s)
+  calm-collision p x q y s e e′ =
+      every-before (Calm g) _ _ s (e, λ u. tt) (λ u. every-before (Calm g) _ _ u (e′, λ v. tt) (λ u. every-before (Calm g) _ _ u (calm-forget p u)
+      (λ u. every-before (Calm g) _ _ u (calm-forget q u) (calm-both p q))))
+
+  pub acts-calm : (rate : Float) (e : Event) (s : State) → turnedBy e g ≡ false → Every (Calm g) (actsOf rate e s)
+  acts-calm rate (InterParticleCollision p q x y v w k) s n = calm-collision p (grainOf x v (s .clock) k) q (grainOf y w (s .clock) k) s (or-false-l (eqb p g) (eqb q g) n) (or-false-r (eqb p g) (eqb q g) n)
+  acts-calm rate (MoveToNeighbour p x k) s n = every-before (Calm g) _ _ s (refl, λ u. tt) (λ u. every-before (Calm g) _ _ u (refl, λ v. tt) (calm-schedule p k))
+  acts-calm rate (MoveOutOfCell p x k) s n = every-before (Calm g) _ _ s (refl, λ u. tt) (λ u. every-before (Calm g) _ _ u (refl, λ v. tt) (λ v. (refl, λ w. tt)))
+  acts-calm rate (WallReflection p x v w) s n = calm-wall p (grainOf x v (s .clock) w) s n
+  acts-calm rate Synchronisation s n = every-before (Calm g) _ _ s (every-turn (Calm g) stepping (length (s .grains)) 0 s (λ i u. (refl, λ v. tt))) (λ u. (refl, λ v. tt))
+
+-- ---- EVERY ACT BUT A TURN KEEPS EVERY VELOCITY, done or refused
+abbrev vel : State → ℕ → MyVec
+vel s g = (grain s g) .vel
+
+pub act-keeps-velocity : (a : Act) (s : State) (g : ℕ) → turns g (did a) ≡ false → (grain ((perform a s) .st) g) .vel ≡ (grain s g) .vel
+act-keeps-velocity (moving i x t) s g n =
+    store-case (λ o. vel (o .st) g ≡ vel s g) s i (landed x t (grain s i)) refl (λ f. set-case (λ p. p .vel ≡ vel s g) zeroG (s .grains) i g (landed x t (grain s i)) (ap (vel s)) refl)
+act-keeps-velocity (turning i x) s g n = store-case (λ o. vel (o .st) g ≡ vel s g) s i x refl (λ f. set-case (λ p. p .vel ≡ vel s g) zeroG (s .grains) i g x (λ e. absurd (eqb-false i g n e)) refl)
+act-keeps-velocity (trying c r x) s g n = put-case (λ o. vel (o .st) g ≡ vel s g) s c x (λ r. refl) (λ q h. refl)
+act-keeps-velocity (cancelling i c) s g n = unfold cancelled requeued in refl
+act-keeps-velocity (entering i c) s g n = enter-case (λ o. vel (o .st) g ≡ vel s g) s i c (λ a. refl) refl (λ a b d. refl)
+act-keeps-velocity (leaving i c) s g n = leave-case (λ o. vel (o .st) g ≡ vel s g) s i c refl (λ a. refl)
+
+row-keeps-velocity : (w : Acts) (s : State) (g : ℕ) → Every (Calm g) w → (grain ((doing w s) .st) g) .vel ≡ (grain s g) .vel
+unfolding doing
+row-keeps-velocity ended s g e = refl
+row-keeps-velocity (act a f) s g e = by ((perform a s) .num) (row-keeps-velocity (f ((perform a s) .st)) ((perform a s) .st) g (e .1 ((perform a s) .st)))
+  where
+    by : (r : ℕ) → let u = (perform a s) .st in vel ((doing (f u) u) .st) g ≡ vel u g → vel ((next r u (λ v. doing (f v) v)) .st) g ≡ vel s g
+    by zero i = i ∙ act-keeps-velocity a s g (e .0)
+    by (suc r) i = act-keeps-velocity a s g (e .0)
+
+-- SO AN EVENT KEEPS THE VELOCITY OF EVERY GRAIN THAT IT DOES NOT TURN, and so does a step, halted or not
+pub execute-keeps-velocity : (rate : Float) (e : Event) (s : State) (g : ℕ) → turnedBy e g ≡ false → (grain ((execute rate e s) .st) g) .vel ≡ (grain s g) .vel
+execute-keeps-velocity rate e s g n = subst (λ (o : Out State). vel (o .st) g ≡ vel s g) (execute-is rate e s) (row-keeps-velocity (actsOf rate e s) s g (acts-calm g rate e s n))
+
+pub step-keeps-velocity : (rate : Float) (s : State) (g : ℕ) → turnedBy (headEvent s) g ≡ false → (grain ((step rate s) .state) g) .vel ≡ (grain s g) .vel
+unfolding step event taken requeued
+step-keeps-velocity rate s g n = by ((event rate s) .num) (execute-keeps-velocity rate (headEvent s) (taken s) g n)
+  where
+    by : (r : ℕ) → vel ((event rate s) .st) g ≡ vel s g → vel ((finish r ((event rate s) .st) (headEvent s)) .state) g ≡ vel s g
+    by zero i = i
+    by (suc r) i = i
