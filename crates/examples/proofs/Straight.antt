@@ -11,7 +11,6 @@ use borrow.Author.Tests.{eqb-true, ltb-true}
 use lib.Count.{leadingZeros}
 use lib.ListN.{length}
 use lib.Ieee.{binary64, ofBits, round, add, sub, mul, div, neg, lt, le, eq, ofInt, toUnsigned, fits}
-use lib.Ieee.Bits.{is-true}
 use Rattle.root.specs.Isqrt.{near, root}
 use Rattle.root.specs.Root.{rootOf, sqrtOf}
 use Rattle.halting.specs.Out.{each, eachOf}
@@ -21,6 +20,7 @@ use Rattle.halting.proofs.Tests.{true-every}
 use Rattle.order.specs.Numbers.{fzero}
 use Rattle.myvec.specs.Vec.{vec}
 use Rattle.scheduler.specs.Heap.{timeIn, swapAt, childIn, down, downshifted, parentIn, up, upshifted, updated, numbered, start as startHeap}
+use Rattle.model.proofs.Exhibits.{passes, exhibit, both-passed}
 use Rattle.model.specs.declared.Domain.{Domain}
 use Rattle.model.specs.declared.Particle.{Particle}
 use Rattle.model.specs.declared.Place.{Place}
@@ -37,7 +37,7 @@ use Rattle.model.specs.State.{State, grain, listed, queue, heads, requeued, has
 use Rattle.model.specs.Acts.{fineGrain, store, insert, cancelled, enter, leave, taken}
 use Rattle.model.specs.Doing.{others, stepGrain, boundaries, scheduleWith, scheduleEvents, again, forget, doCollision, doNeighbour, doOut, doWall, doSync, event, step}
 use Rattle.model.specs.Run.{runFrom}
-use Rattle.model.specs.Start.{Begun, refused as turned-away, started, clear, goesIn, pairs, initCell, begin, start}
+use Rattle.model.specs.Start.{clear, goesIn, pairs, initCell, begin, start}
 use Rattle.model.specs.Standing.{syncs}
 use Rattle.model.specs.Check.{Fits, all, sound, standing, runAll}
 use Rattle.model.specs.Reached.{Call, after, Reached, steps}
@@ -62,30 +62,7 @@ one = record { rate = ofBits binary64 0x3ff0000000000000; budget = 1; small = li
 abbrev two : List Call
 two = one ∷ one ∷ []
 
--- a test of the state that they reach, and of its history
-abbrev passes : (History → State → Bool) → List Particle → Begun → Bool
-passes t gs (turned-away r i) = false
-passes t gs (started s) = eqb ((after two s) .mark) 0 && t (callsDone two s (startDone box 64 gs)) (after two s)
-
-record Shown (t : History → State → Bool) (gs : List Particle) : Type 0 where
-  state : State
-  reached : Reached state
-  unhalted : state .mark ≡ 0
-  passed : t (history state reached) state ≡ true
-
-shown : (t : History → State → Bool) (gs : List Particle) (o : Begun) → start box 64 gs ≡ o → T (passes t gs o) → Shown t gs
-shown t gs (turned-away r i) e p = absurd p
-shown t gs (started s) e p =
-    let all′ = is-true (passes t gs (started s)) p in
-    let m = eqb ((after two s) .mark) 0 in
-    record {
-      state = after two s;
-      reached = record { box = box; fits = box-fits; room = 64; grains = gs; begun = s; accepted = e; calls = two; there = refl };
-      unhalted = eqb-true ((after two s) .mark) 0 (and-l m _ all′);
-      passed = and-r m _ all′;
-    }
-
--- ---- 1. LISTED IS NOT WATCHED
+-- ---- the two starts, and what is tested of the states that they come to
 -- (3.5, 4.5) with (-1, 0), (5.5, 4.5) with (-2, 0): after the synchronisation at 0 and their collision
 abbrev leaving : List Particle
 leaving = at 0x400c000000000000 0x4012000000000000 0xbff0000000000000 0x0000000000000000 ∷ at 0x4016000000000000 0x4012000000000000 0xc000000000000000 0x0000000000000000 ∷ []
@@ -97,10 +74,29 @@ unnamed e = not (names (eventOf (e .kind) e) 0)
 abbrev unwatched : History → State → Bool
 unwatched h s = lt ((grain s 0) .vel .x) fzero && (has 0 (listed s 4) && every (λ c. all unnamed (queue s c)) (cells (s .box)) 0)
 
-computed-unwatched : T (passes unwatched leaving (start box 64 leaving))
-unfolding round add sub mul div neg lt le eq ofInt toUnsigned ofBits rootOf sqrtOf near root leadingZeros across position insertBy keepBy goneBy finePlace newPos apart upFrom reached rows cellsOfGrain heads requeued has but fineGrain store insert cancelled enter leave taken later collision toNeighbour outOfCell wall eachOf others stepGrain boundaries scheduleWith scheduleEvents again forget doCollision doNeighbour doOut doWall doSync event step firstBad clear goesIn pairs initCell begin start each timeIn swapAt childIn down downshifted parentIn up upshifted updated numbered startHeap every syncs sound standing runFrom runAll after
-computed-unwatched = tt
+-- two grains that graze at time 0: after the synchronisation and their collision
+abbrev grazing : List Particle
+grazing = at 0x4012cb6a4a4aa53f 0x4012542bc09d1761 0x3fea05b55f80add6 0xc03fb5ec9be167b3 ∷ at 0x40159e9f102b66c6 0x400efe7262f61758 0x3ff25254263b277a 0xc03f61294401db01 ∷ []
 
+-- the first event of cell 4 is a collision of 0 and 1, and was put in before the last try of that pair there, in either order
+abbrev firstOf : List Dated → Dated
+firstOf [] = dated-at zeroP 0
+firstOf (d ∷ l) = d
+
+abbrev older : History → State → Bool
+older h s = let d = firstOf (dated h 4) in ltb 0 (length (dated h 4)) && (eqb (d .event .kind) 1 && (namedBy d 0 && (namedBy d 1 && ltb (d .by) (tried h 4 (pair 0 1)))))
+
+abbrev one-is : Bool
+one-is = passes box 64 leaving two unwatched (start box 64 leaving)
+
+abbrev other-is : Bool
+other-is = passes box 64 grazing two older (start box 64 grazing)
+
+computed : T (one-is && other-is)
+unfolding round add sub mul div neg lt le eq ofInt toUnsigned ofBits rootOf sqrtOf near root leadingZeros across position insertBy keepBy goneBy finePlace newPos apart upFrom reached rows cellsOfGrain heads requeued has but fineGrain store insert cancelled enter leave taken later collision toNeighbour outOfCell wall eachOf others stepGrain boundaries scheduleWith scheduleEvents again forget doCollision doNeighbour doOut doWall doSync event step firstBad clear goesIn pairs initCell begin start each timeIn swapAt childIn down downshifted parentIn up upshifted updated numbered startHeap every syncs sound standing runFrom runAll before ofEach inTurn pairing done stepDone stepsDone startDone latest insertDated keepDated dated after callsDone steps
+computed = tt
+
+-- ---- 1. LISTED IS NOT WATCHED
 pub record Unwatched : Type 0 where
   pub state : State
   pub reached : Reached state
@@ -119,7 +115,7 @@ none-named (x ∷ l) e = (by (names (eventOf (x .kind) x) 0) (and-l (unnamed x) 
 
 pub listed-not-watched : Unwatched
 listed-not-watched =
-    let w = shown unwatched leaving (start box 64 leaving) refl computed-unwatched in
+    let w = exhibit box 64 leaving two unwatched box-fits (both-passed one-is other-is computed .0) in
     let s = w .state in
     let rest = and-r (lt ((grain s 0) .vel .x) fzero) _ (w .passed) in
     record {
@@ -132,22 +128,6 @@ listed-not-watched =
     }
 
 -- ---- 2. PENDING TWICE
--- two grains that graze at time 0: after the synchronisation and their collision
-abbrev grazing : List Particle
-grazing = at 0x4012cb6a4a4aa53f 0x4012542bc09d1761 0x3fea05b55f80add6 0xc03fb5ec9be167b3 ∷ at 0x40159e9f102b66c6 0x400efe7262f61758 0x3ff25254263b277a 0xc03f61294401db01 ∷ []
-
--- the first event of cell 4 is a collision of 0 and 1, and was put in before the last try of that pair there, in either order
-abbrev firstOf : List Dated → Dated
-firstOf [] = dated-at zeroP 0
-firstOf (d ∷ l) = d
-
-abbrev older : History → State → Bool
-older h s = let d = firstOf (dated h 4) in ltb 0 (length (dated h 4)) && (eqb (d .event .kind) 1 && (namedBy d 0 && (namedBy d 1 && ltb (d .by) (tried h 4 (pair 0 1)))))
-
-computed-older : T (passes older grazing (start box 64 grazing))
-unfolding round add sub mul div neg lt le eq ofInt toUnsigned ofBits rootOf sqrtOf near root leadingZeros across position insertBy keepBy goneBy finePlace newPos apart upFrom reached rows cellsOfGrain heads requeued has but fineGrain store insert cancelled enter leave taken later collision toNeighbour outOfCell wall eachOf others stepGrain boundaries scheduleWith scheduleEvents again forget doCollision doNeighbour doOut doWall doSync event step firstBad clear goesIn pairs initCell begin start each timeIn swapAt childIn down downshifted parentIn up upshifted updated numbered startHeap every syncs sound standing runFrom runAll before ofEach inTurn pairing done stepDone stepsDone startDone latest insertDated keepDated dated after callsDone steps
-computed-older = tt
-
 pub record Twice : Type 0 where
   pub state : State
   pub reached : Reached state
@@ -163,7 +143,7 @@ first-among (d ∷ l) h = inl refl
 
 pub pending-twice : Twice
 pending-twice =
-    let w = shown older grazing (start box 64 grazing) refl computed-older in
+    let w = exhibit box 64 grazing two older box-fits (both-passed one-is other-is computed .1) in
     let h = history (w .state) (w .reached) in
     let d = firstOf (dated h 4) in
     let a = and-r (ltb 0 (length (dated h 4))) _ (w .passed) in

@@ -15,9 +15,11 @@ use Rattle.model.specs.declared.Plan.{Plan}
 use Rattle.model.specs.declared.Plan.the-variants.{Nothing, Due, Refused}
 use Rattle.model.specs.Events.{placeOf}
 use Rattle.model.specs.State.{State}
-use Rattle.model.specs.Rows.{within, Bound, entry, exit, reflection, Rule, pair, bound, sync, moving, turning, trying, cancelling, entering, leaving}
-use Rattle.model.specs.History.{Deed, did, took, History, latest, Dated, dated-at, namedBy, dated}
-use Rattle.model.specs.Missing.{enters, entered, sameBound, sameRule, planOf, latestPlan, asker, asks, asked, Owes, Owed}
+use Rattle.model.specs.declared.Bound.{Bound}
+use Rattle.model.specs.declared.Bound.the-variants.{ToNeighbour, OutOfCell, Wall}
+use Rattle.model.specs.Rows.{within, Rule, pair, bound, sync, moving, turning, trying, cancelling, entering, leaving}
+use Rattle.model.specs.History.{Deed, did, took, History, latest, lastOf, Dated, dated-at, namedBy, dated}
+use Rattle.model.specs.Missing.{enters, entered, sameBound, sameRule, planOf, asker, asks, asked, Owes, Owed}
 use Rattle.model.proofs.True.{all-put}
 use Rattle.model.proofs.Told.{latest-below, all-change}
 use Rattle.model.proofs.Tries.{kindOf, Fits}
@@ -27,15 +29,15 @@ abbrev pub This : Rule → Rule → Bool
 This r o = sameRule r o && eqb (asker r) (asker o)
 
 same-bound : (b x : Bound) → sameBound b x ≡ true → b ≡ x
-same-bound entry entry e = refl
-same-bound entry exit e = clash e
-same-bound entry reflection e = clash e
-same-bound exit entry e = clash e
-same-bound exit exit e = refl
-same-bound exit reflection e = clash e
-same-bound reflection entry e = clash e
-same-bound reflection exit e = clash e
-same-bound reflection reflection e = refl
+same-bound ToNeighbour ToNeighbour e = refl
+same-bound ToNeighbour OutOfCell e = clash e
+same-bound ToNeighbour Wall e = clash e
+same-bound OutOfCell ToNeighbour e = clash e
+same-bound OutOfCell OutOfCell e = refl
+same-bound OutOfCell Wall e = clash e
+same-bound Wall ToNeighbour e = clash e
+same-bound Wall OutOfCell e = clash e
+same-bound Wall Wall e = refl
 
 pub this-is : (r o : Rule) → This r o ≡ true → r ≡ o
 this-is (pair p q) (pair i j) e =
@@ -60,9 +62,9 @@ this-is sync sync e = refl
 
 this-self : (r : Rule) → This r r ≡ true
 this-self (pair p q) = rw (eq-eqb p p refl, eq-eqb q q refl)
-this-self (bound entry p d) = rw (eq-eqb p p refl, eq-eqb d d refl)
-this-self (bound exit p d) = rw (eq-eqb p p refl, eq-eqb d d refl)
-this-self (bound reflection p d) = rw (eq-eqb p p refl, eq-eqb d d refl)
+this-self (bound ToNeighbour p d) = rw (eq-eqb p p refl, eq-eqb d d refl)
+this-self (bound OutOfCell p d) = rw (eq-eqb p p refl, eq-eqb d d refl)
+this-self (bound Wall p d) = rw (eq-eqb p p refl, eq-eqb d d refl)
 this-self sync = refl
 
 -- one deed asks for one rule
@@ -94,12 +96,12 @@ isDue Nothing = false
 isDue (Due e) = true
 isDue Refused = false
 
-found-some : (t : Deed → Bool) (h : History) (e : Pending) → latestPlan t h ≡ Due e → 0 < latest t h
-unfolding latest latestPlan
+found-some : (t : Deed → Bool) (h : History) (e : Pending) → lastOf Nothing planOf t h ≡ Due e → 0 < latest t h
+unfolding latest lastOf
 found-some t [] e q = clash (ap isDue q)
 found-some t (d ∷ h) e q = by (t d) q (found-some t h e)
   where
-    by : (b : Bool) → cond b (planOf d) (latestPlan t h) ≡ Due e → (latestPlan t h ≡ Due e → 0 < latest t h) → 0 < cond b (suc (length h)) (latest t h)
+    by : (b : Bool) → cond b (planOf d) (lastOf Nothing planOf t h) ≡ Due e → (lastOf Nothing planOf t h ≡ Due e → 0 < latest t h) → 0 < cond b (suc (length h)) (latest t h)
     by true q i = omega arith
     by false q i = i q
 
@@ -118,7 +120,7 @@ Clean h c r = All (λ d. d .by ≡ asked h c r → ⊥) (dated h c)
 
 -- a deed that does not ask for its rule, and lets none of its grains enter
 mine-same : (d : Deed) (h : History) (s : State) (c : ℕ) (x : Dated) (m : Mine h s c x) → asks c (m .owed .rule) d ≡ false → ((g : ℕ) → within (m .owed .rule) g ≡ true → enters g c d ≡ false) → Mine (d ∷ h) s c x
-unfolding latest latestPlan
+unfolding latest lastOf
 mine-same d h s c x m a e =
     let o = m .owed in
     record {
@@ -126,7 +128,7 @@ mine-same d h s c x m a e =
         rule = o .rule;
         event = o .event;
         owes = o .owes;
-        finds = ap (λ (b : Bool). cond b (planOf d) (latestPlan (asks c (o .rule)) h)) a ∙ o .finds;
+        finds = ap (λ (b : Bool). cond b (planOf d) (lastOf Nothing planOf (asks c (o .rule)) h)) a ∙ o .finds;
         is = o .is ∙ ap (λ (b : Bool). dated-at (placeOf (o .event)) (cond b (suc (length h)) (asked h c (o .rule)))) (sym a);
         since = λ g i. subst (λ (b : Bool). cond b (suc (length h)) (entered h g c) < x .by) (sym (e g i)) (o .since g i);
       };
@@ -163,7 +165,7 @@ module _ (n : ℕ) (s : State) (h : History) (mine : AllMine n s h) where
 
   -- a try of a rule that the cell owes, and of whose last try there nothing is pending
   pub mine-try : (k : ℕ) (o : Rule) (x : Plan) → Fits o x → Owes s k o → Clean h k o → AllMine n s (did (trying k o x) ∷ h)
-  unfolding latest latestPlan dated
+  unfolding latest lastOf dated
   mine-try k o x fit owes clean c C =
       all-put (Mine (did (trying k o x) ∷ h) s c) (suc (length h)) c (dated h c) (old (eqb k c) refl) (did (trying k o x)) new
     where
@@ -194,7 +196,7 @@ module _ (n : ℕ) (s : State) (h : History) (mine : AllMine n s h) where
               rule = o;
               event = e;
               owes = subst (λ (i : ℕ). Owes s i o) kc owes;
-              finds = ap (λ (b : Bool). cond b x (latestPlan (asks c o) h)) me ∙ xe;
+              finds = ap (λ (b : Bool). cond b x (lastOf Nothing planOf (asks c o) h)) me ∙ xe;
               is = ap (λ (b : Bool). dated-at (placeOf e) (cond b (suc (length h)) (asked h c o))) (sym me);
               since = λ g w. let k = latest-below (enters g c) h in omega (arith, k);
             };

@@ -28,7 +28,9 @@ use Rattle.model.specs.State.{Row, none, State, zeroG, grain, home, list
 use Rattle.model.specs.Acts.{store, put, cancelled, enter}
 use Rattle.model.specs.Doing.{others, landed}
 use Rattle.model.specs.Start.{clear}
-use Rattle.model.specs.Rows.{Bound, entry, exit, reflection, Rule, pair, bound, sync, finder, moving, trying, cancelling, entering, perform, Acts, ended, act, only, before, _⨟_, ofEach, inTurn, stepping, colliding, finding, bounding, scheduling, reschedules, forgets, actsOf, goes, pairing, firstSync, initiates, startActs}
+use Rattle.model.specs.declared.Bound.{Bound}
+use Rattle.model.specs.declared.Bound.the-variants.{ToNeighbour, OutOfCell, Wall}
+use Rattle.model.specs.Rows.{Rule, pair, bound, sync, finder, moving, trying, cancelling, entering, perform, Acts, ended, act, only, before, _⨟_, ofEach, inTurn, stepping, colliding, finding, bounding, scheduling, reschedules, forgets, actsOf, goes, pairing, firstSync, initiates, startActs}
 use Rattle.model.specs.History.{AtClock, Honest}
 use Rattle.model.specs.Sound.{Sound, Named}
 use Rattle.model.proofs.Cases.{store-case, put-case, enter-case}
@@ -136,7 +138,7 @@ colliding-honest s c p q a b u k = trying-honest s c (pair p q) (collision (u .b
 )
 
 bounding-honest : (s : State) (c p : ℕ) → AtClock s p → Carries s (bounding c p)
-bounding-honest s c p a u k = then-honest _ _ u (Carried s) (Carried s) (loop entry u k) (λ v k. then-honest _ _ v (Carried s) (Carried s) (loop exit v k) (loop reflection))
+bounding-honest s c p a u k = then-honest _ _ u (Carried s) (Carried s) (loop ToNeighbour u k) (λ v k. then-honest _ _ v (Carried s) (Carried s) (loop OutOfCell v k) (loop Wall))
   where
     loop : (b : Bound) → Carries s (inTurn (finding b c p) 2 0)
     loop b = turn-honest (Carried s) (finding b c p) 2 (λ d v D k. finding-honest s b c p d a v k) 2 0 (omega arith)
@@ -206,7 +208,7 @@ acts-honest rate (MoveToNeighbour p x k) n c s r m = neighbour-honest s p k x r 
 acts-honest rate (MoveOutOfCell p x k) n c s r m = then-honest _ _ s Any Any (tt, λ z. tt) (λ u i. then-honest _ _ u Any Any (tt, λ z. tt) (λ v i. (tt, λ z. tt)))
 acts-honest rate (WallReflection p x v w) n c s r m = wall-honest s p (grainOf x v (s .clock) w) r (r c p (m .0)) refl
 acts-honest rate Synchronisation n c s r m =
-    then-honest _ _ s Any Any (turn-honest Any stepping (length (s .grains)) (λ g u G i. (tt, λ z. tt)) (length (s .grains)) 0 (omega arith) s tt) (λ u i. ((tt, λ g e. clash e), λ z. tt))
+    then-honest _ _ s Any Any (turn-honest Any stepping (length (s .grains)) (λ g u G i. (tt, λ z. tt)) (length (s .grains)) 0 (omega arith) s tt) (λ u i. (((_, refl), λ g e. clash e), λ z. tt))
 
 -- ---- a start: every grain is at the clock all along
 module _ (s : State) (all : (g : ℕ) → AtClock s g) where
@@ -216,7 +218,7 @@ module _ (s : State) (all : (g : ℕ) → AtClock s g) where
   pairing-honest c (p ∷ qs) u k = then-honest _ _ u (Carried s) (Carried s) (each-honest (Carried s) (colliding c p) qs (λ q v h. colliding-honest s c p q (all p) (all q) v) u k) (pairing-honest c qs)
 
   sync-honest : (c : ℕ) → Carries s (firstSync c)
-  sync-honest zero u k = trying-honest s 0 sync (Due (record { time = fzero; event = Synchronisation })) u k (tt, λ g e. clash e)
+  sync-honest zero u k = trying-honest s 0 sync (Due (record { time = fzero; event = Synchronisation })) u k ((_, refl), λ g e. clash e)
   sync-honest (suc c) u k = k
 
   init-honest : (c : ℕ) → Carries s (initiates c)

@@ -84,3 +84,21 @@ module _ (rate : Float) (s : State) where
 
   pub counts : (b : ℕ) → Counted rate s 0 b (runFrom rate b 0 s)
   counts b = subst (λ (k : ℕ). Counted rate s 0 k (runFrom rate b 0 s)) (omega arith) (from-here b 0 s (unfold steps in refl))
+
+-- after n of the steps that a run counts: what a run with budget n leaves
+pub state-at : (rate : Float) (s : State) (b n : ℕ) → n ≤ (runFrom rate b 0 s) .count → (runFrom rate n 0 s) .state ≡ steps rate n s
+state-at rate s b n N = by ((runFrom rate n 0 s) .how) ((counts rate s n) .ended)
+  where
+    c : ℕ
+    c = (runFrom rate n 0 s) .count
+
+    by : (x : How) → Ended rate s n x ((runFrom rate n 0 s) .count) ((runFrom rate n 0 s) .state) → (runFrom rate n 0 s) .state ≡ steps rate n s
+    by spent e = e .1 ∙ ap (λ (k : ℕ). steps rate k s) (e .0)
+    by How.synchronised e =
+        let small = (counts rate s n) .small in
+        let d = e .1 in
+        e .3 ∙ ap (λ (k : ℕ). steps rate k s) (elim (ℕ-discrete c n) [
+          | yes z ↦ z
+          | no z ↦ let q = (counts rate s b) .last (e .0) (omega arith) (omega (arith, small, d)) (e .2) .0 in absurd (z (omega (arith, small, d, q)))
+        ])
+    by (refused r) e = absurd (subst (λ (m : Moved). Whole (m .how)) (e .1) ((counts rate s b) .whole c (omega arith) (let f = e .0 in omega (arith, f))))

@@ -5,18 +5,16 @@ use mathlib.Core.Path.{_≡_, refl, ap, subst, _∙_}
 use mathlib.Core.List.{List, [], _∷_, _++_}
 use native.Mathlib.Omega.{arith}
 use lib.ListN.{length}
-use lib.Ieee.{Float}
 use Rattle.halting.specs.Every.{All}
 use Rattle.model.specs.Grid.{cells}
 use Rattle.model.specs.State.{State, grain, queue}
-use Rattle.model.specs.Doing.{Stepped, halted, Moved, Whole}
-use Rattle.model.specs.Run.{How, spent, refused, Ran, runFrom}
+use Rattle.model.specs.Run.{Ran, runFrom}
 use Rattle.model.specs.Start.{clear}
 use Rattle.model.specs.Check.{runAll}
-use Rattle.model.specs.Reached.{most, Call, after, Reached, StepOf, steps}
+use Rattle.model.specs.Reached.{most, Call, after, Reached, StepOf}
 use Rattle.model.specs.History.{History, history, places, dated, given, Led, NoneOld}
 use Rattle.model.specs.Missing.{NoneMissing, NothingElse}
-use Rattle.model.proofs.Counts.{Ended, counts, stepAt}
+use Rattle.model.proofs.Counts.{counts, state-at}
 use Rattle.model.proofs.Whole.{runs}
 use Rattle.model.proofs.Reached.{reached-well, counted-runs, steps-stand}
 use Rattle.model.proofs.True.{history-true, velocity-given, PutBy, put-by, Distinct, distinct}
@@ -45,34 +43,6 @@ pub reached-said : (s : State) (r : Reached s) → s .mark ≡ 0 → Said (histo
 reached-said s r m = record { led = history-true s r m; velocity = velocity-given s r m; pending = all-told s r m; put = put-by (history s r); distinct = distinct (history s r); none-old = none-old s r m; none-missing = none-missing s r m; nothing-else = nothing-else s r m }
 
 -- ---- each state between the steps of a run is reached
--- a run of n steps of a longer one, of which they were whole
-short : (rate : Float) (s : State) (b n : ℕ) → n < (runFrom rate b 0 s) .count → (runFrom rate (suc n) 0 s) .state ≡ steps rate (suc n) s
-short rate s b n N = by ((runFrom rate (suc n) 0 s) .how) refl
-  where
-    k : ℕ
-    k = (runFrom rate (suc n) 0 s) .count
-
-    u : State
-    u = (runFrom rate (suc n) 0 s) .state
-
-    ended : (x : How) → (runFrom rate (suc n) 0 s) .how ≡ x → Ended rate s (suc n) x ((runFrom rate (suc n) 0 s) .count) ((runFrom rate (suc n) 0 s) .state)
-    ended x e = subst (λ (y : How). Ended rate s (suc n) y ((runFrom rate (suc n) 0 s) .count) ((runFrom rate (suc n) 0 s) .state)) e (counts rate s (suc n) .ended)
-
-    not-halted : (x : Stepped) (r : ℕ) → x ≡ halted r → Whole x → ⊥
-    not-halted x r e w = subst Whole e w
-
-    by : (x : How) → (runFrom rate (suc n) 0 s) .how ≡ x → (runFrom rate (suc n) 0 s) .state ≡ steps rate (suc n) s
-    by spent e = let w = ended spent e in w .1 ∙ ap (λ (j : ℕ). steps rate j s) (w .0)
-    by How.synchronised e =
-        let w = ended How.synchronised e in
-        let small = counts rate s (suc n) .small in
-        let q = counts rate s b .last (w .0) (omega arith) (let a = w .1 in omega (arith, a, small)) (w .2) in
-        let z : (runFrom rate (suc n) 0 s) .count ≡ suc n = let a = w .1 in let c = q .0 in omega (arith, a, c, small) in
-        w .3 ∙ ap (λ (j : ℕ). steps rate j s) z
-    by (refused r) e =
-        let w = ended (refused r) e in
-        absurd (not-halted ((stepAt rate s ((runFrom rate (suc n) 0 s) .count)) .how) r (ap (λ (m : Moved). m .how) (w .1)) (counts rate s b .whole ((runFrom rate (suc n) 0 s) .count) (omega arith) (let a = w .0 in omega (arith, a))))
-
 after-more : (ks : List Call) (k : Call) (s : State) → after (ks ++ k ∷ []) s ≡ (runAll (k .rate) (k .budget) (after ks s)) .state
 unfolding after
 after-more [] k s = refl
@@ -86,7 +56,7 @@ step-reached u v t =
     let go : (b : ℕ) → runAll (k .rate) b (t .from) ≡ runFrom (k .rate) b 0 (t .from) = λ b. runs (k .rate) b (t .from) (w .0) (w .1) in
     let N : t .n < (runFrom (k .rate) (k .budget) 0 (t .from)) .count = rw (← go (k .budget)) (t .counted) in
     let small : suc (t .n) ≤ most = let a = counts (k .rate) (t .from) (k .budget) .small in let b = k .small in omega (arith, a, b, N) in
-    let there : (runAll (k .rate) (suc (t .n)) (t .from)) .state ≡ v = ap (λ (x : Ran). x .state) (go (suc (t .n))) ∙ short (k .rate) (t .from) (k .budget) (t .n) N ∙ t .after′ in (
+    let there : (runAll (k .rate) (suc (t .n)) (t .from)) .state ≡ v = ap (λ (x : Ran). x .state) (go (suc (t .n))) ∙ state-at (k .rate) (t .from) (k .budget) (suc (t .n)) N ∙ t .after′ in (
       record {
         box = r .box;
         fits = r .fits;

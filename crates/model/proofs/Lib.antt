@@ -15,13 +15,14 @@ pub mod Forgets
 pub mod Born
 pub mod Starred
 -- What is said over the history of acts (Histories): no event from an old velocity (NoneOld), none missing (Watched), nothing else pending (NothingElse), and that the history is
--- true (True), with velocities that only turns change (Velocities); computed on two runs (Stake, Tested).
+-- true (True), with velocities that only turns change (Velocities); computed on two runs (Stake, Tested; Exhibits).
 pub mod Histories
 pub mod NoneOld
 pub mod Watched
 pub mod NothingElse
 pub mod True
 pub mod Velocities
+pub mod Exhibits
 pub mod Stake
 pub mod Tested
 -- Laws of histories: what is pending by them (Told), the induction over steps and runs (Along), grains made free of events (Renews), tries at the clock (AtClock), of a rule (Tries),

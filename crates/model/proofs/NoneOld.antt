@@ -12,6 +12,7 @@ use lib.Ieee.{Float}
 use borrow.Author.Tests.{eqb-true}
 use Rattle.halting.specs.Every.{All}
 use Rattle.halting.proofs.Bools.{differ}
+use Rattle.halting.proofs.All.{all-to}
 use Rattle.model.specs.declared.Domain.{Domain}
 use Rattle.model.specs.declared.Particle.{Particle}
 use Rattle.model.specs.declared.Place.{Place}
@@ -53,13 +54,17 @@ module _ (n g : ℕ) where
   row-fresh = done-keeps (Calm g) (Fresh n g) (λ a s h c z f. fresh-on (did a) h c f)
 
 -- ---- where no pending event names g
-free-all : (g : ℕ) (P : Dated → Type 0) (l : List Dated) → All (λ e. names (eventOf (e .kind) e) g ≡ false) (places l) → All (λ d. namedBy d g ≡ true → P d) l
+unnamed-all : (g : ℕ) (l : List Dated) → All (λ e. names (eventOf (e .kind) e) g ≡ false) (places l) → All (λ d. namedBy d g ≡ false) l
 unfolding places
-free-all g P [] a = tt
-free-all g P (x ∷ xs) a = (λ m. differ m (a .0), free-all g P xs (a .1))
+unnamed-all g [] a = tt
+unnamed-all g (x ∷ xs) a = (a .0, unnamed-all g xs (a .1))
+
+pub free-dated : (g c : ℕ) (h : History) (s : State) → Tells h s → c < length (s .queues) → Free g c s → All (λ d. namedBy d g ≡ false) (dated h c)
+free-dated g c h s t C f = unnamed-all g (dated h c) (subst (λ (l : List Place). All (λ e. names (eventOf (e .kind) e) g ≡ false) l) (sym (t .queues c C)) f)
 
 nowhere-fresh : (n g : ℕ) (h : History) (s : State) → Tells h s → n ≤ length (s .queues) → ((c : ℕ) → c < n → Free g c s) → Fresh n g h
-nowhere-fresh n g h s t N f c C = free-all g (λ d. turned h g < d .by) (dated h c) (subst (λ (l : List Place). All (λ e. names (eventOf (e .kind) e) g ≡ false) l) (sym (t .queues c (omega arith))) (f c C))
+nowhere-fresh n g h s t N f c C =
+    all-to (λ d. namedBy d g ≡ false) (λ d. namedBy d g ≡ true → turned h g < d .by) (dated h c) (λ d e m. differ m e) (free-dated g c h s t (omega arith) (f c C))
 
 -- ---- a reflection and a collision
 module _ (n g p : ℕ) (x : Particle) (s : State) (h : History) (sound : Sound s) (t : Tells h s) (N : n ≡ cells (s .box)) (P : p < length (s .grains)) (X : x .time ≡ s .clock) where

@@ -4,7 +4,7 @@ use Prim.Native.Nat.{ℕ, _+_, _<_}
 use mathlib.Core.Path.{_≡_, refl, sym, ap, subst, _∙_}
 use mathlib.Core.Logic.{_⊎_, inl, inr}
 use mathlib.Core.List.{List, [], _∷_}
-use mathlib.Core.Bool.{Bool, true, false, _&&_, _||_, cond, or-true}
+use mathlib.Core.Bool.{Bool, true, false, _&&_, _||_, cond}
 use native.Mathlib.Omega.{arith}
 use lib.Dec.{eqb}
 use lib.ListN.{length}
@@ -17,7 +17,6 @@ use Rattle.halting.proofs.Bools.{differ}
 use Rattle.halting.proofs.All.{all-to, all-always}
 use Rattle.model.specs.declared.Domain.{Domain}
 use Rattle.model.specs.declared.Particle.{Particle}
-use Rattle.model.specs.declared.Place.{Place}
 use Rattle.model.specs.declared.Event.{Event}
 use Rattle.model.specs.declared.Event.the-variants.{InterParticleCollision, MoveToNeighbour, MoveOutOfCell, WallReflection, Synchronisation}
 use Rattle.model.specs.Grid.{cells}
@@ -36,10 +35,10 @@ use Rattle.model.specs.History.{did, took, History, done, Dated, namedBy
 use Rattle.model.specs.Missing.{Owes, Owed, NothingElse}
 use Rattle.model.proofs.Along.{Parts, begin-box, placed, placing, Opened, reached-along}
 use Rattle.model.proofs.Cases.{enter-case}
-use Rattle.model.proofs.Forgets.{Free, unnamed}
+use Rattle.model.proofs.Forgets.{unnamed}
 use Rattle.model.proofs.Frame.{Keeps, keeps-on, store-keeps, cancelled-keeps, same-clock, in-cell, in-home, enter-goes, enter-in}
 use Rattle.model.proofs.Lists.{has-entered, has-left}
-use Rattle.model.proofs.NoneOld.{goes-empty}
+use Rattle.model.proofs.NoneOld.{free-dated, goes-empty}
 use Rattle.model.proofs.Performs.{is-one, execute-is}
 use Rattle.model.proofs.Plans.{cells-some}
 use Rattle.model.proofs.Renews.{Settles, settled-keeps, reflects, wall-renewed, collides, collision-renewed}
@@ -47,14 +46,14 @@ use Rattle.model.proofs.Schedule.{collision-goes, wall-goes}
 use Rattle.model.proofs.Scheduled.{SameLists, row-lists, mild-schedule, mild-init, mild-step, Mild}
 use Rattle.model.proofs.Steps.{taken-syncs}
 use Rattle.model.proofs.Told.{Tells, one-whole, one-told, every-before, every-turn}
-use Rattle.model.proofs.Watched.{enter-done, leave-done}
+use Rattle.model.proofs.Watched.{concerns-by, enter-done, leave-done}
 use Rattle.model.proofs.Asked.{Mine, AllMine, Clean, mine-quiet, mine-enter, mine-lists, clean-by, clean-free}
 use Rattle.model.proofs.Orderly.{Orderly, Either, Just, Asking, Again, asking-by, asking-within, asking-owes, orderly-mine, orderly-before, orderly-turn, schedule-orderly, again-orderly, init-orderly, steps-turn}
 
 -- ---- what cells owe by other lists
 owes-more : (s u : State) (c : ℕ) (r : Rule) → ((g : ℕ) → within r g ≡ true → has g (listed s c) ≡ true → has g (listed u c) ≡ true) → Owes s c r → Owes u c r
-owes-more s u c (pair p q) f o = (f p (rw (eq-eqb p p refl)) (o .0), f q (rw (eq-eqb q q refl) (or-true (eqb p q))) (o .1), o .2)
-owes-more s u c (bound b p d) f o = (f p (eq-eqb p p refl) (o .0), o .1)
+owes-more s u c (pair p q) f o = concerns-by u s c (pair p q) f o
+owes-more s u c (bound b p d) f o = concerns-by u s c (bound b p d) f o
 owes-more s u c sync f o = o
 
 module _ (n : ℕ) (s : State) (h : History) (mine : AllMine n s h) where
@@ -70,15 +69,6 @@ module _ (n : ℕ) (s : State) (h : History) (mine : AllMine n s h) where
   settle-mine (cancelling g c) e = mine-quiet n s h mine (did (cancelling g c)) (λ k r. refl) (λ i k. refl)
   settle-mine (entering g c) e = absurd e
   settle-mine (leaving g c) e = absurd e
-
--- ---- where no pending event names a grain
-unnamed-all : (g : ℕ) (l : List Dated) → All (λ e. names (eventOf (e .kind) e) g ≡ false) (places l) → All (λ d. namedBy d g ≡ false) l
-unfolding places
-unnamed-all g [] a = tt
-unnamed-all g (x ∷ xs) a = (a .0, unnamed-all g xs (a .1))
-
-free-dated : (g c : ℕ) (h : History) (s : State) → Tells h s → c < length (s .queues) → Free g c s → All (λ d. namedBy d g ≡ false) (dated h c)
-free-dated g c h s t C f = unnamed-all g (dated h c) (subst (λ (l : List Place). All (λ e. names (eventOf (e .kind) e) g ≡ false) l) (sym (t .queues c C)) f)
 
 -- ---- a grain is scheduled in all its cells, where nothing names it
 module _ (n : ℕ) (s : State) (sound : Sound s) (N : n ≡ cells (s .box)) where

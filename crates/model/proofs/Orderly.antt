@@ -11,7 +11,9 @@ use Rattle.halting.proofs.Bools.{differ}
 use Rattle.model.specs.State.{State, Row, liveAt, grain, home, listed, has}
 use Rattle.model.specs.Standing.{Once}
 use Rattle.model.specs.Doing.{others}
-use Rattle.model.specs.Rows.{within, Bound, entry, exit, reflection, Rule, pair, bound, sync, Act, moving, turning, trying, cancelling, entering, leaving, perform, Acts, ended, act, before, _⨟_, ofEach, inTurn, stepping, colliding, finding, bounding, scheduling, reschedules, pairing, firstSync, initiates}
+use Rattle.model.specs.declared.Bound.{Bound}
+use Rattle.model.specs.declared.Bound.the-variants.{ToNeighbour, OutOfCell, Wall}
+use Rattle.model.specs.Rows.{within, Rule, pair, bound, sync, Act, moving, turning, trying, cancelling, entering, leaving, perform, Acts, ended, act, before, _⨟_, ofEach, inTurn, stepping, colliding, finding, bounding, scheduling, reschedules, pairing, firstSync, initiates}
 use Rattle.model.specs.History.{did, History, onto, done}
 use Rattle.model.specs.Missing.{asker, Owes}
 use Rattle.model.proofs.Schedule.{has-others}
@@ -147,6 +149,17 @@ second (pair p q) = q
 second (bound b p d) = 0
 second sync = 0
 
+-- a bound's is neither a pair's nor the synchronisation's
+not-pair : {p d i j : ℕ} (b : Bound) → bound b p d ≡ pair i j → ⊥
+not-pair ToNeighbour q = let e = ap kindOf q in omega (arith, e)
+not-pair OutOfCell q = let e = ap kindOf q in omega (arith, e)
+not-pair Wall q = let e = ap kindOf q in omega (arith, e)
+
+not-sync : {p d : ℕ} (b : Bound) → bound b p d ≡ sync → ⊥
+not-sync ToNeighbour q = let e = ap kindOf q in omega (arith, e)
+not-sync OutOfCell q = let e = ap kindOf q in omega (arith, e)
+not-sync Wall q = let e = ap kindOf q in omega (arith, e)
+
 -- one rule in one cell; a bound of p; a pair of p and another that the cell lists
 abbrev pub Just : ℕ → Rule → ℕ → Rule → Type 0
 Just c o k r = (k ≡ c) × (r ≡ o)
@@ -195,9 +208,9 @@ module _ (s₀ : State) where
   -- ---- schedule_events
   bounds-orderly : (c p : ℕ) (s : State) → SameLists s₀ s → Orderly s₀ (λ k r. (k ≡ c) × BoundOf p r) (bounding c p s)
   bounds-orderly c p s l =
-      orderly-to s₀ (bounding c p s) (Either (Loop entry) (Either (Loop exit) (Loop reflection))) (λ k r. (k ≡ c) × BoundOf p r) on
-      (orderly-before s₀ (inTurn (finding entry c p) 2 0 s) (inTurn (finding exit c p) 2 0 ⨟ inTurn (finding reflection c p) 2 0) (Loop entry) (Either (Loop exit) (Loop reflection)) s l (loop entry s l)
-      (λ u m. orderly-before s₀ (inTurn (finding exit c p) 2 0 u) (inTurn (finding reflection c p) 2 0) (Loop exit) (Loop reflection) u m (loop exit u m) (loop reflection) (λ k r a b. let e = ap kindOf (sym (a .3 .1) ∙ b .3 .1) in omega (arith, e)))
+      orderly-to s₀ (bounding c p s) (Either (Loop ToNeighbour) (Either (Loop OutOfCell) (Loop Wall))) (λ k r. (k ≡ c) × BoundOf p r) on
+      (orderly-before s₀ (inTurn (finding ToNeighbour c p) 2 0 s) (inTurn (finding OutOfCell c p) 2 0 ⨟ inTurn (finding Wall c p) 2 0) (Loop ToNeighbour) (Either (Loop OutOfCell) (Loop Wall)) s l (loop ToNeighbour s l)
+      (λ u m. orderly-before s₀ (inTurn (finding OutOfCell c p) 2 0 u) (inTurn (finding Wall c p) 2 0) (Loop OutOfCell) (Loop Wall) u m (loop OutOfCell u m) (loop Wall) (λ k r a b. let e = ap kindOf (sym (a .3 .1) ∙ b .3 .1) in omega (arith, e)))
       first)
     where
       Loop : Bound → ℕ → Rule → Type 0
@@ -208,14 +221,14 @@ module _ (s₀ : State) where
           orderly-turn s₀ (finding b c p) (λ d. Just c (bound b p d)) (λ x y k r a e. ap direction (sym (a .1) ∙ e .1)) 2 0 u
           (λ d v y q. (bound-fits b d (v .box) (v .clock) c p (grain v p), (refl, refl), λ w z. tt)) m
 
-      first : (k : ℕ) (r : Rule) → OfTurn (λ d. Just c (bound entry p d)) 2 0 k r → Either (OfTurn (λ d. Just c (bound exit p d)) 2 0) (OfTurn (λ d. Just c (bound reflection p d)) 2 0) k r → ⊥
+      first : (k : ℕ) (r : Rule) → OfTurn (λ d. Just c (bound ToNeighbour p d)) 2 0 k r → Either (OfTurn (λ d. Just c (bound OutOfCell p d)) 2 0) (OfTurn (λ d. Just c (bound Wall p d)) 2 0) k r → ⊥
       first k r a (inl b) = let e = ap kindOf (sym (a .3 .1) ∙ b .3 .1) in omega (arith, e)
       first k r a (inr b) = let e = ap kindOf (sym (a .3 .1) ∙ b .3 .1) in omega (arith, e)
 
-      on : (k : ℕ) (r : Rule) → Either (OfTurn (λ d. Just c (bound entry p d)) 2 0) (Either (OfTurn (λ d. Just c (bound exit p d)) 2 0) (OfTurn (λ d. Just c (bound reflection p d)) 2 0)) k r → (k ≡ c) × BoundOf p r
-      on k r (inl a) = (a .3 .0, (entry, a .0, a .2, a .3 .1))
-      on k r (inr (inl a)) = (a .3 .0, (exit, a .0, a .2, a .3 .1))
-      on k r (inr (inr a)) = (a .3 .0, (reflection, a .0, a .2, a .3 .1))
+      on : (k : ℕ) (r : Rule) → Either (OfTurn (λ d. Just c (bound ToNeighbour p d)) 2 0) (Either (OfTurn (λ d. Just c (bound OutOfCell p d)) 2 0) (OfTurn (λ d. Just c (bound Wall p d)) 2 0)) k r → (k ≡ c) × BoundOf p r
+      on k r (inl a) = (a .3 .0, (ToNeighbour, a .0, a .2, a .3 .1))
+      on k r (inr (inl a)) = (a .3 .0, (OutOfCell, a .0, a .2, a .3 .1))
+      on k r (inr (inr a)) = (a .3 .0, (Wall, a .0, a .2, a .3 .1))
 
   collisions-orderly : (c p : ℕ) (qs : List ℕ) (s : State) → Once qs → SameLists s₀ s → Orderly s₀ (OfOne (λ q. Just c (pair p q)) qs) (ofEach (colliding c p) qs s)
   collisions-orderly c p qs s o l =
@@ -234,16 +247,11 @@ module _ (s₀ : State) where
       (orderly-to s₀ ((ofEach stepping qs ⨟ ofEach (colliding c p) qs ⨟ bounding c p) s) (Either (λ k r. ⊥) (Either (OfOne (λ q. Just c (pair p q)) qs) (λ k r. (k ≡ c) × BoundOf p r))) (Asking (listed s₀ c) p c) on
       (orderly-before s₀ (ofEach stepping qs s) (ofEach (colliding c p) qs ⨟ bounding c p) (λ k r. ⊥) (Either (OfOne (λ q. Just c (pair p q)) qs) (λ k r. (k ≡ c) × BoundOf p r)) s l (steps-orderly qs s l)
       (λ u m. orderly-before s₀ (ofEach (colliding c p) qs u) (bounding c p) (OfOne (λ q. Just c (pair p q)) qs) (λ k r. (k ≡ c) × BoundOf p r) u m
-      (collisions-orderly c p qs u (others-once p (listed s₀ c) o) m) (bounds-orderly c p) (λ k r a b. kinds (b .1 .0) (b .1 .1) (sym (a .2 .1) ∙ b .1 .3)))
+      (collisions-orderly c p qs u (others-once p (listed s₀ c) o) m) (bounds-orderly c p) (λ k r a b. not-pair (b .1 .0) (sym (b .1 .3) ∙ a .2 .1)))
       (λ k r a b. a)))
     where
       qs : List ℕ
       qs = others p (listed s₀ c)
-
-      kinds : {q : ℕ} (b : Bound) (d : ℕ) → pair p q ≡ bound b p d → ⊥
-      kinds entry d q = let e = ap kindOf q in omega (arith, e)
-      kinds exit d q = let e = ap kindOf q in omega (arith, e)
-      kinds reflection d q = let e = ap kindOf q in omega (arith, e)
 
       on : (k : ℕ) (r : Rule) → Either (λ k r. ⊥) (Either (OfOne (λ q. Just c (pair p q)) (others p (listed s₀ c))) (λ k r. (k ≡ c) × BoundOf p r)) k r → Asking (listed s₀ c) p c k r
       on k r (inl a) = absurd a
@@ -288,7 +296,7 @@ module _ (s₀ : State) where
       (subst (λ (x : List ℕ). Orderly s₀ Pairs (pairing c x u)) (sym (lists u m)) (pairs-orderly c (listed s₀ c) u o m))
       (λ w q. subst (λ (x : List ℕ). Orderly s₀ Bounds (ofEach (bounding c) x w)) (sym (lists w q))
       (orderly-each s₀ (bounding c) (λ p k r. (k ≡ c) × BoundOf p r) (λ x y k r a b. ap asker (sym (a .1 .3) ∙ b .1 .3)) (listed s₀ c) w (λ p v h y. bounds-orderly c p v y) o q))
-      (λ k r a b. not-bound (b .2 .1 .0) (sym (b .2 .1 .3) ∙ a .1 .2 .3)))
+      (λ k r a b. not-pair (b .2 .1 .0) (sym (b .2 .1 .3) ∙ a .1 .2 .3)))
       first)
     where
       Syncs : ℕ → Rule → Type 0
@@ -302,16 +310,6 @@ module _ (s₀ : State) where
 
       lists : (u : State) → SameLists s₀ u → listed u c ≡ listed s₀ c
       lists u m = ap (λ (x : List (Row ℕ)). liveAt x c) (m .0)
-
-      not-bound : {p d i j : ℕ} (b : Bound) → bound b p d ≡ pair i j → ⊥
-      not-bound entry q = let e = ap kindOf q in omega (arith, e)
-      not-bound exit q = let e = ap kindOf q in omega (arith, e)
-      not-bound reflection q = let e = ap kindOf q in omega (arith, e)
-
-      not-sync : {p d : ℕ} (b : Bound) → bound b p d ≡ sync → ⊥
-      not-sync entry q = let e = ap kindOf q in omega (arith, e)
-      not-sync exit q = let e = ap kindOf q in omega (arith, e)
-      not-sync reflection q = let e = ap kindOf q in omega (arith, e)
 
       first : (k : ℕ) (r : Rule) → (k ≡ c) × (c ≡ 0) × (r ≡ sync) → Either (λ k r. (k ≡ c) × ((p : ℕ) × (has p (listed s₀ c) ≡ true) × PairOf (listed s₀ c) p r)) (OfOne (λ p k r. (k ≡ c) × BoundOf p r) (listed s₀ c)) k r → ⊥
       first k r a (inl b) = let e = ap kindOf (sym (a .2) ∙ b .1 .2 .3) in omega (arith, e)

@@ -23,7 +23,10 @@ use Rattle.model.specs.State.{State, zeroG, grain, home, listed}
 use Rattle.model.specs.Acts.{store, insert, inserted, enter, entered, leave, gone}
 use Rattle.model.specs.Doing.{others, stepGrain, scheduleCollision, scheduleBy, boundaries, scheduleWith, scheduleEvents, landed, again, forget, doCollision, doNeighbour, doOut, doWall, doSync, execute}
 use Rattle.model.specs.Start.{clear, goesIn, pairs, syncIn, initCell, begin}
-use Rattle.model.specs.Rows.{Bound, entry, exit, reflection, pair, finder, Act, moving, turning, trying, cancelling, entering, leaving, perform, Acts, ended, act, doing, only, before, _⨟_, ofEach, inTurn, stepping, colliding, finding, bounding, scheduling, reschedules, forgets, syncing, actsOf, goes, pairing, firstSync, initiates, startActs}
+use Rattle.model.specs.declared.Bound.{Bound}
+use Rattle.model.specs.declared.Bound.the-variants.{ToNeighbour, OutOfCell, Wall}
+use Rattle.model.specs.Rows.{pair, finder, Act, moving, turning, trying, cancelling, entering, leaving, perform, Acts, ended, act, doing, only, before, _⨟_, ofEach, inTurn}
+use Rattle.model.specs.Rows.{stepping, colliding, finding, bounding, scheduling, reschedules, forgets, syncing, actsOf, goes, pairing, firstSync, initiates, startActs}
 use Rattle.model.proofs.Cases.{store-case, insert-case, enter-case, leave-case}
 
 -- these acts, one after another, were done and led from s to u
@@ -143,7 +146,7 @@ find-is : (b : Bound) (c p d : ℕ) → Is (scheduleBy (finder b) c p d) (findin
 find-is b c p d = record { same = λ s. is-one (trying c _ (finder b d (s .box) (s .clock) c p (grain s p))) .same s }
 
 boundaries-is : (c p : ℕ) → Is (boundaries c p) (bounding c p)
-boundaries-is c p = record { same = λ s. unfold boundaries in is-then (is-turns (find-is entry c p) 2 0) (is-then (is-turns (find-is exit c p) 2 0) (is-turns (find-is reflection c p) 2 0)) .same s }
+boundaries-is c p = record { same = λ s. unfold boundaries in is-then (is-turns (find-is ToNeighbour c p) 2 0) (is-then (is-turns (find-is OutOfCell c p) 2 0) (is-turns (find-is Wall c p) 2 0)) .same s }
 
 schedule-is : (p c : ℕ) → Is (scheduleEvents p c) (scheduling p c)
 schedule-is p c = record { same = λ s. unfold scheduleEvents scheduleWith in is-then (is-each step-is (others p (listed s c))) (is-then (is-each (collide-is c p) (others p (listed s c))) (boundaries-is c p)) .same s }

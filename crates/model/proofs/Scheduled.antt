@@ -27,7 +27,9 @@ use Rattle.model.specs.Periodic as Periodic
 use Rattle.model.specs.Collision.{collide, planned, collision, struck}
 use Rattle.model.specs.Moves.{later, shut, toNeighbour, outOfCell}
 use Rattle.model.specs.Walls.{noWall, wall}
-use Rattle.model.specs.Rows.{Bound, entry, exit, reflection, Rule, pair, bound, sync, within, Act, moving, turning, trying, cancelling, entering, leaving, perform, Acts, ended, act, doing, only, _⨟_, ofEach, inTurn, finder, stepping, colliding, finding, bounding, scheduling, reschedules, pairing, firstSync, initiates}
+use Rattle.model.specs.declared.Bound.{Bound}
+use Rattle.model.specs.declared.Bound.the-variants.{ToNeighbour, OutOfCell, Wall}
+use Rattle.model.specs.Rows.{Rule, pair, bound, sync, within, Act, moving, turning, trying, cancelling, entering, leaving, perform, Acts, ended, act, doing, only, _⨟_, ofEach, inTurn, finder, stepping, colliding, finding, bounding, scheduling, reschedules, pairing, firstSync, initiates}
 use Rattle.model.specs.History.{History, done}
 use Rattle.model.specs.Missing.{sameRule, Concerns}
 use Rattle.model.proofs.Cases.{on-test, store-case, insert-case}
@@ -54,9 +56,9 @@ later-fits r t dt e f = on-test (Fits r) (le dt fzero) Nothing (due t dt e) (λ 
 
 pub bound-fits : (b : Bound) (d : ℕ) (box : Domain) (t : Float) (c p : ℕ) (x : Particle) → Fits (bound b p d) (finder b d box t c p x)
 unfolding toNeighbour outOfCell wall
-bound-fits entry d box t c p x = on-test (Fits (bound entry p d)) (shut d box c x) Nothing _ (λ h. tt) (λ h. later-fits (bound entry p d) t _ (MoveToNeighbour p _ _) (refl, λ g. refl))
-bound-fits exit d box t c p x = on-test (Fits (bound exit p d)) (shut d box c x) Nothing _ (λ h. tt) (λ h. later-fits (bound exit p d) t _ (MoveOutOfCell p _ _) (refl, λ g. refl))
-bound-fits reflection d box t c p x = on-test (Fits (bound reflection p d)) (noWall d box c x) Nothing _ (λ h. tt) (λ h. later-fits (bound reflection p d) t _ (WallReflection p _ _ _) (refl, λ g. refl))
+bound-fits ToNeighbour d box t c p x = on-test (Fits (bound ToNeighbour p d)) (shut d box c x) Nothing _ (λ h. tt) (λ h. later-fits (bound ToNeighbour p d) t _ (MoveToNeighbour p _ _) (refl, λ g. refl))
+bound-fits OutOfCell d box t c p x = on-test (Fits (bound OutOfCell p d)) (shut d box c x) Nothing _ (λ h. tt) (λ h. later-fits (bound OutOfCell p d) t _ (MoveOutOfCell p _ _) (refl, λ g. refl))
+bound-fits Wall d box t c p x = on-test (Fits (bound Wall p d)) (noWall d box c x) Nothing _ (λ h. tt) (λ h. later-fits (bound Wall p d) t _ (WallReflection p _ _ _) (refl, λ g. refl))
 
 -- ---- rows of moves and tries
 abbrev pub Mild : Act → Type 0
@@ -69,8 +71,8 @@ Mild (leaving i k) = ⊥
 
 pub mild-bound : (c p : ℕ) (s : State) → Every Mild (bounding c p s)
 mild-bound c p s =
-    every-before Mild _ _ s (every-turn Mild (finding entry c p) 2 0 s (one′ entry))
-    (λ u. every-before Mild _ _ u (every-turn Mild (finding exit c p) 2 0 u (one′ exit)) (λ v. every-turn Mild (finding reflection c p) 2 0 v (one′ reflection)))
+    every-before Mild _ _ s (every-turn Mild (finding ToNeighbour c p) 2 0 s (one′ ToNeighbour))
+    (λ u. every-before Mild _ _ u (every-turn Mild (finding OutOfCell c p) 2 0 u (one′ OutOfCell)) (λ v. every-turn Mild (finding Wall c p) 2 0 v (one′ Wall)))
   where
     one′ : (b : Bound) (d : ℕ) (u : State) → Every Mild (finding b c p d u)
     one′ b d u = (bound-fits b d (u .box) (u .clock) c p (grain u p), λ v. tt)
@@ -189,16 +191,16 @@ Any s = Unit {0}
 -- the bounds of p, in both directions
 pub bounds-made : (c p : ℕ) (s : State) (h : History) → (doing (bounding c p s) s) .num ≡ 0 → (b : Bound) (d : ℕ) → d < 2 → Kept (done (bounding c p s) s h) c (bound b p d)
 bounds-made c p s h z b d D =
-    let t = then-whole (inTurn (finding entry c p) 2 0 s) (inTurn (finding exit c p) 2 0 ⨟ inTurn (finding reflection c p) 2 0) s h z in
-    let u = (doing (inTurn (finding entry c p) 2 0 s) s) .st in
-    let h1 = done (inTurn (finding entry c p) 2 0 s) s h in
-    let v = then-whole (inTurn (finding exit c p) 2 0 u) (inTurn (finding reflection c p) 2 0) u h1 (t .second) in
-    let w = (doing (inTurn (finding exit c p) 2 0 u) u) .st in
-    let h2 = done (inTurn (finding exit c p) 2 0 u) u h1 in
-    rw (t .told, v .told) (pick b (done (inTurn (finding reflection c p) 2 0 w) w h2)
-    (row-mild c (bound entry p d) (inTurn (finding reflection c p) 2 0 w) w h2 (rows reflection w) (row-mild c (bound entry p d) (inTurn (finding exit c p) 2 0 u) u h1 (rows exit u) (loop entry s h (t .first))))
-    (row-mild c (bound exit p d) (inTurn (finding reflection c p) 2 0 w) w h2 (rows reflection w) (loop exit u h1 (v .first)))
-    (loop reflection w h2 (v .second)))
+    let t = then-whole (inTurn (finding ToNeighbour c p) 2 0 s) (inTurn (finding OutOfCell c p) 2 0 ⨟ inTurn (finding Wall c p) 2 0) s h z in
+    let u = (doing (inTurn (finding ToNeighbour c p) 2 0 s) s) .st in
+    let h1 = done (inTurn (finding ToNeighbour c p) 2 0 s) s h in
+    let v = then-whole (inTurn (finding OutOfCell c p) 2 0 u) (inTurn (finding Wall c p) 2 0) u h1 (t .second) in
+    let w = (doing (inTurn (finding OutOfCell c p) 2 0 u) u) .st in
+    let h2 = done (inTurn (finding OutOfCell c p) 2 0 u) u h1 in
+    rw (t .told, v .told) (pick b (done (inTurn (finding Wall c p) 2 0 w) w h2)
+    (row-mild c (bound ToNeighbour p d) (inTurn (finding Wall c p) 2 0 w) w h2 (rows Wall w) (row-mild c (bound ToNeighbour p d) (inTurn (finding OutOfCell c p) 2 0 u) u h1 (rows OutOfCell u) (loop ToNeighbour s h (t .first))))
+    (row-mild c (bound OutOfCell p d) (inTurn (finding Wall c p) 2 0 w) w h2 (rows Wall w) (loop OutOfCell u h1 (v .first)))
+    (loop Wall w h2 (v .second)))
   where
     rows : (b : Bound) (u : State) → Every Mild (inTurn (finding b c p) 2 0 u)
     rows b u = every-turn Mild (finding b c p) 2 0 u (λ e v. (bound-fits b e (v .box) (v .clock) c p (grain v p), λ x. tt))
@@ -210,14 +212,14 @@ bounds-made c p s h z b d D =
         2 0 u k tt y d (omega arith) (omega arith)
       where
         self : (b : Bound) (p e : ℕ) → sameRule (bound b p e) (bound b p e) ≡ true
-        self entry p e = rw (eq-eqb p p refl, eq-eqb e e refl)
-        self exit p e = rw (eq-eqb p p refl, eq-eqb e e refl)
-        self reflection p e = rw (eq-eqb p p refl, eq-eqb e e refl)
+        self ToNeighbour p e = rw (eq-eqb p p refl, eq-eqb e e refl)
+        self OutOfCell p e = rw (eq-eqb p p refl, eq-eqb e e refl)
+        self Wall p e = rw (eq-eqb p p refl, eq-eqb e e refl)
 
-    pick : (b : Bound) (k : History) → Kept k c (bound entry p d) → Kept k c (bound exit p d) → Kept k c (bound reflection p d) → Kept k c (bound b p d)
-    pick entry k x y z = x
-    pick exit k x y z = y
-    pick reflection k x y z = z
+    pick : (b : Bound) (k : History) → Kept k c (bound ToNeighbour p d) → Kept k c (bound OutOfCell p d) → Kept k c (bound Wall p d) → Kept k c (bound b p d)
+    pick ToNeighbour k x y z = x
+    pick OutOfCell k x y z = y
+    pick Wall k x y z = z
 
 -- every rule about p that concerns cell c
 abbrev pub About : State → ℕ → ℕ → History → Type 0

@@ -43,7 +43,10 @@ abbrev pub box : Domain
 box = boxOf (vec (ofBits binary64 0x402299999999999a) (ofBits binary64 0x4023666666666666)) true false
 
 abbrev pub grains : List Particle
-grains = grainOf (vec (ofBits binary64 0x4010666666666666) (ofBits binary64 0x400199999999999a)) (vec (ofBits binary64 0x3fc0a3d70a3d70a4) (ofBits binary64 0x3ff199999999999a)) fzero (ofBits binary64 0x3fd3333333333333) ∷ grainOf (vec (ofBits binary64 0x401199999999999a) (ofBits binary64 0x4015333333333333)) (vec (ofBits binary64 0x3fb1eb851eb851ec) (ofBits binary64 0xbfeccccccccccccd)) fzero (ofBits binary64 0x3fe6666666666666) ∷ []
+grains =
+    grainOf (vec (ofBits binary64 0x4010666666666666) (ofBits binary64 0x400199999999999a)) (vec (ofBits binary64 0x3fc0a3d70a3d70a4) (ofBits binary64 0x3ff199999999999a)) fzero (ofBits binary64 0x3fd3333333333333) ∷
+    grainOf (vec (ofBits binary64 0x401199999999999a) (ofBits binary64 0x4015333333333333)) (vec (ofBits binary64 0x3fb1eb851eb851ec) (ofBits binary64 0xbfeccccccccccccd)) fzero (ofBits binary64 0x3fe6666666666666) ∷
+    []
 
 abbrev pub rate : Float
 rate = ofBits binary64 0x4014000000000000

@@ -12,7 +12,6 @@ use borrow.Author.Tests.{lt-ltb, eq-eqb, eqb-true}
 use lib.Count.{leadingZeros}
 use lib.ListN.{length, replicate}
 use lib.Ieee.{binary64, ofBits, round, add, sub, mul, div, neg, lt, le, eq, ofInt, toUnsigned}
-use lib.Ieee.Bits.{is-true}
 use Rattle.root.specs.Isqrt.{near, root}
 use Rattle.root.specs.Root.{rootOf, sqrtOf}
 use Rattle.halting.specs.Out.{each, eachOf}
@@ -40,15 +39,18 @@ use Rattle.model.specs.Start.{Begun, refused as turned-away, started, cl
 use Rattle.model.specs.Standing.{syncs}
 use Rattle.model.specs.Check.{all, sound, standing, runAll}
 use Rattle.model.specs.Reached.{Call, after, Reached, steps}
-use Rattle.model.specs.Rows.{Bound, entry, exit, reflection, Rule, pair, bound, sync, within, before, ofEach, inTurn, pairing}
-use Rattle.model.specs.History.{History, done, stepDone, stepsDone, callsDone, startDone, history, latest, turned, Dated, namedBy, insertDated, keepDated, dated, Later, NoneOld}
-use Rattle.model.specs.Missing.{entered, tried, latestPlan, found, executed, Among, Entry, Stays, Watched, NoneMissing}
-use Rattle.halting.proofs.Bools.{and-l, and-r}
+use Rattle.model.specs.declared.Bound.{Bound}
+use Rattle.model.specs.declared.Bound.the-variants.{ToNeighbour, OutOfCell, Wall}
+use Rattle.model.specs.Rows.{Rule, pair, bound, sync, within, before, ofEach, inTurn, pairing}
+use Rattle.model.specs.History.{History, done, stepDone, stepsDone, callsDone, startDone, history, latest, lastOf, turned, Dated, namedBy, insertDated, keepDated, dated, Later, NoneOld}
+use Rattle.model.specs.Missing.{entered, tried, found, executed, Among, Entry, Stays, Watched, NoneMissing}
+use Rattle.halting.proofs.Bools.{clash, and-l, and-r}
 use Rattle.halting.proofs.Tests.{every-true}
 use Rattle.model.proofs.Lists.{has-all}
 use Rattle.model.proofs.Queue.{T-of}
 use Rattle.model.proofs.Starred.{sameList, same-list}
 use Rattle.model.proofs.Shown.{box, grains, rate, box-fits}
+use Rattle.model.proofs.Exhibits.{both-passed}
 
 -- ---- 1. the claims as tests
 -- an event was put in after the last turn of each grain that it names, of n
@@ -74,9 +76,9 @@ numbers (d ∷ l) = d .by ∷ numbers l
 
 abbrev isEntry : Rule → Bool
 isEntry (pair p q) = false
-isEntry (bound entry p d) = true
-isEntry (bound exit p d) = false
-isEntry (bound reflection p d) = false
+isEntry (bound ToNeighbour p d) = true
+isEntry (bound OutOfCell p d) = false
+isEntry (bound Wall p d) = false
 isEntry sync = false
 
 abbrev stays : History → ℕ → ℕ → Rule → Plan → Bool
@@ -93,7 +95,7 @@ pairsWatched h c [] = true
 pairsWatched h c (p ∷ l) = all (λ q. eqb p q || watched h c (pair p q)) l && pairsWatched h c l
 
 abbrev boundsWatched : History → ℕ → ℕ → Bool
-boundsWatched h c p = every (λ d. watched h c (bound entry p d) && (watched h c (bound exit p d) && watched h c (bound reflection p d))) 2 0
+boundsWatched h c p = every (λ d. watched h c (bound ToNeighbour p d) && (watched h c (bound OutOfCell p d) && watched h c (bound Wall p d))) 2 0
 
 abbrev pub noneMissing : History → State → Bool
 noneMissing h s = every (λ c. pairsWatched h c (listed s c) && all (boundsWatched h c) (listed s c)) (cells (s .box)) 0
@@ -143,9 +145,9 @@ module _ (h : History) (c : ℕ) where
 
   entry-is : (r : Rule) → Entry r → isEntry r ≡ true
   entry-is (pair p q) e = absurd e
-  entry-is (bound entry p d) e = refl
-  entry-is (bound exit p d) e = absurd e
-  entry-is (bound reflection p d) e = absurd e
+  entry-is (bound ToNeighbour p d) e = refl
+  entry-is (bound OutOfCell p d) e = absurd e
+  entry-is (bound Wall p d) e = absurd e
   entry-is sync e = absurd e
 
   stays-passes : (r : Rule) (x : Plan) → Stays h c r x → stays h c (tried h c r) r x ≡ true
@@ -165,7 +167,7 @@ module _ (h : History) (c : ℕ) where
       (pairs-pass l (λ x y a b e. k x y (rw a (or-true (eqb x p))) (rw b (or-true (eqb y p))) e))
 
   bounds-pass : (p : ℕ) → ((b : Bound) (d : ℕ) → d < 2 → Watched h c (bound b p d)) → boundsWatched h c p ≡ true
-  bounds-pass p k = below _ 2 (λ d m. rw (watched-passes (bound entry p d) (k entry d m), watched-passes (bound exit p d) (k exit d m), watched-passes (bound reflection p d) (k reflection d m)))
+  bounds-pass p k = below _ 2 (λ d m. rw (watched-passes (bound ToNeighbour p d) (k ToNeighbour d m), watched-passes (bound OutOfCell p d) (k OutOfCell d m), watched-passes (bound Wall p d) (k Wall d m)))
 
 pub missing-passes : (h : History) (s : State) → NoneMissing h s → noneMissing h s ≡ true
 missing-passes h s k =
@@ -252,13 +254,9 @@ rowsOfThree =
     row (86 ∷ 60 ∷ 87 ∷ []) (99 ∷ []) [] ∷
     []
 
-computed-two : T (tested grains rowsOfTwo (start box 16 grains))
-unfolding round add sub mul div neg lt le eq ofInt toUnsigned ofBits rootOf sqrtOf near root leadingZeros across position insertBy keepBy goneBy finePlace newPos apart upFrom reached rows cellsOfGrain heads requeued has but fineGrain store insert cancelled enter leave taken later collision toNeighbour outOfCell wall eachOf others stepGrain boundaries scheduleWith scheduleEvents again forget doCollision doNeighbour doOut doWall doSync event step firstBad clear goesIn pairs initCell begin start each timeIn swapAt childIn down downshifted parentIn up upshifted updated numbered startHeap every syncs sound standing runFrom runAll steps before ofEach inTurn pairing done stepDone stepsDone startDone latest insertDated keepDated dated latestPlan executed
-computed-two = tt
-
-computed-three : T (tested three rowsOfThree (start box 16 three))
-unfolding round add sub mul div neg lt le eq ofInt toUnsigned ofBits rootOf sqrtOf near root leadingZeros across position insertBy keepBy goneBy finePlace newPos apart upFrom reached rows cellsOfGrain heads requeued has but fineGrain store insert cancelled enter leave taken later collision toNeighbour outOfCell wall eachOf others stepGrain boundaries scheduleWith scheduleEvents again forget doCollision doNeighbour doOut doWall doSync event step firstBad clear goesIn pairs initCell begin start each timeIn swapAt childIn down downshifted parentIn up upshifted updated numbered startHeap every syncs sound standing runFrom runAll steps before ofEach inTurn pairing done stepDone stepsDone startDone latest insertDated keepDated dated latestPlan executed
-computed-three = tt
+computed : T (tested grains rowsOfTwo (start box 16 grains) && tested three rowsOfThree (start box 16 three))
+unfolding round add sub mul div neg lt le eq ofInt toUnsigned ofBits rootOf sqrtOf near root leadingZeros across position insertBy keepBy goneBy finePlace newPos apart upFrom reached rows cellsOfGrain heads requeued has but fineGrain store insert cancelled enter leave taken later collision toNeighbour outOfCell wall eachOf others stepGrain boundaries scheduleWith scheduleEvents again forget doCollision doNeighbour doOut doWall doSync event step firstBad clear goesIn pairs initCell begin start each timeIn swapAt childIn down downshifted parentIn up upshifted updated numbered startHeap every syncs sound standing runFrom runAll steps before ofEach inTurn pairing done stepDone stepsDone startDone latest insertDated keepDated dated lastOf executed
+computed = tt
 
 -- ---- 5. a reached state that is not halted, after n events from these grains, in which both tests pass, with the numbers of a row
 abbrev one : Call
@@ -312,13 +310,13 @@ exhibit gs s e n r g =
       pending = same _ _ (k .1 .1 .1 .1 .1 .0);
     }
 
-exhibits : (gs : List Particle) (rs : List Row) (o : Begun) → start box 16 gs ≡ o → T (tested gs rs o) → Each (Exhibit gs) rs
-exhibits gs rs (turned-away r i) e t = absurd t
-exhibits gs rs (started s) e t = each-to _ (Exhibit gs) (exhibit gs s e) rs (each-good rs s (startDone box 16 gs) (is-true (tested gs rs (started s)) t))
+exhibits : (gs : List Particle) (rs : List Row) (o : Begun) → start box 16 gs ≡ o → tested gs rs o ≡ true → Each (Exhibit gs) rs
+exhibits gs rs (turned-away r i) e t = clash t
+exhibits gs rs (started s) e t = each-to _ (Exhibit gs) (exhibit gs s e) rs (each-good rs s (startDone box 16 gs) t)
 
 -- after 0 to 12 events, and after 0 to 6
 pub run-of-two : Each (Exhibit grains) rowsOfTwo
-run-of-two = exhibits grains rowsOfTwo (start box 16 grains) refl computed-two
+run-of-two = exhibits grains rowsOfTwo (start box 16 grains) refl (both-passed _ _ computed .0)
 
 pub run-of-three : Each (Exhibit three) rowsOfThree
-run-of-three = exhibits three rowsOfThree (start box 16 three) refl computed-three
+run-of-three = exhibits three rowsOfThree (start box 16 three) refl (both-passed (tested grains rowsOfTwo (start box 16 grains)) _ computed .1)

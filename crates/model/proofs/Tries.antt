@@ -16,17 +16,19 @@ use Rattle.model.specs.declared.Plan.{Plan}
 use Rattle.model.specs.declared.Plan.the-variants.{Nothing, Due, Refused}
 use Rattle.model.specs.Events.{placeOf, eventOf, names}
 use Rattle.model.specs.State.{State}
-use Rattle.model.specs.Rows.{Bound, entry, exit, reflection, Rule, pair, bound, sync, within, Act, moving, turning, trying, cancelling, entering, leaving, perform, Acts}
-use Rattle.model.specs.History.{Deed, did, took, History, done, latest, turns, Dated, dated-at, namedBy, insertDated, keepDated, putIn, dated}
-use Rattle.model.specs.Missing.{enters, sameBound, sameRule, tries, planOf, tried, latestPlan, found, headNumber, draws, executed, Among, Entry, Stays, Watched}
+use Rattle.model.specs.declared.Bound.{Bound}
+use Rattle.model.specs.declared.Bound.the-variants.{ToNeighbour, OutOfCell, Wall}
+use Rattle.model.specs.Rows.{Rule, pair, bound, sync, within, Act, moving, turning, trying, cancelling, entering, leaving, perform, Acts}
+use Rattle.model.specs.History.{Deed, did, took, History, done, latest, lastOf, turns, Dated, dated-at, namedBy, insertDated, keepDated, putIn, dated}
+use Rattle.model.specs.Missing.{enters, sameBound, sameRule, tries, planOf, tried, found, headNumber, draws, executed, Among, Entry, Stays, Watched}
 use Rattle.model.proofs.Told.{latest-below, Every, done-keeps}
 
 -- ---- what a rule finds is of its kind, and names the grains that the rule is about
 abbrev pub kindOf : Rule → ℕ
 kindOf (pair p q) = 1
-kindOf (bound entry p d) = 2
-kindOf (bound exit p d) = 3
-kindOf (bound reflection p d) = 4
+kindOf (bound ToNeighbour p d) = 2
+kindOf (bound OutOfCell p d) = 3
+kindOf (bound Wall p d) = 4
 kindOf sync = 5
 
 abbrev pub Fits : Rule → Plan → Type 0
@@ -46,15 +48,15 @@ same-fits r o Refused e f = tt
 same-fits r o (Due d) e f = (f .0 ∙ kinds r o e, λ g. f .1 g ∙ abouts r o e g)
   where
     bounds : (b x : Bound) (p i m n : ℕ) → (sameBound b x && (eqb p i && eqb m n)) ≡ true → kindOf (bound x i n) ≡ kindOf (bound b p m)
-    bounds entry entry p i m n e = refl
-    bounds entry exit p i m n e = clash e
-    bounds entry reflection p i m n e = clash e
-    bounds exit entry p i m n e = clash e
-    bounds exit exit p i m n e = refl
-    bounds exit reflection p i m n e = clash e
-    bounds reflection entry p i m n e = clash e
-    bounds reflection exit p i m n e = clash e
-    bounds reflection reflection p i m n e = refl
+    bounds ToNeighbour ToNeighbour p i m n e = refl
+    bounds ToNeighbour OutOfCell p i m n e = clash e
+    bounds ToNeighbour Wall p i m n e = clash e
+    bounds OutOfCell ToNeighbour p i m n e = clash e
+    bounds OutOfCell OutOfCell p i m n e = refl
+    bounds OutOfCell Wall p i m n e = clash e
+    bounds Wall ToNeighbour p i m n e = clash e
+    bounds Wall OutOfCell p i m n e = clash e
+    bounds Wall Wall p i m n e = refl
 
     kinds : (r o : Rule) → sameRule r o ≡ true → kindOf o ≡ kindOf r
     kinds (pair p q) (pair i j) e = refl
@@ -131,7 +133,7 @@ module _ (d : Deed) (h : History) (c : ℕ) (r : Rule) (other : tries c r d ≡ 
   same-tried = ap (λ (b : Bool). cond b (suc (length h)) (tried h c r)) other
 
   same-found : found (d ∷ h) c r ≡ found h c r
-  unfolding latestPlan
+  unfolding lastOf
   same-found = ap (λ (b : Bool). cond b (planOf d) (found h c r)) other
 
   stays-on : Held → (x : Plan) → Fits r x → Stays h c r x → Stays (d ∷ h) c r x
@@ -166,7 +168,7 @@ module _ (d : Deed) (h : History) (c : ℕ) (r : Rule) (other : tries c r d ≡ 
 
 -- a try that was done is watched from then on
 pub tried-now : (k : ℕ) (o : Rule) (x : Plan) (s : State) (h : History) (c : ℕ) (r : Rule) → tries c r (did (trying k o x)) ≡ true → Fits o x → (perform (trying k o x) s) .num ≡ 0 → Kept (did (trying k o x) ∷ h) c r
-unfolding latest latestPlan dated
+unfolding latest lastOf dated
 tried-now k o x s h c r e f z = record {
   watched = record {
     since = λ g i. let a = latest-below (turns g) h in let b = latest-below (enters g c) h in rw e (omega (arith, a), omega (arith, b));

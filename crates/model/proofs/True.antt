@@ -27,7 +27,7 @@ use Rattle.model.specs.Grid.{cells}
 use Rattle.model.specs.Start.{clear, begin}
 use Rattle.model.specs.Reached.{Reached}
 use Rattle.model.specs.Rows.{Rule, Act, moving, turning, trying, cancelling, entering, leaving, perform, Acts, ended, act, doing, actsOf, startActs}
-use Rattle.model.specs.History.{Deed, did, took, History, onto, done, stepDone, startDone, history, Dated, dated-at, insertDated, keepDated, change, dated, namedBy, given, Honest, Led}
+use Rattle.model.specs.History.{Deed, did, took, History, onto, done, stepDone, startDone, history, Dated, dated-at, insertDated, keepDated, change, dated, namedBy, lastOf, given, Honest, Led}
 use Rattle.model.specs.Sound.{Stands}
 use Rattle.model.proofs.Performs.{act-same, begin-is}
 use Rattle.model.specs.Acts.{store, cancelled}
@@ -179,7 +179,7 @@ module _ (s : State) (h : History) (v : Velocities h s) where
   })
 
   act-given : (a : Act) → (perform a s) .num ≡ 0 → Velocities (did a ∷ h) ((perform a s) .st)
-  unfolding given
+  unfolding lastOf
   act-given (moving i x t) = stored (did (moving i x t)) i (landed x t (grain s i)) (λ I. v .each i I) (λ g n. refl)
   act-given (turning i p) = stored (did (turning i p)) i p (λ I. rw (eq-eqb i i refl)) (λ g n. rw (ne-eqb i g (λ e. n (sym e))))
   act-given (trying k r Nothing) = λ z. same-grains (did (trying k r Nothing)) s refl (λ g. refl)
@@ -190,7 +190,7 @@ module _ (s : State) (h : History) (v : Velocities h s) where
   act-given (leaving i k) = leave-case (λ o. o .num ≡ 0 → Velocities (did (leaving i k) ∷ h) (o .st)) s i k (λ z. absurd (omega (arith, z))) (λ b z. same-grains (did (leaving i k)) _ refl (λ g. refl))
 
   taken-given : (k : ℕ) → Velocities (took k ∷ h) (taken s)
-  unfolding taken requeued given
+  unfolding taken requeued lastOf
   taken-given k = same-grains (took k) _ refl (λ g. refl)
 
 -- along a history that leads from one state to another
@@ -201,7 +201,7 @@ led-given (did a ∷ h) s u v l =
 led-given (took k ∷ h) s u v l = subst (Velocities (took k ∷ h)) (l .3) (taken-given (l .0) h (led-given h s (l .0) v (l .1)) k)
 
 clear-given : (b : Domain) (room n : ℕ) → Velocities [] (clear b room n)
-unfolding clear given
+unfolding clear lastOf
 clear-given b room n = record { each = λ g G. ap (λ (p : Particle). p .vel) (getD-replicate n g zeroG zeroG (let e = length-replicate n zeroG in omega (arith, e))) }
 
 -- A VELOCITY CHANGES ONLY AT A TURN

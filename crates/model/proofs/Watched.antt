@@ -21,7 +21,9 @@ use Rattle.model.specs.declared.Place.{Place}
 use Rattle.model.specs.Events.{eventOf, names, headPlace}
 use Rattle.model.specs.State.{State, Row, liveAt, grain, home, listed, queue, has, requeued}
 use Rattle.model.specs.Stepping.{grainOf}
-use Rattle.model.specs.Rows.{Bound, entry, exit, reflection, Rule, pair, bound, sync, within, moving, cancelling, entering, leaving, Acts, doing, only, _⨟_, ofEach, inTurn, stepping, colliding, bounding, scheduling, reschedules, forgets, actsOf, pairing, firstSync, initiates}
+use Rattle.model.specs.declared.Bound.{Bound}
+use Rattle.model.specs.declared.Bound.the-variants.{ToNeighbour, OutOfCell, Wall}
+use Rattle.model.specs.Rows.{Rule, pair, bound, sync, within, moving, cancelling, entering, leaving, Acts, doing, only, _⨟_, ofEach, inTurn, stepping, colliding, bounding, scheduling, reschedules, forgets, actsOf, pairing, firstSync, initiates}
 use Rattle.model.specs.History.{did, took, History, done, Dated, places, dated, stepDone, startDone, history}
 use Rattle.model.specs.Missing.{entered, sameRule, Entry, Concerns, NoneMissing}
 use Rattle.model.proofs.Cases.{enter-case, leave-case}
@@ -130,7 +132,7 @@ module _ (n p : ℕ) (x : Particle) (s : State) (h : History) (sound : Sound s) 
         by true e d g = first′ e
 
 -- ---- entering and leaving a cell
-concerns-by : (s u : State) (c : ℕ) (r : Rule) → ((g : ℕ) → within r g ≡ true → has g (listed u c) ≡ true → has g (listed s c) ≡ true) → Concerns u c r → Concerns s c r
+pub concerns-by : (s u : State) (c : ℕ) (r : Rule) → ((g : ℕ) → within r g ≡ true → has g (listed u c) ≡ true → has g (listed s c) ≡ true) → Concerns u c r → Concerns s c r
 concerns-by s u c (pair p q) f m = (f p (rw (eq-eqb p p refl)) (m .0), f q (rw (eq-eqb q q refl) (or-true (eqb p q))) (m .1), m .2)
 concerns-by s u c (bound b p d) f m = (f p (eq-eqb p p refl) (m .0), m .1)
 concerns-by s u c sync f m = m
@@ -260,16 +262,16 @@ kind-is (suc (suc (suc (suc (suc k))))) x a b = omega arith
 
 entry-kind : (r : Rule) → 2 ≡ kindOf r → Entry r
 entry-kind (pair p q) e = absurd (omega (arith, e))
-entry-kind (bound entry p d) e = tt
-entry-kind (bound exit p d) e = absurd (omega (arith, e))
-entry-kind (bound reflection p d) e = absurd (omega (arith, e))
+entry-kind (bound ToNeighbour p d) e = tt
+entry-kind (bound OutOfCell p d) e = absurd (omega (arith, e))
+entry-kind (bound Wall p d) e = absurd (omega (arith, e))
 entry-kind sync e = absurd (omega (arith, e))
 
 no-sync : (s : State) (c : ℕ) (r : Rule) → Concerns s c r → 5 ≡ kindOf r → ⊥
 no-sync s c (pair p q) m e = omega (arith, e)
-no-sync s c (bound entry p d) m e = omega (arith, e)
-no-sync s c (bound exit p d) m e = omega (arith, e)
-no-sync s c (bound reflection p d) m e = omega (arith, e)
+no-sync s c (bound ToNeighbour p d) m e = omega (arith, e)
+no-sync s c (bound OutOfCell p d) m e = omega (arith, e)
+no-sync s c (bound Wall p d) m e = omega (arith, e)
 no-sync s c sync m e = m
 
 -- what a rule that the event leaves alone found is not the event; of an entry it may be

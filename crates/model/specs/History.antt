@@ -16,6 +16,7 @@ use Rattle.model.specs.declared.Place.{Place}
 use Rattle.model.specs.declared.Plan.{Plan}
 use Rattle.model.specs.declared.Plan.the-variants.{Nothing, Due, Refused}
 use Rattle.model.specs.Grid.{cells}
+use Rattle.model.specs.declared.Event.the-variants.{Synchronisation}
 use Rattle.model.specs.Events.{zeroV, placeOf, eventOf, names}
 use Rattle.model.specs.State.{State, grain}
 use Rattle.model.specs.Acts.{first, taken}
@@ -67,6 +68,11 @@ history s r = callsDone (r .calls) (r .begun) (startDone (r .box) (r .room) (r .
 unfoldable pub latest : (Deed → Bool) → History → ℕ
 latest t [] = 0
 latest t (d ∷ h) = cond (t d) (suc (length h)) (latest t h)
+
+-- and what it gave, or a if never
+unfoldable pub lastOf : {A : Type 0} → A → (Deed → A) → (Deed → Bool) → History → A
+lastOf a f t [] = a
+lastOf a f t (d ∷ h) = cond (t d) (f d) (lastOf a f t h)
 
 -- this deed gave grain g a velocity, and which
 abbrev pub turns : ℕ → Deed → Bool
@@ -133,11 +139,11 @@ dated [] c = []
 dated (d ∷ h) c = change d (suc (length h)) c (dated h c)
 
 -- ---- 4. what makes a history true: each deed was done where the one before it left off, and each try is of what its rule finds there,
--- the grains that the rule is about having been stepped to the clock
+-- the grains that the rule is about having been stepped to the clock; of a synchronisation, that it is one
 abbrev pub Sought : Rule → ℕ → State → Plan → Type 0
 Sought (pair p q) c s x = x ≡ collision (s .box) (s .clock) c p q (grain s p) (grain s q)
 Sought (bound b p d) c s x = x ≡ finder b d (s .box) (s .clock) c p (grain s p)
-Sought sync c s x = Unit {0}
+Sought sync c s x = (t : Float) × (x ≡ Due (record { time = t; event = Synchronisation }))
 
 -- a grain has been stepped to the clock: its own time is the clock's
 abbrev pub AtClock : State → ℕ → Type 0
@@ -157,9 +163,8 @@ Led (did a ∷ h) s u = (w : State) × Led h s w × Honest a w × (perform a w �
 Led (took k ∷ h) s u = (w : State) × Led h s w × (first w ≡ k) × (taken w ≡ u)
 
 -- the velocity that the last turn gave
-unfoldable pub given : History → ℕ → MyVec
-given [] g = zeroV
-given (d ∷ h) g = cond (turns g d) (velocityOf d) (given h g)
+abbrev pub given : History → ℕ → MyVec
+given h g = lastOf zeroV velocityOf (turns g) h
 
 -- ---- 5. NO EVENT FROM AN OLD VELOCITY (T-13): each pending event was put in after the last change of velocity of every grain that it names
 abbrev pub Later : History → Dated → Type 0

@@ -4,7 +4,7 @@ use Prim.Native.Nat.{ℕ, _<_}
 use mathlib.Core.Path.{_≡_}
 use mathlib.Core.Logic.{_⊎_}
 use mathlib.Core.List.{List, [], _∷_}
-use mathlib.Core.Bool.{Bool, true, false, _&&_, _||_, cond}
+use mathlib.Core.Bool.{Bool, true, false, _&&_, _||_}
 use lib.Dec.{eqb}
 use Rattle.halting.specs.Every.{All}
 use Rattle.model.specs.declared.Pending.{Pending}
@@ -13,8 +13,10 @@ use Rattle.model.specs.declared.Plan.the-variants.{Nothing, Due, Refused
 use Rattle.model.specs.Grid.{cells}
 use Rattle.model.specs.Events.{placeOf}
 use Rattle.model.specs.State.{State, listed, has}
-use Rattle.model.specs.Rows.{Bound, entry, exit, reflection, Rule, pair, bound, sync, within, moving, turning, trying, cancelling, entering, leaving}
-use Rattle.model.specs.History.{Deed, did, took, History, latest, turned, Dated, dated-at, dated}
+use Rattle.model.specs.declared.Bound.{Bound}
+use Rattle.model.specs.declared.Bound.the-variants.{ToNeighbour, OutOfCell, Wall}
+use Rattle.model.specs.Rows.{Rule, pair, bound, sync, within, moving, turning, trying, cancelling, entering, leaving}
+use Rattle.model.specs.History.{Deed, did, took, History, latest, lastOf, turned, Dated, dated-at, dated}
 
 -- ---- when a grain last entered a cell
 abbrev pub enters : ℕ → ℕ → Deed → Bool
@@ -32,15 +34,15 @@ entered h g c = latest (enters g c) h
 -- ---- when a rule was last tried in a cell
 -- the same rule: a pair in either order
 abbrev pub sameBound : Bound → Bound → Bool
-sameBound entry entry = true
-sameBound entry exit = false
-sameBound entry reflection = false
-sameBound exit entry = false
-sameBound exit exit = true
-sameBound exit reflection = false
-sameBound reflection entry = false
-sameBound reflection exit = false
-sameBound reflection reflection = true
+sameBound ToNeighbour ToNeighbour = true
+sameBound ToNeighbour OutOfCell = false
+sameBound ToNeighbour Wall = false
+sameBound OutOfCell ToNeighbour = false
+sameBound OutOfCell OutOfCell = true
+sameBound OutOfCell Wall = false
+sameBound Wall ToNeighbour = false
+sameBound Wall OutOfCell = false
+sameBound Wall Wall = true
 
 abbrev pub sameRule : Rule → Rule → Bool
 sameRule (pair p q) (pair i j) = (eqb p i && eqb q j) || (eqb p j && eqb q i)
@@ -76,12 +78,8 @@ planOf (took k) = Nothing
 abbrev pub tried : History → ℕ → Rule → ℕ
 tried h c r = latest (tries c r) h
 
-unfoldable pub latestPlan : (Deed → Bool) → History → Plan
-latestPlan t [] = Nothing
-latestPlan t (d ∷ h) = cond (t d) (planOf d) (latestPlan t h)
-
 abbrev pub found : History → ℕ → Rule → Plan
-found h c r = latestPlan (tries c r) h
+found h c r = lastOf Nothing planOf (tries c r) h
 
 -- the event that act n put into cell c was taken out to be done
 abbrev pub headNumber : List Dated → ℕ
@@ -103,9 +101,9 @@ Among d (x ∷ xs) = (d ≡ x) ⊎ Among d xs
 
 abbrev pub Entry : Rule → Type 0
 Entry (pair p q) = ⊥
-Entry (bound entry p d) = Unit {0}
-Entry (bound exit p d) = ⊥
-Entry (bound reflection p d) = ⊥
+Entry (bound ToNeighbour p d) = Unit {0}
+Entry (bound OutOfCell p d) = ⊥
+Entry (bound Wall p d) = ⊥
 Entry sync = ⊥
 
 -- what the last try found is pending in that cell, as that act put it in; an entry may have been done instead
@@ -159,7 +157,7 @@ pub record Owed (h : History) (s : State) (c : ℕ) (d : Dated) : Type 0 where
   pub rule : Rule
   pub event : Pending
   pub owes : Owes s c rule
-  pub finds : latestPlan (asks c rule) h ≡ Due event
+  pub finds : lastOf Nothing planOf (asks c rule) h ≡ Due event
   pub is : d ≡ dated-at (placeOf event) (asked h c rule)
   pub since : (g : ℕ) → within rule g ≡ true → entered h g c < d .by
 

@@ -8,6 +8,8 @@ use lib.Ieee.{Float, binary64, add, sub}
 use Rattle.halting.specs.Out.{Out, out, then}
 use Rattle.order.specs.Numbers.{fzero}
 use Rattle.myvec.specs.declared.MyVec.{MyVec}
+use Rattle.model.specs.declared.Bound.{Bound}
+use Rattle.model.specs.declared.Bound.the-variants.{ToNeighbour, OutOfCell, Wall}
 use Rattle.model.specs.declared.Domain.{Domain}
 use Rattle.model.specs.declared.Particle.{Particle}
 use Rattle.model.specs.declared.Plan.{Plan}
@@ -24,10 +26,7 @@ use Rattle.model.specs.State.{State, zeroG, grain, home, listed}
 use Rattle.model.specs.Acts.{store, put, cancel, enter, leave}
 use Rattle.model.specs.Doing.{Finder, others, landed}
 
--- what a scheduling looks for: a collision of two grains; what a grain meets at its cell's bounds in a direction; the next synchronisation
-pub data Bound : Type 0 where
-  entry exit reflection : Bound
-
+-- what a scheduling looks for: a collision of two grains; what a grain meets at its cell's bounds in a direction (entry, leaving or wall); the next synchronisation
 pub data Rule : Type 0 where
   pair : ℕ → ℕ → Rule
   bound : Bound → ℕ → ℕ → Rule
@@ -40,9 +39,9 @@ within (bound b p d) g = eqb p g
 within sync g = false
 
 abbrev pub finder : Bound → Finder
-finder entry = toNeighbour
-finder exit = outOfCell
-finder reflection = wall
+finder ToNeighbour = toNeighbour
+finder OutOfCell = outOfCell
+finder Wall = wall
 
 -- ---- the acts. Storing a grain's new numbers is two: a move gives a place and a time and keeps velocity and value, a turn gives all four;
 -- a try puts in what a rule found; then cancelling in one cell, an entry in both lists, a leaving
@@ -108,7 +107,7 @@ finding b c p d s = only (trying c (bound b p d) (finder b d (s .box) (s .clock)
 
 -- moves to the neighbour, moves out of the cell, walls, each in both directions
 abbrev pub bounding : ℕ → ℕ → State → Acts
-bounding c p = inTurn (finding entry c p) 2 0 ⨟ inTurn (finding exit c p) 2 0 ⨟ inTurn (finding reflection c p) 2 0
+bounding c p = inTurn (finding ToNeighbour c p) 2 0 ⨟ inTurn (finding OutOfCell c p) 2 0 ⨟ inTurn (finding Wall c p) 2 0
 
 -- schedule_events of p in cell c: the others that it lists step, then collisions with them, then boundaries
 abbrev pub scheduling : ℕ → ℕ → State → Acts

@@ -111,6 +111,13 @@ pub struct Place {
     pub val: f64,
 }
 
+// What can happen to a grain at a cell's bounds.
+pub enum Bound {
+    ToNeighbour,
+    OutOfCell,
+    Wall,
+}
+
 // When two grains touch: never, after a time, or the root was refused.
 pub enum Contact {
     Never,

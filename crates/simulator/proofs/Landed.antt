@@ -6,7 +6,6 @@ use mathlib.Core.Bool.{Bool, true, false, _&&_, cond}
 use mathlib.Core.List.{List, [], _∷_, _++_}
 use mathlib.Core.Logic.{inl, inr}
 use native.Mathlib.Omega.{arith}
-use native.Mathlib.Decide.{ℕ-discrete}
 use lib.Dec.{eqb, leb}
 use lib.ListN.{length, length-replicate}
 use lib.Ieee.{Float}
@@ -19,8 +18,8 @@ use Rattle.model.specs.Sizes.{boxOk, countsOk, rated}
 use Rattle.model.specs.State.{State, zeroG}
 use Rattle.model.specs.Sound.{Sound}
 use Rattle.model.specs.Acts.{taken}
-use Rattle.model.specs.Doing.{Moved, Whole, headEvent}
-use Rattle.model.specs.Run.{How, synchronised, spent, refused, Ran, runFrom}
+use Rattle.model.specs.Doing.{headEvent}
+use Rattle.model.specs.Run.{synchronised, spent, refused, Ran, runFrom}
 use Rattle.model.specs.Start.{Begun, started, start, clear, begin}
 use Rattle.model.specs.Start as begun
 use Rattle.model.specs.Check.{Fits, Fitted, halt, refusal, runAll}
@@ -29,7 +28,7 @@ use Rattle.halting.proofs.Bools.{and-l, and-r}
 use Rattle.model.proofs.Stands.{sound-fitted}
 use Rattle.model.proofs.Reflect.{says-stands}
 use Rattle.model.proofs.Whole.{runs}
-use Rattle.model.proofs.Counts.{Ended, counts}
+use Rattle.model.proofs.Counts.{counts, state-at}
 use Rattle.model.proofs.Reached.{Well, runAll-well, reached-well, counted-runs}
 use Rattle.model.proofs.Demand3.{AfterStep, after-each-step, splits}
 use Rattle.model.specs.Rows.{actsOf, startActs}
@@ -222,23 +221,6 @@ splits-tables t r rate R j k B =
     then-run = ap (λ (x : RanTables). runTables rate k (x .after)) (run-is t h rate j) ∙ run-over u (h .ground) (left-sound t h rate j) (left-long t h rate j) rate k
 
 -- ---- 4. DEMAND 3: after each unhalted step of all these runs. The tables after n events are what a run with budget n leaves
-state-at : (rate : Float) (s : State) (b n : ℕ) → n ≤ (runFrom rate b 0 s) .count → (runFrom rate n 0 s) .state ≡ steps rate n s
-state-at rate s b n N = by ((runFrom rate n 0 s) .how) ((counts rate s n) .ended)
-  where
-    c : ℕ
-    c = (runFrom rate n 0 s) .count
-
-    by : (x : How) → Ended rate s n x ((runFrom rate n 0 s) .count) ((runFrom rate n 0 s) .state) → (runFrom rate n 0 s) .state ≡ steps rate n s
-    by spent e = e .1 ∙ ap (λ (k : ℕ). steps rate k s) (e .0)
-    by synchronised e =
-        let small = (counts rate s n) .small in
-        let d = e .1 in
-        e .3 ∙ ap (λ (k : ℕ). steps rate k s) (elim (ℕ-discrete c n) [
-          | yes z ↦ z
-          | no z ↦ let q = (counts rate s b) .last (e .0) (omega arith) (omega (arith, small, d)) (e .2) .0 in absurd (z (omega (arith, small, d, q)))
-        ])
-    by (refused r) e = absurd (subst (λ (m : Moved). Whole (m .how)) (e .1) ((counts rate s b) .whole c (omega arith) (let f = e .0 in omega (arith, f))))
-
 module _ (t : Tables) (r : ReachedTables t) (k : Call) (n : ℕ) (N : n < (runTables (k .rate) (k .budget) t) .count) where
   abbrev now : State
   now = (reaches t r) .state

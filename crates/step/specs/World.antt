@@ -14,15 +14,10 @@ use Rattle.cell.specs.Cell.{Laid, IsCell}
 use Rattle.model.specs.declared.Event.{Event}
 use Rattle.model.specs.declared.Event.the-variants.{InterParticleCollision, MoveToNeighbour, MoveOutOfCell, WallReflection, Synchronisation}
 use Rattle.model.specs.Grid.{cells}
-use Rattle.model.specs.Moves.{toNeighbour, outOfCell}
-use Rattle.model.specs.Walls.{wall}
 use Rattle.model.specs.State.{State, listed}
-use Rattle.model.specs.Doing.{Finder}
 use Rattle.tables.specs.declared.Sizes.{Sizes}
 use Rattle.tables.specs.Holds.{Grained, Listed, Queued}
 use Rattle.step.specs.declared.World.{World}
-use Rattle.step.specs.declared.Bound.{Bound}
-use Rattle.step.specs.declared.Bound.the-variants.{ToNeighbour, OutOfCell, Wall}
 
 -- the box is in range, the grid and the number of cells are the box's
 pub record Placed (z : Sizes) (b : Domain) (m : Grid) : Type 0 where
@@ -65,12 +60,6 @@ pub record Does (P Q : State → Type 0) (r : ℕ) (act : State → Out State) :
 -- nothing where q is the one left out
 abbrev pub unless : ℕ → (ℕ → State → Out State) → ℕ → State → Out State
 unless p act q s = cond (eqb p q) (out 0 s) (act q s)
-
--- the rule of each kind of event at a cell's bounds
-abbrev pub finder : Bound → Finder
-finder ToNeighbour = toNeighbour
-finder OutOfCell = outOfCell
-finder Wall = wall
 
 -- what an execution asks: grains and cells in range, and in a leaving that the pair list each other
 abbrev pub Apt : Sizes → Event → State → Type 0

@@ -22,13 +22,6 @@ pub struct World {
     pub clock: f64,
 }
 
-// What can happen to a grain at a cell's bounds.
-pub enum Bound {
-    ToNeighbour,
-    OutOfCell,
-    Wall,
-}
-
 // What a step answers: 0 or the number of a halt, the clock, and whether it was a synchronisation.
 pub struct Stepped {
     pub code: u64,

@@ -1,4 +1,4 @@
-use Rattle.step.specs.World.{finder}
+use Rattle.model.specs.Rows.{finder}
 use mathlib.Core.Path.{sym, ap, _∙_}
 use borrow.Author.Needs.{needs}
 use Rattle.step.proofs.schedule.plan_bound.Statement.{statement}

@@ -1,6 +1,6 @@
 use Rattle.step.proofs.Scheduling.{bound-does, both-stop, both-on}
 use Rattle.step.proofs.Does.{after}
-use Rattle.step.specs.World.{finder}
+use Rattle.model.specs.Rows.{finder}
 use Rattle.tables.proofs.GrainLaws.{grain-fits}
 use Rattle.model.specs.Doing.{scheduleBy}
 use mathlib.Core.Path.{_∙_}
