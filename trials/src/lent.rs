@@ -21,9 +21,14 @@ pub struct Lent {
 /// The names of the tables, in their order.
 pub const NAMES: [&str; 5] = ["lists", "grains", "queue", "events", "order"];
 
-/// A word that no rule gives, another for each place.
+/// A word that no rule gives, another for each place; every other one, as a float, is a NaN of its own pattern.
 pub fn junk(place: usize) -> u64 {
-    (place as u64 + 1).wrapping_mul(0x9E37_79B9_7F4A_7C15)
+    let word = (place as u64 + 1).wrapping_mul(0x9E37_79B9_7F4A_7C15);
+    if place % 2 == 0 {
+        word
+    } else {
+        word | 0x7FF0 << 48
+    }
 }
 
 /// Fills the places of a table from one on.

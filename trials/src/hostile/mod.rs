@@ -27,28 +27,36 @@ const ENOUGH: u64 = 10;
 /// Called after each call with the tables: a test meddles with them here.
 pub type Meddle<'a> = &'a mut dyn FnMut(&mut Lent);
 
-/// Calls of each kind, by answer.
+/// Calls of each kind, by answer; and the NaNs in the tables afterwards, whose bits were compared as all are.
 #[derive(Default)]
-pub struct Tally(BTreeMap<&'static str, BTreeMap<u64, u64>>);
+pub struct Tally {
+    kinds: BTreeMap<&'static str, BTreeMap<u64, u64>>,
+    nans: u64,
+}
 
 impl Tally {
     fn count(&mut self, kind: &'static str, answer: u64) {
-        *self.0.entry(kind).or_default().entry(answer).or_default() += 1;
+        *self.kinds.entry(kind).or_default().entry(answer).or_default() += 1;
+    }
+
+    fn nans(&mut self, table: &[f64]) {
+        self.nans += table.iter().filter(|x| x.is_nan()).count() as u64;
     }
 
     pub fn calls(&self) -> u64 {
-        self.0.values().flat_map(|answers| answers.values()).sum()
+        self.kinds.values().flat_map(|answers| answers.values()).sum()
     }
 
     fn print(&self) {
-        for (kind, answers) in &self.0 {
+        for (kind, answers) in &self.kinds {
             println!("  {kind}: {} calls; {}", answers.values().sum::<u64>(), listed(answers));
         }
         let mut all = BTreeMap::new();
-        for (answer, many) in self.0.values().flatten() {
+        for (answer, many) in self.kinds.values().flatten() {
             *all.entry(*answer).or_default() += many;
         }
         println!("  all: {} calls; {}", self.calls(), listed(&all));
+        println!("  NaNs in the tables after a run, each with the bits that it should have: {}", self.nans);
     }
 }
 

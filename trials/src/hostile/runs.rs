@@ -2,7 +2,7 @@
 use super::base::Base;
 use super::places::{change_any, change_one};
 use super::standing::rearrange;
-use super::tables::{lengthen, noise, relength, resized, stretch};
+use super::tables::{lengthen, nans, noise, relength, resized, stretch};
 use super::values::{bound, budget, length, rate};
 use super::{Outcome, Trial};
 use crate::calls::{self, Report, SPENT};
@@ -20,7 +20,7 @@ impl Trial<'_> {
     pub fn run(&mut self, base: &Base) -> Outcome {
         let r = &mut self.random;
         let mut t = base.tables.clone();
-        let kind = match r.below(32) {
+        let kind = match r.below(33) {
             0..=2 => "run, tables as they stand",
             3..=15 => {
                 stretch(&mut t, r);
@@ -65,10 +65,17 @@ impl Trial<'_> {
                 (0..5).for_each(|table| noise(&mut t, table, [6, 3, 0, 0, 0][table], r));
                 "run, noise behind true headers"
             }
-            _ => {
+            31 => {
                 let table = r.below(5) as usize;
                 noise(&mut t, table, [6, 3, 0, 0, 0][table], r);
                 "run, one table of noise"
+            }
+            _ => {
+                nans(&mut t, r);
+                if r.once_in(4) {
+                    t.lists[0] = 5 + r.below(5);
+                }
+                "run, NaNs of every pattern"
             }
         };
         self.runs(kind, t)
@@ -99,6 +106,8 @@ impl Trial<'_> {
         }
         let differs = |d| format!("{kind}: rate {rate:?}, budget {budget}, answer {}: {d}", told.number);
         holds_tables(self.lent, t).map_err(differs)?;
+        self.tally.nans(&t.grains);
+        self.tally.nans(&t.events);
         Ok(told.number)
     }
 }

@@ -1,5 +1,5 @@
 // Tables that are longer, shorter, or something else altogether.
-use super::values::length;
+use super::values::{length, nan};
 use crate::guarded::Word;
 use crate::lent::junk;
 use oracle::random::Random;
@@ -60,6 +60,20 @@ pub fn noise(t: &mut Tables, table: usize, from: usize, r: &mut Random) {
         2 => over(&mut t.queue, from, word),
         3 => over(&mut t.events, from, word),
         _ => over(&mut t.order, from, word),
+    }
+}
+
+/// NaNs of every pattern: in places beyond those needed, and half of the time in some of the others.
+pub fn nans(t: &mut Tables, r: &mut Random) {
+    let [_, grains, _, events, _] = t.lengths();
+    stretch(t, r);
+    let few = if r.once_in(2) { 0 } else { 1 + r.below(64) };
+    for (table, needed) in [(&mut t.grains, grains), (&mut t.events, events)] {
+        for (at, place) in table.iter_mut().enumerate() {
+            if at >= needed || (few > 0 && r.once_in(few)) {
+                *place = nan(r);
+            }
+        }
     }
 }
 

@@ -53,6 +53,11 @@ pub fn float(r: &mut Random, near: f64, others: &[f64]) -> f64 {
     }
 }
 
+/// A NaN of any pattern: either sign, quiet or not.
+pub fn nan(r: &mut Random) -> f64 {
+    f64::from_bits(r.pick(&[0x7FF0, 0xFFF0, 0x7FF8, 0xFFF8]) << 48 | 1 + r.below((1 << 51) - 1))
+}
+
 /// A rate, in range for the most part.
 pub fn rate(r: &mut Random) -> f64 {
     let (low, high) = (1. / 1_048_576., 1_048_576.);
