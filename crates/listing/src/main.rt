@@ -1,14 +1,16 @@
 // The listing program: reads a text from standard input and writes its answer to standard output. A read or a write that fails is said on
 // standard error; after a failed read there is no answer.
-ghost use mathlib.Core.List.{List};
+ghost use mathlib.Core.List.{[], _∷_};
 ghost use mathlib.Core.Path.{_≡_};
-ghost use Prim.Native.Nat.{ℕ};
-ghost use Rattle.listing_text.specs.Reading.{startOf, feedAll};
+ghost use Rattle.pipes.specs.Reads.{readOf};
+ghost use Rattle.listing_text.specs.Reading.{startOf};
+ghost use Rattle.listing.specs.Turns.{turnOf, Turned, most, endedOf, Responded};
 use answers::write_answer;
 use libc::STDIN_FILENO;
 use listing_text::Reader;
 use listing_text::feed_all;
 use listing_text::start;
+use pipes::hear;
 
 // What has been read so far; whether more may follow, and whether a read failed.
 struct Turn {
@@ -17,38 +19,44 @@ struct Turn {
     failed: bool,
 }
 
-// Reads once.
-fn read_some(reader: Reader) -> Turn
-    ensures { λ r. ⌜ ((s : List ℕ) × (r .reader ≡ feedAll reader s)) ⌝ }
+// Nothing was read.
+fn opened() -> Turn
+    ensures { λ r. ⌜ r ≡ turnOf startOf [] ⌝ }
 {
-    let mut buf = io::buffer();
-    let got = libc::read(STDIN_FILENO, &mut buf);
-    if got < 0 {
-        os::fail(b"standard input");
-        return Turn {
-            reader,
-            more: false,
-            failed: true,
-        };
-    }
-    let n = io::count(got, &buf);
-    let next = feed_all(reader, &buf[..n]);
     Turn {
-        reader: next,
-        more: got > 0,
+        reader: start(),
+        more: true,
         failed: false,
     }
 }
 
+// What a read makes of the reader, by the number that it gave back and the buffer that it left.
+fn took(reader: Reader, got: isize, buf: &[u8]) -> Turn
+    ensures { λ r. ⌜ r ≡ turnOf reader (readOf got (now (buf .entry)) ∷ []) ⌝ }
+{
+    let heard = hear(got, buf);
+    let n = heard.count;
+    Turn {
+        reader: feed_all(reader, &buf[..n]),
+        more: heard.more,
+        failed: heard.failed,
+    }
+}
+
+// Reads once.
+fn read_some(reader: Reader) -> Turn
+    ensures { λ r. ⌜ Turned 1 reader r ⌝ }
+{
+    let mut buf = io::buffer();
+    let got = libc::read(STDIN_FILENO, &mut buf);
+    took(reader, got, &buf)
+}
+
 // Reads to the end. (Nothing says that an input ends, and a proved loop does: it counts its turns down, from a number that no run uses up.)
 fn read_all() -> Turn
-    ensures { λ r. ⌜ ((s : List ℕ) × (r .reader ≡ feedAll startOf s)) ⌝ }
+    ensures { λ r. ⌜ Turned most startOf r ⌝ }
 {
-    let mut turn = Turn {
-        reader: start(),
-        more: true,
-        failed: false,
-    };
+    let mut turn = opened();
     let mut turns = u64::MAX;
     while turns > 0 && turn.more {
         let reader = turn.reader;
@@ -58,9 +66,28 @@ fn read_all() -> Turn
     turn
 }
 
-fn main() {
-    let turn = read_all();
-    if !turn.failed && !turn.more {
-        write_answer(turn.reader);
+// Whether the end was reached.
+fn ended(turn: Turn) -> bool
+    ensures { λ r. ⌜ r ≡ endedOf turn ⌝ }
+{
+    if turn.more {
+        return false;
     }
+    !turn.failed
+}
+
+// Reads to the end and hands out the answer; whether all of it was taken.
+fn respond() -> bool
+    ensures { λ r. ⌜ Responded r ⌝ }
+{
+    let turn = read_all();
+    if ended(turn) {
+        return write_answer(turn.reader);
+    }
+    os::fail(b"standard input");
+    false
+}
+
+fn main() {
+    respond();
 }

@@ -5,6 +5,7 @@ use libc::STDIN_FILENO;
 use listing_text::Reader;
 use listing_text::feed_all;
 use listing_text::start;
+use pipes::hear;
 
 // A thousand lines of a still grain.
 fn feed_lines(reader: Reader) -> Reader {
@@ -43,14 +44,17 @@ fn take_all(reader: Reader, s: &[u8]) -> Reader {
 
 fn main() {
     let mut state = start();
+    let mut more = true;
     let mut turns = u64::MAX;
-    while turns > 0 {
+    while turns > 0 && more {
         let mut buf = io::buffer();
-        let n = io::read_full(STDIN_FILENO, &mut buf);
-        if n == 0 {
-            break;
+        let heard = hear(libc::read(STDIN_FILENO, &mut buf), &buf);
+        if heard.failed {
+            os::fail(b"standard input");
         }
+        let n = heard.count;
         state = take_all(state, &buf[..n]);
+        more = heard.more;
         turns -= 1;
     }
 }

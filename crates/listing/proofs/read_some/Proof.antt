@@ -1,6 +1,11 @@
--- What came is fed to the reader. Assumes nothing.
-use mathlib.Core.Path.{refl}
-use mathlib.Core.List.{[]}
+-- What came is one read's. Assumes nothing.
+use Prim.Native.Nat.{ℕ}
+use mathlib.Core.Path.{sym, subst}
+use mir.Syntax.{w64}
+use mir.Val.{SFits}
+use mir.Facts.{toZ-ofZ}
+use Rattle.libc.specs.Io.{Moved}
+use Rattle.listing.proofs.TurnLaws.{turned-once}
 use borrow.Author.Needs.{needs}
 use Rattle.listing.proofs.read_some.Statement.{statement}
 use Rattle.listing.proofs.read_some.Tie as tie
@@ -14,32 +19,14 @@ slice-aggregate-read c = search needs
 read-requires : tie.Need-read-requires
 read-requires c κs = search needs
 
-slice-aggregate-fail : tie.Need-slice-aggregate-fail
-slice-aggregate-fail c = search needs
+slice-aggregate-took : tie.Need-slice-aggregate-took
+slice-aggregate-took c = search needs
 
-fail-requires : tie.Need-fail-requires
-fail-requires c κs = search needs
+took-requires : tie.Need-took-requires
+took-requires c κs = search needs
 
 returns : tie.Need-returns
-returns c = ([], refl)
-
-slice-aggregate-count : tie.Need-slice-aggregate-count
-slice-aggregate-count c = search needs
-
-count-requires : tie.Need-count-requires
-count-requires c κs = search needs
-
-array-share-prefix-buf : tie.Need-array-share-prefix-buf
-array-share-prefix-buf c = search needs
-
-slice-aggregate-feed-all : tie.Need-slice-aggregate-feed-all
-slice-aggregate-feed-all c = search needs
-
-feed-all-requires : tie.Need-feed-all-requires
-feed-all-requires c κs = search needs
-
-returns-2 : tie.Need-returns-2
-returns-2 c = search needs
+returns c = let f : SFits w64 (c .before .before .before .read .result) = search needs in turned-once (toZ-ofZ f) _ _ (search needs) (subst (λ (n : ℕ). Moved n (c .before .before .before .read .result)) (sym (c .before .before .before .before .before .buffer .ensures)) (c .before .before .before .read .ensures)) (c .took .ensures)
 
 pub read-some-spec : {M : Type 1} → statement M
 read-some-spec =
@@ -48,12 +35,6 @@ read-some-spec =
     buffer-requires
     slice-aggregate-read
     read-requires
-    slice-aggregate-fail
-    fail-requires
-    returns
-    slice-aggregate-count
-    count-requires
-    array-share-prefix-buf
-    slice-aggregate-feed-all
-    feed-all-requires
-    returns-2)
+    slice-aggregate-took
+    took-requires
+    returns)

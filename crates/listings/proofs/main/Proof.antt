@@ -4,10 +4,10 @@ use Rattle.listings.proofs.main.Statement.{statement}
 use Rattle.listings.proofs.main.Tie as tie
 
 abbrev Inv-loop : tie.InvT-loop
-Inv-loop state₀ turns₀ state turns = Unit {0}
+Inv-loop state₀ more₀ turns₀ t7 state more turns = Unit {0}
 
 abbrev μ-loop : tie.MeasureT-loop
-μ-loop state₀ turns₀ state turns = turns
+μ-loop state₀ more₀ turns₀ t7 state more turns = turns
 
 start-requires : tie.Need-start-requires Inv-loop μ-loop
 start-requires c κs = search needs
@@ -18,11 +18,23 @@ loop-holds c = search needs
 buffer-requires : tie.Need-buffer-requires Inv-loop μ-loop
 buffer-requires c κs = search needs
 
-slice-aggregate-read-full : tie.Need-slice-aggregate-read-full Inv-loop μ-loop
-slice-aggregate-read-full c = search needs
+slice-aggregate-read : tie.Need-slice-aggregate-read Inv-loop μ-loop
+slice-aggregate-read c = search needs
 
-read-full-requires : tie.Need-read-full-requires Inv-loop μ-loop
-read-full-requires c κs = search needs
+read-requires : tie.Need-read-requires Inv-loop μ-loop
+read-requires c κs = search needs
+
+slice-aggregate-hear : tie.Need-slice-aggregate-hear Inv-loop μ-loop
+slice-aggregate-hear c = search needs
+
+hear-requires : tie.Need-hear-requires Inv-loop μ-loop
+hear-requires c κs = search needs
+
+slice-aggregate-fail : tie.Need-slice-aggregate-fail Inv-loop μ-loop
+slice-aggregate-fail c = search needs
+
+fail-requires : tie.Need-fail-requires Inv-loop μ-loop
+fail-requires c κs = search needs
 
 array-share-prefix-buf : tie.Need-array-share-prefix-buf Inv-loop μ-loop
 array-share-prefix-buf c = search needs
@@ -57,8 +69,12 @@ main-spec =
     start-requires
     loop-holds
     buffer-requires
-    slice-aggregate-read-full
-    read-full-requires
+    slice-aggregate-read
+    read-requires
+    slice-aggregate-hear
+    hear-requires
+    slice-aggregate-fail
+    fail-requires
     array-share-prefix-buf
     slice-aggregate-take-all
     take-all-requires

@@ -1,11 +1,24 @@
--- The answer ends within the buffer. Assumes nothing.
-use mathlib.Core.Path.{sym}
-use lib.Seq.{length-take-le}
-use Rattle.listing_text.proofs.Putting.{put-length}
+-- What is handed out is the answer, whole: it ends within the buffer, and stands at its start. Assumes nothing.
+use Prim.Native.Nat.{ℕ}
+use mathlib.Core.Path.{_≡_, refl, sym, ap, _∙_}
+use mathlib.Core.Bool.{Bool}
+use mathlib.Core.List.{List}
+use native.Mathlib.Nat.{zero-add}
 use native.Mathlib.Omega.{arith}
+use lib.ListN.{take}
+use lib.Seq.{take-at, length-take-le}
+use Rattle.pipes.specs.Writes.{HandedOut}
+use Rattle.listing_text.specs.Answers.{Put}
+use Rattle.listing_text.proofs.Putting.{put-length}
 use borrow.Author.Needs.{needs}
 use Rattle.answers.proofs.output.write_answer.Statement.{statement}
 use Rattle.answers.proofs.output.write_answer.Tie as tie
+
+at-start : {n : ℕ} {t s u : List ℕ} → Put 0 t s u n → take n u ≡ t
+at-start {n} {t} {s} {u} p = ap (take n) (p .written) ∙ take-at t _ n (sym (p .place ∙ zero-add _))
+
+handed : {n : ℕ} {t s u v : List ℕ} {q r : Bool} → Put 0 t s u n → v ≡ take n u → q ≡ r → HandedOut v q → HandedOut t r
+handed p e f h = rw (← at-start p, ← e, ← f) h
 
 buffer-requires : tie.Need-buffer-requires
 buffer-requires c κs = search needs
@@ -16,11 +29,14 @@ answer-requires c κs = search needs
 array-share-prefix-out : tie.Need-array-share-prefix-out
 array-share-prefix-out c = let e = c .answer .ensures in omega (arith, e .room, e .place, put-length e)
 
-slice-aggregate-write-all : tie.Need-slice-aggregate-write-all
-slice-aggregate-write-all c = let e = c .before .answer .ensures in sym (length-take-le _ _ (omega (arith, e .room, e .place, put-length e)))
+slice-aggregate-hand-out : tie.Need-slice-aggregate-hand-out
+slice-aggregate-hand-out c = let e = c .before .answer .ensures in sym (length-take-le _ _ (omega (arith, e .room, e .place, put-length e)))
 
-write-all-requires : tie.Need-write-all-requires
-write-all-requires c κs = search needs
+hand-out-requires : tie.Need-hand-out-requires
+hand-out-requires c κs = search needs
+
+returns : tie.Need-returns
+returns c = handed (c .before .before .before .answer .ensures) refl (c .if1 .taken) (c .before .hand-out .ensures)
 
 slice-aggregate-fail : tie.Need-slice-aggregate-fail
 slice-aggregate-fail c = search needs
@@ -28,11 +44,8 @@ slice-aggregate-fail c = search needs
 fail-requires : tie.Need-fail-requires
 fail-requires c κs = search needs
 
-returns : tie.Need-returns
-returns c = search needs
-
 returns-2 : tie.Need-returns-2
-returns-2 c = search needs
+returns-2 c = handed (c .before .before .before .before .before .answer .ensures) refl (c .before .before .if1 .left) (c .before .before .before .hand-out .ensures)
 
 pub write-answer-spec : {M : Type 1} → statement M
 write-answer-spec =
@@ -41,9 +54,9 @@ write-answer-spec =
     buffer-requires
     answer-requires
     array-share-prefix-out
-    slice-aggregate-write-all
-    write-all-requires
+    slice-aggregate-hand-out
+    hand-out-requires
+    returns
     slice-aggregate-fail
     fail-requires
-    returns
     returns-2)

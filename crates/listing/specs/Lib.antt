@@ -1,0 +1,2 @@
+-- What reads make of a reader, and the answer that is handed out (Turns).
+pub mod Turns

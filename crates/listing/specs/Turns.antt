@@ -1,0 +1,34 @@
+-- What reads make of a reader, and what becomes of the answer. Assumes nothing: these are definitions.
+use Prim.Native.Nat.{ℕ}
+use mathlib.Core.Path.{_≡_}
+use mathlib.Core.Bool.{Bool, true, false, not, cond}
+use mathlib.Core.List.{List}
+use Rattle.pipes.specs.Reads.{Read, Reads, textOf, moreOf, failedOf, overOf}
+use Rattle.pipes.specs.Writes.{HandedOut}
+use Rattle.listing_text.specs.declared.reader.Reader.{Reader}
+use Rattle.listing_text.specs.Reading.{feedAll}
+use Rattle.answers.specs.Answer.{answer}
+use Rattle.listing.specs.declared.Turn.{Turn}
+
+-- the reader is fed what reads gave, one after another
+abbrev pub turnOf : Reader → List Read → Turn
+turnOf r reads = record { reader = feedAll r (textOf reads); more = moreOf reads; failed = failedOf reads }
+
+-- t is what a row of n reads, or of fewer where one ends it, makes of r
+abbrev pub Turned : ℕ → Reader → Turn → Type 0
+Turned n r t = (reads : List Read) × Reads n reads × (t ≡ turnOf r reads)
+
+-- the reads that are made at most: more than any run uses up
+abbrev pub most : ℕ
+most = 18446744073709551615
+
+-- no more may follow, and no read failed
+abbrev pub endedOf : Turn → Bool
+endedOf t = cond (t .more) false (not (t .failed))
+
+-- the answer to what reads gave is handed out where they reached the end, and nothing otherwise; r: all of it was taken
+pub record Responded (r : Bool) : Type 0 where
+  pub reads : List Read
+  pub made : Reads most reads
+  pub answers : overOf reads ≡ true → HandedOut (answer (textOf reads)) r
+  pub silent : overOf reads ≡ false → r ≡ false

@@ -1,0 +1,3 @@
+-- What reads answer, one after another (Reads), and what writes take (Writes).
+pub mod Reads
+pub mod Writes
