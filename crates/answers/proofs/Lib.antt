@@ -4,3 +4,4 @@ pub mod RunLaws
 pub mod Served
 pub mod Texts
 pub mod Never
+pub mod Example

@@ -1,11 +1,13 @@
 -- The ways through the scheduling of a collision, and what is stored, by the values on the way. Assumes nothing.
 use Prim.Native.Nat.{ℕ}
-use mathlib.Core.Path.{_≡_, sym, ap, _∙_}
+use mathlib.Core.Path.{_≡_, refl, sym, ap, _∙_}
 use mathlib.Core.Bool.{Bool, true, false, cond}
 use lib.Ieee.{Float, binary64, add, sub, mul, div, neg, lt, le}
 use Rattle.order.specs.Numbers.{fzero, one, half, rest, eps}
+use Rattle.root.specs.declared.Root.{Root}
 use Rattle.root.specs.declared.Root.the-variants as root
 use Rattle.root.specs.Root.{rootOf}
+use Rattle.root.specs.Rule.{number as rootNumber}
 use Rattle.myvec.specs.declared.MyVec.{MyVec}
 use Rattle.myvec.specs.Vec.{vec, vadd, vsub, vtimes, vover, vdot}
 use Rattle.model.specs.declared.Domain.{Domain}
@@ -16,6 +18,7 @@ use Rattle.model.specs.declared.Contact.{Contact}
 use Rattle.model.specs.declared.Contact.the-variants as contact
 use Rattle.model.specs.declared.Plan.{Plan}
 use Rattle.model.specs.declared.Plan.the-variants.{Nothing, Refused}
+use Rattle.model.specs.Reports.{contactTold}
 use Rattle.model.specs.Stepping.{newPos, due}
 use Rattle.model.specs.Periodic.{apart}
 use Rattle.model.specs.Collision.{reach, dOf, afterRoot, timeOf, contactBy, collide, mean, pull, normal, centre, bounced, struck, planned, collision}
@@ -33,6 +36,19 @@ module _ (d a b : Float) where
 
   pub refused : rootOf d ≡ root.Refused → contact.Refused ≡ timeOf d a b
   refused e = sym (ap (afterRoot a b) e)
+
+  -- its number is the root's
+  numbered : (x : Root) → (contactTold (afterRoot a b x)) .0 ≡ rootNumber x
+  unfolding contactTold
+  numbered root.Refused = refl
+  numbered (root.Value s) = go (lt (dt a b s) fzero)
+    where
+      go : (t : Bool) → (contactTold (cond t contact.Never (contact.After (dt a b s)))) .0 ≡ 0
+      go true = refl
+      go false = refl
+
+  pub time-told : (r : Contact) → r ≡ timeOf d a b → (contactTold r ≡ contactTold (timeOf d a b)) × ((contactTold r) .0 ≡ rootNumber (rootOf d))
+  time-told r e = (ap contactTold e, ap (λ (k : Contact). (contactTold k) .0) e ∙ numbered (rootOf d))
 
 -- ---- the four tests
 module _ (a b c : Float) where

@@ -1,6 +1,9 @@
 // When two grains of a cell touch, and what they then are.
 ghost use mathlib.Core.Path.{_≡_};
+ghost use Rattle.root.specs.Root.{rootOf};
+ghost use Rattle.root.specs.Rule.{number as rootNumber};
 ghost use Rattle.model.specs.Collision as collision;
+ghost use Rattle.model.specs.Reports.{contactTold, planTold};
 ghost use Rattle.cell.specs.Cell.{IsCell};
 use crate::util;
 use cell::Cell;
@@ -14,7 +17,8 @@ use root::Root;
 
 // The earlier solution, from the root of the discriminant d.
 fn time_of(d: f64, a: f64, b: f64) -> Contact
-    ensures { λ r. ⌜ r ≡ collision.timeOf d a b ⌝ }
+    ensures { λ r. ⌜ contactTold r ≡ contactTold (collision.timeOf d a b) ⌝ }
+    ensures { λ r. ⌜ (contactTold r) .0 ≡ rootNumber (rootOf d) ⌝ }
 {
     match root::square_root(d) {
         Root::Value(s) => {
@@ -31,7 +35,7 @@ fn time_of(d: f64, a: f64, b: f64) -> Contact
 
 // When two grains touch that are dpos apart and whose velocities differ by dvel: a dt² + 2 b dt + c = 0.
 fn contact(dpos: MyVec, dvel: MyVec) -> Contact
-    ensures { λ r. ⌜ r ≡ collision.collide dpos dvel ⌝ }
+    ensures { λ r. ⌜ contactTold r ≡ contactTold (collision.collide dpos dvel) ⌝ }
 {
     let a = dvel.dot(dvel);
     let b = dvel.dot(dpos);
@@ -127,7 +131,7 @@ pub fn schedule(
     q: Particle,
 ) -> Plan
     requires { ⌜ IsCell domain cell ⌝ }
-    ensures { λ r. ⌜ r ≡ collision.collision domain time (cell .index) i j p q ⌝ }
+    ensures { λ r. ⌜ planTold r ≡ planTold (collision.collision domain time (cell .index) i j p q) ⌝ }
 {
     let dpos = cell.apart(domain, q.pos.sub(p.pos));
     let dvel = q.vel.sub(p.vel);

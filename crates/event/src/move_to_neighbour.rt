@@ -1,6 +1,7 @@
 // When a grain enters the neighbour of a cell that it moves to in a direction.
 ghost use mathlib.Core.Path.{_≡_};
 ghost use Rattle.model.specs.Moves.{toNeighbour};
+ghost use Rattle.model.specs.Reports.{planTold};
 ghost use Rattle.cell.specs.Cell.{IsCell};
 use crate::util;
 use crate::util::Course;
@@ -12,7 +13,7 @@ use model::Plan;
 
 pub fn schedule(domain: Domain, time: f64, cell: Cell, dim: usize, i: u64, p: Particle) -> Plan
     requires { ⌜ IsCell domain cell ⌝ }
-    ensures { λ r. ⌜ r ≡ toNeighbour dim domain time (cell .index) i p ⌝ }
+    ensures { λ r. ⌜ planTold r ≡ planTold (toNeighbour dim domain time (cell .index) i p) ⌝ }
 {
     let course = Course::new(domain, cell, dim, p);
     if course.shut() {

@@ -1,5 +1,6 @@
 // A grain in one direction of a cell: what the moves and the walls ask.
 ghost use mathlib.Core.Path.{_≡_};
+ghost use Rattle.model.specs.Reports.{planTold};
 ghost use Rattle.model.specs.Stepping as stepping;
 ghost use Rattle.cell.specs.Cell.{IsCell};
 ghost use Rattle.event.specs.Course.{courseOf, edgeIn, shutIn, gapIn, dtIn, asideIn};
@@ -94,7 +95,7 @@ impl Course {
 
 // An event dt after the clock.
 pub fn due(time: f64, dt: f64, event: Event) -> Plan
-    ensures { λ r. ⌜ r ≡ stepping.due time dt event ⌝ }
+    ensures { λ r. ⌜ planTold r ≡ planTold (stepping.due time dt event) ⌝ }
 {
     Plan::Due(Pending {
         time: time + dt,

@@ -1,6 +1,7 @@
 // When a grain reflects at a wall in a direction, and what it then is.
 ghost use mathlib.Core.Path.{_≡_};
 ghost use Rattle.model.specs.Walls.{wall};
+ghost use Rattle.model.specs.Reports.{planTold};
 ghost use Rattle.cell.specs.Cell.{IsCell};
 ghost use Rattle.event.specs.Course.{noWallIn, wallIn, wallValIn};
 use crate::util;
@@ -40,7 +41,7 @@ fn new_val(course: Course, val: f64) -> f64
 
 pub fn schedule(domain: Domain, time: f64, cell: Cell, dim: usize, i: u64, p: Particle) -> Plan
     requires { ⌜ IsCell domain cell ⌝ }
-    ensures { λ r. ⌜ r ≡ wall dim domain time (cell .index) i p ⌝ }
+    ensures { λ r. ⌜ planTold r ≡ planTold (wall dim domain time (cell .index) i p) ⌝ }
 {
     let course = Course::new(domain, cell, dim, p);
     if no_wall(course) {

@@ -10,7 +10,7 @@ use lib.Dec.{eqb}
 use lib.Ieee.{Float}
 use borrow.Author.Tests.{eq-eqb}
 use Rattle.root.specs.Root.{rootOf}
-use Rattle.root.specs.Rule.{number as rootNumber}
+use Rattle.root.specs.Rule.{number as rootNumber, value as rootValue}
 use Rattle.model.specs.declared.Domain.{Domain}
 use Rattle.model.specs.State.{has}
 use Rattle.model.specs.Run.{How, synchronised, spent, refused}
@@ -20,7 +20,7 @@ use Rattle.checks.specs.Decode.{Tables}
 use Rattle.simulator.specs.Start.{startAll}
 use Rattle.simulator.specs.Run.{runTables}
 use Rattle.simulator.proofs.Numbers.{OneOf, Given, run-number}
-use Rattle.fesolopi.specs.Codes.{Begun, begun, begunBy, runNumber, Ended, ended, endedBy, rootValue}
+use Rattle.fesolopi.specs.Codes.{Begun, begun, begunBy, runNumber, Ended, ended, endedBy}
 use Rattle.fesolopi.specs.Needed.{Needed, needed, neededFor}
 
 -- a start: its number, the grain named, the tables

@@ -5,12 +5,12 @@ use lib.Ieee.{Float}
 use Rattle.model.specs.declared.Started.{Started}
 use Rattle.model.specs.declared.Report.{Report}
 use Rattle.model.specs.declared.Report.the-variants as report
-use Rattle.model.specs.Reports.{startNumber}
+use Rattle.model.specs.Reports.{startNumber, grainNamed}
 use Rattle.checks.specs.Decode.{Tables}
 use Rattle.simulator.specs.Start.{StartedWith, with}
 use Rattle.running.specs.Ran.{RanTables, toldTables}
 use Rattle.running.specs.Going.{clockOf}
-use Rattle.fesolopi.specs.Codes.{grainNamed, begun, begunBy, reportNumber, eventsTold, ended, endedBy}
+use Rattle.fesolopi.specs.Codes.{begun, begunBy, reportNumber, eventsTold, ended, endedBy}
 
 pub start-told : (a : Started) (n g : ℕ) (t : Tables) (s : StartedWith) → n ≡ startNumber a → g ≡ grainNamed a → with a t ≡ s → begun n g t ≡ begunBy s
 start-told a n g t s en eg e = ap (λ (k : ℕ). begun k g t) en ∙ ap (λ (k : ℕ). begun (startNumber a) k t) eg ∙ ap begunBy e

@@ -2,13 +2,8 @@
 use Prim.Native.Nat.{ℕ}
 use mathlib.Core.Bool.{Bool}
 use lib.Ieee.{Float}
-use Rattle.order.specs.Numbers.{fzero}
 use Rattle.myvec.specs.Vec.{vec}
-use Rattle.root.specs.declared.Root.{Root}
-use Rattle.root.specs.declared.Root.the-variants as root
 use Rattle.model.specs.declared.Domain.{Domain}
-use Rattle.model.specs.declared.Started.{Started}
-use Rattle.model.specs.declared.Started.the-variants as started
 use Rattle.model.specs.declared.Report.{Report}
 use Rattle.model.specs.declared.Report.the-variants as report
 use Rattle.model.specs.Grid.{boxOf}
@@ -21,14 +16,7 @@ use Rattle.running.specs.Ran.{RanTables}
 abbrev pub boxed : Float → Float → Bool → Bool → Domain
 boxed l0 l1 p0 p1 = boxOf (vec l0 l1) p0 p1
 
--- the grain that a start refused by 4 names; 0 beside every other answer
-abbrev pub grainNamed : Started → ℕ
-grainNamed started.Accepted = 0
-grainNamed (started.Halted r) = 0
-grainNamed (started.Refused r) = 0
-grainNamed (started.BadGrain g) = g
-
--- a start's number, the grain beside it, and the tables afterwards
+-- a start's number, the grain that 4 names (0 beside every other number), and the tables afterwards
 pub record Begun : Type 0 where
   pub number : ℕ
   pub grain : ℕ
@@ -38,7 +26,7 @@ abbrev pub begun : ℕ → ℕ → Tables → Begun
 begun r g a = record { number = r; grain = g; after = a }
 
 abbrev pub begunBy : StartedWith → Begun
-begunBy s = begun (s .number) (grainNamed (s .answer)) (s .after)
+begunBy s = begun (s .number) (s .grain) (s .after)
 
 -- how a run ended: 0 synchronised, 11 spent, else the number of the refusal or the halt, which is never either
 abbrev pub runNumber : How → ℕ
@@ -69,8 +57,3 @@ abbrev pub eventsTold : Report → ℕ
 eventsTold (report.Synchronised t n) = n
 eventsTold (report.Spent t n) = n
 eventsTold (report.Refused r t n) = n
-
--- a root, +0 beside a refusal
-abbrev pub rootValue : Root → Float
-rootValue (root.Value x) = x
-rootValue root.Refused = fzero

@@ -1,13 +1,14 @@
 // The calls for programs in other languages: numbers, slices and references to numbers only. None asks anything of its caller but that slices are what they say.
 ghost use mathlib.Core.Path.{_≡_};
 ghost use mathlib.Core.Bool.{true};
-ghost use Rattle.model.specs.Reports.{startNumber};
+ghost use Rattle.model.specs.Check.{Fits};
+ghost use Rattle.model.specs.Reports.{startNumber, grainNamed};
 ghost use Rattle.root.specs.Root.{rootOf};
-ghost use Rattle.root.specs.Rule.{number as rootNumber};
+ghost use Rattle.root.specs.Rule.{number as rootNumber, value as rootValue, RootSays};
 ghost use Rattle.checks.specs.Decode.{tables};
 ghost use Rattle.simulator.specs.Start.{startAll};
-ghost use Rattle.simulator.specs.Run.{runTables};
-ghost use Rattle.fesolopi.specs.Codes.{boxed, grainNamed, begun, begunBy, reportNumber, eventsTold, ended, endedBy, rootValue};
+ghost use Rattle.simulator.specs.Run.{runTables, Owned};
+ghost use Rattle.fesolopi.specs.Codes.{boxed, begun, begunBy, reportNumber, eventsTold, ended, endedBy};
 ghost use Rattle.fesolopi.specs.Needed.{refusedBy, needed, neededFor};
 use cell::Grid;
 use model::Domain;
@@ -34,6 +35,7 @@ pub extern "C" fn fesolopi_start(
     order: &mut [u8],
     grain: &mut u64,
 ) -> u64
+    ensures { λ _. ⌜ Fits (boxed l0 l1 periodic0 periodic1) ⌝ }
     ensures { λ r. ⌜ begun r (now (grain .exit)) (tables (now (lists .exit)) (now (grains .exit)) (now (queue .exit)) (now (events .exit)) (now (order .exit)))
         ≡ begunBy (startAll (boxed l0 l1 periodic0 periodic1) count room (now (inputs .entry))
         (tables (now (lists .entry)) (now (grains .entry)) (now (queue .entry)) (now (events .entry)) (now (order .entry)))) ⌝ }
@@ -95,6 +97,7 @@ pub extern "C" fn fesolopi_run(
     clock: &mut f64,
     done: &mut u64,
 ) -> u64
+    ensures { λ _. ⌜ Owned budget (tables (now (lists .entry)) (now (grains .entry)) (now (queue .entry)) (now (events .entry)) (now (order .entry))) ⌝ }
     ensures { λ r. ⌜ ended r (now (clock .exit)) (now (done .exit)) (tables (now (lists .exit)) (now (grains .exit)) (now (queue .exit)) (now (events .exit)) (now (order .exit)))
         ≡ endedBy (runTables rate budget (tables (now (lists .entry)) (now (grains .entry)) (now (queue .entry)) (now (events .entry)) (now (order .entry)))) ⌝ }
 {
@@ -206,6 +209,7 @@ pub extern "C" fn fesolopi_needed(
 pub extern "C" fn fesolopi_square_root(d: f64, root: &mut f64) -> u64
     ensures { λ r. ⌜ r ≡ rootNumber (rootOf d) ⌝ }
     ensures { λ _. ⌜ now (root .exit) ≡ rootValue (rootOf d) ⌝ }
+    ensures { λ r. ⌜ RootSays d r (now (root .exit)) ⌝ }
 {
     let found = root::square_root(d);
     *root = root_value(found);

@@ -72,7 +72,7 @@ begins-does (a ∷ xs) ended s l u d = absurd d
 begins-does (a ∷ xs) (act b f) s l u d = subst (λ (x : Act). ((perform x s) .num ≡ 0) × Does xs ((perform x s) .st) u) (sym (d .0)) (d .1, begins-does xs (f ((perform b s) .st)) ((perform b s) .st) l u (d .2))
 
 -- a halt in a row is a halt
-pub in-row : (w : Acts) (r : ℕ) (s v : State) → HaltIn w r s v → Halt r s v
+in-row : (w : Acts) (r : ℕ) (s v : State) → HaltIn w r s v → Halt r s v
 in-row w r s v h = record { acts = h .acts; at = h .at; did = begins-does (h .acts) w s (act (h .refused-act) (h .later)) (h .at) (h .did); act = h .refused-act; refuses = h .refuses; left = h .left; five = h .five; nine = h .nine }
 
 turn-halts : (a : Act) (f : State → Acts) (s : State) (r k : ℕ) → (perform a s) .num ≡ k → ((u : State) → (doing (f u) u) .num ≡ r → 0 < r → HaltIn (f u) r u (marked r ((doing (f u) u) .st)))

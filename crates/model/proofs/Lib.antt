@@ -1,12 +1,14 @@
 -- The theorems over the definitions of document 01, and what leads to them.
--- What is claimed: demand 3 (Demand3) of what is reached (Reached), shown not to be empty (Shown); halts (Halts, OneHalt), the numbers given exactly if (Exactly, Refusals), what
--- counts are (Counts), what cannot happen (Never); an equal waits (Inserts), a cancelling forgets (Forgets), no grain is born outside every cell (Born); 01's examples (Starred).
+-- What is claimed: demand 3 (Demand3) of what is reached (Reached), shown not to be empty (Shown); halts (Halts, OneHalt), the numbers given exactly if (Exactly, Refusals), the
+-- grain named and the budgets (Allowed), what counts are (Counts), what cannot happen (Never); an equal waits (Inserts), a cancelling forgets (Forgets), no grain is born outside
+-- every cell (Born); 01's examples (Starred, over the boxes and grains of Scenes).
 pub mod Demand3
 pub mod Reached
 pub mod Shown
 pub mod Halts
 pub mod OneHalt
 pub mod Exactly
+pub mod Allowed
 pub mod Refusals
 pub mod Counts
 pub mod Never
@@ -14,6 +16,7 @@ pub mod Inserts
 pub mod Forgets
 pub mod Born
 pub mod Starred
+pub mod Scenes
 -- What is said over the history of acts (Histories): no event from an old velocity (NoneOld), none missing (Watched), nothing else pending (NothingElse), and that the history is
 -- true (True), with velocities that only turns change (Velocities); computed on two runs (Stake, Tested; Exhibits).
 pub mod Histories
@@ -43,8 +46,9 @@ pub mod Keeps
 pub mod Lists
 pub mod Queue
 pub mod Places
--- A step: what scheduling finds (Plans), executions (Schedule), the step (Steps); a run of them (Runs), behind its checks (Whole); the checks (Reflect, Stands).
+-- A step: what scheduling finds (Plans, told by numbers Answers), executions (Schedule), the step (Steps); a run of them (Runs), behind its checks (Whole); the checks (Reflect, Stands).
 pub mod Plans
+pub mod Answers
 pub mod Schedule
 pub mod Steps
 pub mod Runs

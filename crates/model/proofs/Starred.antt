@@ -10,34 +10,34 @@ use lib.ListN.{length}
 use lib.Count.{leadingZeros}
 use lib.Ieee.{Float, nan, inf, fin, binary64, ofBits, toBits, round, add, sub, mul, div, neg, lt, le, eq, ofInt, toUnsigned}
 use lib.Ieee.Fits.{and-l, and-r}
-use Rattle.order.specs.Numbers.{fzero, half, one, two, nine}
+use Rattle.order.specs.Numbers.{fzero, half, rest, one, two, nine}
 use Rattle.root.specs.Isqrt.{near, root}
 use Rattle.root.specs.Root.{rootOf, sqrtOf}
+use Rattle.myvec.specs.declared.MyVec.{MyVec}
 use Rattle.myvec.specs.Vec.{vec}
-use Rattle.model.specs.declared.Domain.{Domain}
 use Rattle.model.specs.declared.Particle.{Particle}
-use Rattle.model.specs.declared.Place.{Place}
-use Rattle.model.specs.declared.Event.the-variants.{MoveOutOfCell}
 use Rattle.model.specs.declared.Contact.{Contact}
 use Rattle.model.specs.declared.Contact.the-variants.{Never, After, Refused}
-use Rattle.model.specs.declared.Plan.{Plan}
-use Rattle.model.specs.declared.Plan.the-variants as plan
+use Rattle.model.specs.Sizes.{boxOk, rated, grainOk}
 use Rattle.model.specs.Grid.{boxOf, cellsOf, across, below, above, position}
+use Rattle.model.specs.Periodic.{apart}
 use Rattle.model.specs.Stepping.{grainOf, newPos}
 use Rattle.model.specs.FromPToC.{upFrom, reached, rows, cellsOfGrain}
-use Rattle.model.specs.Collision.{aOf, bOf, cOf, dOf, tooSlow, collide}
+use Rattle.model.specs.Collision.{aOf, bOf, cOf, dOf, tooSlow, collide, collision}
 use Rattle.model.specs.Moves.{later, toNeighbour, outOfCell}
 use Rattle.model.specs.Walls.{wall}
-use Rattle.model.specs.Events.{zeroV, placeOf, insertBy}
-use Rattle.model.specs.Start.{Begun, refused, started, start}
+use Rattle.model.specs.Events.{zeroV, insertBy}
+use Rattle.model.specs.Start.{start}
 use Rattle.halting.specs.Every.{All}
 use Rattle.model.specs.Check.{all}
+use Rattle.model.proofs.Scenes.{plus, minus, periodicBox, walledBox, flooredBox, slider, mover, dt, place, entering, leaving, reflecting, dpos, dvel, colliding, grains, ofGrain, refusal, startIn, outward, inward}
 
--- ---- what an example says: one or more equations, between numbers, lists of them, floats, tests, or times
+-- ---- what an example says: one or more equations, between numbers, lists of them, floats, pairs of floats, tests, or times
 pub data Fact : Type 0 where
   number : ℕ → ℕ → Fact
   numbers : List ℕ → List ℕ → Fact
   float : Float → Float → Fact
+  vector : MyVec → MyVec → Fact
   test : Bool → Bool → Fact
   when : Contact → Contact → Fact
 
@@ -45,6 +45,7 @@ abbrev pub Holds : Fact → Type 0
 Holds (number x y) = x ≡ y
 Holds (numbers x y) = x ≡ y
 Holds (float x y) = x ≡ y
+Holds (vector x y) = x ≡ y
 Holds (test x y) = x ≡ y
 Holds (when x y) = x ≡ y
 
@@ -54,56 +55,13 @@ Row = List Fact
 abbrev pub Claim : Row → Type 0
 Claim r = All Holds r
 
--- ---- the numbers, boxes and grains of the examples
--- a / b and -a / b
-abbrev plus : ℕ → ℕ → Float
-plus a b = round binary64 false a b
+-- two grains are x apart, their velocities differ by v, and they touch when k says: by x and v alone, and by the whole collision
+abbrev touch : Particle → Particle → MyVec → MyVec → Contact → Row
+touch p q x v k = vector (dpos p q) x ∷ vector (dvel p q) v ∷ when (collide x v) k ∷ when (dt (colliding periodicBox p q)) k ∷ []
 
-abbrev minus : ℕ → ℕ → Float
-minus a b = round binary64 true a b
-
--- 9 by 9, periodic or wall-bounded in direction 0
-abbrev periodicBox : Domain
-periodicBox = boxOf (vec nine nine) true true
-
-abbrev walledBox : Domain
-walledBox = boxOf (vec nine nine) false true
-
--- a grain in the middle row
-abbrev mover : Float → Float → Particle
-mover x v = grainOf (vec x (plus 9 2)) (vec v fzero) fzero half
-
--- the dt of a plan at the clock 0
-abbrev dt : Plan → Contact
-dt plan.Nothing = Never
-dt (plan.Due e) = After (e .time)
-dt plan.Refused = Refused
-
--- in direction 0 and cell c: when it enters the neighbour, leaves the cell, reflects
-abbrev entering : Domain → ℕ → Particle → Contact
-entering b c p = dt (toNeighbour 0 b fzero c 0 p)
-
-abbrev leaving : Domain → ℕ → Particle → Contact
-leaving b c p = dt (outOfCell 0 b fzero c 0 p)
-
-abbrev reflecting : Domain → ℕ → Particle → Contact
-reflecting b c p = dt (wall 0 b fzero c 0 p)
-
--- the grains that some events name, in order; an event of grain i at a time
-abbrev grains : List Place → List ℕ
-grains [] = []
-grains (x ∷ xs) = x .p ∷ grains xs
-
-abbrev ofGrain : ℕ → Float → Place
-ofGrain i t = placeOf (record { time = t; event = MoveOutOfCell i zeroV 0 })
-
--- the number of a refused start
-abbrev refusal : Begun → ℕ
-refusal (refused r i) = r
-refusal (started s) = 0
-
-abbrev startIn : Float → Float → Begun
-startIn l0 l1 = start (boxOf (vec l0 l1) true true) 64 []
+-- a range takes its ends, lo and hi, and neither the next float on either side nor a NaN
+abbrev ends : (Float → Bool) → Float → Float → Float → Float → Row
+ends ok below lo hi above = test (ok below) false ∷ test (ok lo) true ∷ test (ok hi) true ∷ test (ok above) false ∷ test (ok nan) false ∷ []
 
 -- ---- the 14 starred examples
 unfoldable pub starred : List Row
@@ -121,20 +79,22 @@ starred =
     -- collisions
     ∷ (let x = vec (plus 3 1) fzero in
     let v = vec (minus 2 1) fzero in
-    float (aOf v) (plus 4 1) ∷ float (bOf x v) (minus 6 1) ∷ float (cOf x) (plus 8 1) ∷ float (dOf (aOf v) (bOf x v) (cOf x)) (plus 4 1) ∷ when (collide x v) (After (plus 1 1)) ∷ [])
+    float (aOf v) (plus 4 1) ∷ float (bOf x v) (minus 6 1) ∷ float (cOf x) (plus 8 1) ∷ float (dOf (aOf v) (bOf x v) (cOf x)) (plus 4 1)
+    ∷ touch (mover (plus 3 1) one) (mover (plus 6 1) (minus 1 1)) x v (After (plus 1 1)))
     ∷ (let x = vec (plus 3 1) (plus 1 1) in
     let v = vec (minus 1 1) fzero in
-    float (dOf (aOf v) (bOf x v) (cOf x)) fzero ∷ when (collide x v) (After (plus 3 1)) ∷ [])
-    ∷ (when (collide (vec (plus 3 1) (plus 3 2)) (vec (minus 1 1) fzero)) Never ∷ [])
-    ∷ (when (collide (vec (plus 1 1) fzero) (vec (minus 2 1) fzero)) (After fzero) ∷ [])
+    float (dOf (aOf v) (bOf x v) (cOf x)) fzero ∷ touch (slider (plus 3 1) (plus 4 1) one) (slider (plus 6 1) (plus 5 1) fzero) x v (After (plus 3 1)))
+    ∷ touch (slider (plus 3 1) (plus 4 1) one) (slider (plus 6 1) (plus 11 2) fzero) (vec (plus 3 1) (plus 3 2)) (vec (minus 1 1) fzero) Never
+    ∷ touch (mover (plus 4 1) one) (mover (plus 5 1) (minus 1 1)) (vec (plus 1 1) fzero) (vec (minus 2 1) fzero) (After fzero)
     -- the test on a, alone and in the collision
     ∷ (let v = vec (minus 1 (2 ^ 26)) fzero in
-    test (tooSlow (aOf v)) false ∷ when (collide (vec (plus 3 1) fzero) v) (After (plus (2 ^ 27) 1)) ∷ [])
+    test (tooSlow (aOf v)) false ∷ touch (mover (plus 3 1) (plus 1 (2 ^ 26))) (mover (plus 6 1) fzero) (vec (plus 3 1) fzero) v (After (plus (2 ^ 27) 1)))
     ∷ (let v = vec (minus 1 (2 ^ 27)) fzero in
-    test (tooSlow (aOf v)) true ∷ when (collide (vec (plus 3 1) fzero) v) Never ∷ [])
-    -- a move from cell column 1
+    test (tooSlow (aOf v)) true ∷ touch (mover (plus 3 1) (plus 1 (2 ^ 27))) (mover (plus 6 1) fzero) (vec (plus 3 1) fzero) v Never)
+    -- a move from cell column 1: into cell 5, and out of cell 4
     ∷ (let p = mover (plus 9 2) one in
-    when (entering periodicBox 4 p) (After (plus 1 1)) ∷ when (leaving periodicBox 4 p) (After (plus 2 1)) ∷ [])
+    when (dt (entering periodicBox 4 p)) (After (plus 1 1)) ∷ number ((place (entering periodicBox 4 p)) .cell) 5
+    ∷ when (dt (leaving periodicBox 4 p)) (After (plus 2 1)) ∷ number ((place (leaving periodicBox 4 p)) .cell) 4 ∷ [])
     ∷ []
 
 fourteen : length starred ≡ 14
@@ -148,16 +108,38 @@ unstarred =
     (number (refusal (startIn (plus 17 2) nine)) 1 ∷ number (refusal (startIn nine (plus 17 2))) 1 ∷ [])
     ∷ (number (refusal (startIn (plus 97 2) nine)) 1 ∷ number (refusal (startIn nine (plus 97 2))) 1 ∷ [])
     -- the last column of walls: a reflection, and no event
-    ∷ (when (reflecting walledBox 5 (mover (plus 15 2) one)) (After (plus 1 1)) ∷ [])
+    ∷ (when (dt (reflecting walledBox 5 (mover (plus 15 2) one))) (After (plus 1 1)) ∷ [])
     ∷ (let p = mover (plus 17 2) one in
-    when (reflecting walledBox 5 p) Never ∷ when (entering walledBox 5 p) Never ∷ when (leaving walledBox 5 p) Never ∷ [])
+    when (dt (reflecting walledBox 5 p)) Never ∷ when (dt (entering walledBox 5 p)) Never ∷ when (dt (leaving walledBox 5 p)) Never ∷ [])
     -- across the periodic edge: a grain at 8.5 seen from column 0, one at 0.5 seen from column 2
-    ∷ (when (entering periodicBox 3 (mover (plus 17 2) one)) (After (plus 3 1)) ∷ [])
-    ∷ (when (entering periodicBox 5 (mover half (minus 1 1))) (After (plus 3 1)) ∷ [])
+    ∷ (when (dt (entering periodicBox 3 (mover (plus 17 2) one))) (After (plus 3 1)) ∷ [])
+    ∷ (when (dt (entering periodicBox 5 (mover half (minus 1 1)))) (After (plus 3 1)) ∷ [])
     -- (1 / a)·(-√d - b) where dividing by a rounds to another float
     ∷ (when (collide (vec (plus 3 1) fzero) (vec (minus 21 1) fzero)) (After (ofBits binary64 0x3fb8_6186_1861_8619)) ∷ [])
     -- an event goes after one that is as early, and before a later one
     ∷ (numbers (grains (insertBy (ofGrain 2 one) (ofGrain 0 one ∷ ofGrain 1 two ∷ []))) (0 ∷ 2 ∷ 1 ∷ []) ∷ [])
+    -- two grains of value 1 that touch in direction 1 bounce by the restitution there, and half of gravity pulls both in direction 0, which has walls
+    ∷ (let p = grainOf (vec (plus 9 2) (plus 4 1)) (vec fzero one) fzero one in
+    let q = grainOf (vec (plus 9 2) (plus 5 1)) (vec fzero (minus 1 1)) fzero one in
+    vector ((place (colliding walledBox p q)) .c) (vec (minus 1 4) (neg rest)) ∷ vector ((place (colliding walledBox p q)) .d) (vec (minus 1 4) rest) ∷ [])
+    -- a grain of value 0.5 at the low wall and at the high one: its velocity and its value afterwards
+    ∷ (let e = place (reflecting walledBox 3 (mover (plus 3 2) (minus 1 1))) in
+    vector (e .c) (vec one fzero) ∷ float (e .val) (plus 1 4) ∷ [])
+    ∷ (let e = place (reflecting walledBox 5 (mover (plus 15 2) one)) in
+    vector (e .c) (vec (minus 1 1) fzero) ∷ float (e .val) (plus 3 4) ∷ [])
+    -- box lengths
+    ∷ ends (λ l. boxOk (boxOf (vec l nine) true true)) (inward nine) nine (plus 48 1) (outward (plus 48 1))
+    ∷ ends (λ l. boxOk (boxOf (vec nine l) true true)) (inward nine) nine (plus 48 1) (outward (plus 48 1))
+    -- start positions: wall-bounded and periodic, in each direction
+    ∷ ends (λ x. grainOk walledBox (mover x fzero)) (inward half) half (plus 17 2) (outward (plus 17 2))
+    ∷ ends (λ x. grainOk flooredBox (mover x fzero)) (outward (neg fzero)) fzero nine (outward nine)
+    ∷ ends (λ y. grainOk flooredBox (slider one y fzero)) (inward half) half (plus 17 2) (outward (plus 17 2))
+    ∷ ends (λ y. grainOk walledBox (slider one y fzero)) (outward (neg fzero)) fzero nine (outward nine)
+    -- start velocities, values, sync rates
+    ∷ ends (λ v. grainOk periodicBox (mover one v)) (outward (minus 1024 1)) (minus 1024 1) (plus 1024 1) (outward (plus 1024 1))
+    ∷ ends (λ v. grainOk periodicBox (grainOf (vec one one) (vec fzero v) fzero half)) (outward (minus 1024 1)) (minus 1024 1) (plus 1024 1) (outward (plus 1024 1))
+    ∷ ends (λ w. grainOk periodicBox (grainOf (vec one one) zeroV fzero w)) (outward (neg fzero)) fzero one (outward one)
+    ∷ ends rated (inward (plus 1 (2 ^ 20))) (plus 1 (2 ^ 20)) (plus (2 ^ 20) 1) (outward (plus (2 ^ 20) 1))
     ∷ []
 
 -- ---- the test of a row
@@ -195,10 +177,14 @@ sameTime Refused Never = false
 sameTime Refused (After y) = false
 sameTime Refused Refused = true
 
+abbrev sameVec : MyVec → MyVec → Bool
+sameVec u v = sameFloat (u .x) (v .x) && sameFloat (u .y) (v .y)
+
 abbrev good : Fact → Bool
 good (number x y) = eqb x y
 good (numbers x y) = sameList x y
 good (float x y) = sameFloat x y
+good (vector x y) = sameVec x y
 good (test x y) = Bool·beq x y
 good (when x y) = sameTime x y
 
@@ -251,10 +237,17 @@ same-time Refused Never h = absurd h
 same-time Refused (After y) h = absurd h
 same-time Refused Refused h = refl
 
+same-vec : (u v : MyVec) → T (sameVec u v) → u ≡ v
+same-vec u v h =
+    let p = same-float (u .x) (v .x) (and-l (sameFloat (u .x) (v .x)) (sameFloat (u .y) (v .y)) h) in
+    let q = same-float (u .y) (v .y) (and-r (sameFloat (u .x) (v .x)) (sameFloat (u .y) (v .y)) h) in
+    λ i. vec (p i) (q i)
+
 good-holds : (f : Fact) → T (good f) → Holds f
 good-holds (number x y) h = eqb→eq x y h
 good-holds (numbers x y) h = same-list x y h
 good-holds (float x y) h = same-float x y h
+good-holds (vector x y) h = same-vec x y h
 good-holds (test x y) h = same-test x y h
 good-holds (when x y) h = same-time x y h
 
@@ -267,14 +260,14 @@ good-rows = all-holds (all good) Claim (all-holds good Holds good-holds)
 
 -- ---- computed over the whole of each table
 starred-good : T (all (all good) starred)
-unfolding starred round add sub mul div neg lt le eq ofInt toUnsigned ofBits toBits rootOf sqrtOf near root leadingZeros across position newPos upFrom reached rows cellsOfGrain later toNeighbour outOfCell
+unfolding starred round add sub mul div neg lt le eq ofInt toUnsigned ofBits toBits rootOf sqrtOf near root leadingZeros across position newPos upFrom reached rows cellsOfGrain apart collision later toNeighbour outOfCell
 starred-good = tt
 
 pub starred-hold : All Claim starred
 starred-hold = good-rows starred starred-good
 
 unstarred-good : T (all (all good) unstarred)
-unfolding unstarred round add sub mul div neg lt le eq ofInt toUnsigned ofBits toBits rootOf sqrtOf near root leadingZeros across position newPos later toNeighbour outOfCell wall insertBy start
+unfolding unstarred round add sub mul div neg lt le eq ofInt toUnsigned ofBits toBits rootOf sqrtOf near root leadingZeros across position newPos apart collision later toNeighbour outOfCell wall insertBy start
 unstarred-good = tt
 
 pub unstarred-hold : All Claim unstarred

@@ -6,6 +6,7 @@ use lib.Dec.{T}
 use lib.IntN.{ℤ}
 use lib.Ieee.{Float, nan, inf, fin, binary64, fits, up, down}
 use lib.Ieee.Exact.{HasValue}
+use Rattle.order.specs.Numbers.{fzero}
 use Rattle.root.specs.declared.Root.{Root}
 use Rattle.root.specs.declared.Root.the-variants.{Value, Refused}
 
@@ -25,16 +26,23 @@ pub record Rooted (d y : Float) : Type 0 where
   pub nearest : Nearest M r
   pub is : HasValue y false (r * up e) (down e)
 
--- the number that an answer gives back: 5 where there is no root
+-- what an answer gives back: its number, 5 where there is no root, and its value, +0 beside a refusal
 abbrev pub number : Root → ℕ
 number (Value y) = 0
 number Refused = 5
 
--- +0, -0 and +infinity give themselves, other negatives and NaN are refused by 5, a positive finite value has its root
-unfoldable pub RootRule : Float → Root → Type 0
-RootRule nan r = number r ≡ 5
-RootRule (inf true) r = number r ≡ 5
-RootRule (inf false) r = r ≡ Value (inf false)
-RootRule (fin s zero e) r = r ≡ Value (fin s zero e)
-RootRule (fin true (suc m) e) r = number r ≡ 5
-RootRule (fin false (suc m) e) r = (y : Float) × (r ≡ Value y) × T (fits binary64 y) × Rooted (fin false (suc m) e) y
+abbrev pub value : Root → Float
+value (Value y) = y
+value Refused = fzero
+
+-- +0, -0 and +infinity give themselves, other negatives and NaN are refused by 5, a positive finite value has its root: by the number n and the value y
+unfoldable pub RootSays : Float → ℕ → Float → Type 0
+RootSays nan n y = n ≡ 5
+RootSays (inf true) n y = n ≡ 5
+RootSays (inf false) n y = (n ≡ 0) × (y ≡ inf false)
+RootSays (fin s zero e) n y = (n ≡ 0) × (y ≡ fin s zero e)
+RootSays (fin true (suc m) e) n y = n ≡ 5
+RootSays (fin false (suc m) e) n y = (n ≡ 0) × T (fits binary64 y) × Rooted (fin false (suc m) e) y
+
+abbrev pub RootRule : Float → Root → Type 0
+RootRule x r = RootSays x (number r) (value r)

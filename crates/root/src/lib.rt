@@ -5,6 +5,7 @@ ghost use Rattle.root.specs.Isqrt.{near};
 ghost use Rattle.root.specs.Step.{Ready, Stepped};
 ghost use Rattle.root.specs.Bits.{finish, rootBits};
 ghost use Rattle.root.specs.Root.{rootOf};
+ghost use Rattle.root.specs.Rule.{RootRule};
 
 // The root so far, what is left of the digits that were taken, and the digits to come, 54 of them at a time.
 struct Digits {
@@ -91,6 +92,7 @@ pub enum Root {
 // The correctly rounded square root.
 pub fn square_root(x: f64) -> Root
     ensures { λ r. ⌜ r ≡ rootOf x ⌝ }
+    ensures { λ r. ⌜ RootRule x r ⌝ }
 {
     if x != x {
         return Root::Refused;

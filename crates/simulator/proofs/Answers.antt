@@ -12,7 +12,6 @@ use Rattle.model.specs.declared.Started.{Started}
 use Rattle.model.specs.declared.Started.the-variants as answer
 use Rattle.model.specs.Sizes.{boxOk}
 use Rattle.model.specs.State.{State}
-use Rattle.model.specs.Check.{Fits}
 use Rattle.model.specs.Start.{Begun, refused, started, start}
 use Rattle.model.proofs.Never.{no-8-or-9-at-start}
 use Rattle.tables.specs.declared.Sizes.{Sizes}
@@ -20,7 +19,7 @@ use Rattle.checks.specs.Decode.{Tables}
 use Rattle.checks.proofs.Needs.{allowed}
 use Rattle.starting.specs.Inputs.{inputsOf}
 use Rattle.starting.specs.Cleared.{sizesFor}
-use Rattle.simulator.specs.Start.{fits, StartedWith, with, byMark, leaving, startAll}
+use Rattle.simulator.specs.Start.{fits, StartedWith, with, byMark, leaving, startAll, StartPromise}
 
 -- a fact of every refusal that leaves the tables, and of every start that the model accepts, is a fact of every start
 every-start : (P : StartedWith → Type 0) (b : Domain) (n room : ℕ) (inputs : List Float) (t : Tables) → ((r : ℕ) → P (with (answer.Refused r) t))
@@ -78,16 +77,16 @@ halted-start b n room inputs t r =
         let q : u ≡ s = cc in
         subst (λ (x : State). (x .mark ≡ r) × (x .mark ≡ 0 → ⊥)) q (halted-mark (u .mark) r h, not-accepted (u .mark) r h)
 
-pub halts-fairly : (b : Domain) (n room : ℕ) (inputs : List Float) (t : Tables) → Fits b → (r : ℕ) → (startAll b n room inputs t) .answer ≡ answer.Halted r → (r ≡ 8 → ⊥) × (r ≡ 9 → ⊥)
-halts-fairly b n room inputs t f r =
+pub halts-fairly : (b : Domain) (n room : ℕ) (inputs : List Float) (t : Tables) (r : ℕ) (u : Tables) → StartPromise b n room inputs t (answer.Halted r) u → (r ≡ 8 → ⊥) × (r ≡ 9 → ⊥)
+halts-fairly b n room inputs t r u p =
     every-start (λ (w : StartedWith). w .answer ≡ answer.Halted r → (r ≡ 8 → ⊥) × (r ≡ 9 → ⊥)) b n room inputs t
-    (λ k e. absurd (let z : _≡_ {A = ℕ} 0 1 = cc in omega arith)) go
+    (λ k e. absurd (let z : _≡_ {A = ℕ} 0 1 = cc in omega arith)) go (ap (λ (w : StartedWith). w .answer) (sym (p .is)))
   where
     go : (x : Begun) → start b room (inputsOf n inputs) ≡ x → (leaving x t) .answer ≡ answer.Halted r → (r ≡ 8 → ⊥) × (r ≡ 9 → ⊥)
     go (refused k g) e h = absurd (by-number (eqb k 4) k g r h)
     go (started s) e h =
         let m = halted-mark (s .mark) r h in
-        let never = no-8-or-9-at-start b room (inputsOf n inputs) s f e in
+        let never = no-8-or-9-at-start b room (inputsOf n inputs) s (p .box-fits) e in
         (λ q. never .0 (m ∙ q), λ q. never .1 (m ∙ q))
 
 -- ONLY ONE OUTCOME FITS what a start promises: the answer, and every table afterwards

@@ -1,31 +1,37 @@
--- EACH NUMBER THAT CHANGES NOTHING IS GIVEN EXACTLY IF, over the lent tables: 2, 3 and 10 of a run, 1, 2 and 4 of a start. Assumes nothing.
+-- EACH NUMBER THAT CHANGES NOTHING IS GIVEN EXACTLY IF, over the lent tables: 2, 3 and 10 of a run, 1, 2 and 4 of a start, with the grain that 4
+-- names. Assumes nothing.
 use Prim.Native.Nat.{ℕ, zero, suc, _≤_, _<_}
-use mathlib.Core.Path.{_≡_, refl, sym, ap, _∙_}
+use mathlib.Core.Path.{_≡_, refl, sym, ap, _∙_, subst}
 use mathlib.Core.Bool.{Bool, true, false, cond}
 use mathlib.Core.List.{List}
+use mathlib.Core.Logic.{inl, inr}
 use native.Mathlib.Omega.{arith}
 use native.Mathlib.Decide.{ℕ-discrete}
+use native.Mathlib.Nat.{eq-or-lt-of-le}
 use lib.Dec.{leb}
 use lib.ListN.{length}
 use lib.Ieee.{Float}
 use borrow.Author.Tests.{leb-true}
 use Rattle.model.specs.declared.Domain.{Domain}
 use Rattle.model.specs.declared.Particle.{Particle}
+use Rattle.model.specs.declared.Started.the-variants as answer
 use Rattle.model.specs.Sizes.{boxOk, rated, firstBad}
-use Rattle.model.specs.Start.{begin}
+use Rattle.model.specs.Start.{Begun, startedAt, begin}
 use Rattle.model.specs.Run.{refused}
 use Rattle.model.specs.Check.{halt}
 use Rattle.halting.proofs.Bools.{and-l, and-r, differ}
 use Rattle.model.proofs.Halts.{run-halts, start-halts}
 use Rattle.model.proofs.Exactly.{Exactly}
+use Rattle.model.proofs.Allowed.{LowestBad, lowest-named}
 use Rattle.checks.specs.Decode.{Tables, mark, decoded}
 use Rattle.checks.specs.Check.{sized, standing, checked}
 use Rattle.checks.proofs.Cut.{cut-long}
 use Rattle.starting.specs.Inputs.{inputAt, inputsOf}
 use Rattle.starting.specs.Cleared.{sizesFor}
-use Rattle.simulator.specs.Start.{fits, StartedWith, startAll}
+use Rattle.starting.proofs.InputLaws.{bad-most}
+use Rattle.simulator.specs.Start.{fits, StartedWith, with, byMark, leaving, startAll}
 use Rattle.simulator.specs.Run.{byCheck, runTables}
-use Rattle.simulator.proofs.StartLaws.{start-1, start-2, start-is, start-bad, start-good, counts-ok}
+use Rattle.simulator.proofs.StartLaws.{start-1, start-2, start-4, start-is, start-good, counts-ok, mark-number, mark-grain}
 
 both : {A B C : Type 0} → Exactly A B → Exactly B C → Exactly A C
 both e f = record { only = λ a. f .only (e .only a); so = λ c. e .so (f .so c) }
@@ -108,37 +114,64 @@ module _ (b : Domain) (n room : ℕ) (inputs : List Float) (t : Tables) where
       let a = begin-halts box f g (λ z. omega (arith, z, e, p)) .0 in
       omega (arith, a, e, q)
 
-  pub start-case : (P : ℕ → Type 0) → (boxOk b ≡ false → P 1) → (boxOk b ≡ true → fit ≡ false → P 2) → (boxOk b ≡ true → fit ≡ true → (firstBad b (inputsOf n inputs) ≡ n → ⊥) → P 4)
-      → (boxOk b ≡ true → fit ≡ true → firstBad b (inputsOf n inputs) ≡ n → P ((begin b room (inputsOf n inputs)) .num)) → P number
+  -- a fact of each outcome, by its tests, is a fact of the start
+  pub start-case : (P : StartedWith → Type 0) → (boxOk b ≡ false → P (with (answer.Refused 1) t)) → (boxOk b ≡ true → fit ≡ false → P (with (answer.Refused 2) t))
+      → (boxOk b ≡ true → fit ≡ true → (firstBad b (inputsOf n inputs) ≡ n → ⊥) → P (with (answer.BadGrain (firstBad b (inputsOf n inputs))) t))
+      → (boxOk b ≡ true → fit ≡ true → firstBad b (inputsOf n inputs) ≡ n → P (leaving (startedAt (begin b room (inputsOf n inputs))) t)) → P (startAll b n room inputs t)
   start-case P one two four none = by (boxOk b) refl fit refl
     where
-      to : (k : ℕ) → number ≡ k → P k → P number
-      to k e h = rw e h
-
-      by : (x : Bool) → boxOk b ≡ x → (y : Bool) → fit ≡ y → P number
-      by false e y f = to 1 (sym (ap (λ (w : StartedWith). w .number) (start-1 b n room inputs t e))) (one e)
-      by true e false f = to 2 (sym (ap (λ (w : StartedWith). w .number) (start-2 b n room inputs t e f))) (two e f)
+      by : (x : Bool) → boxOk b ≡ x → (y : Bool) → fit ≡ y → P (startAll b n room inputs t)
+      by false e y f = subst P (start-1 b n room inputs t e) (one e)
+      by true e false f = subst P (start-2 b n room inputs t e f) (two e f)
       by true e true f = elim (ℕ-discrete (firstBad b gs) n) [
-        | yes g ↦ to _ (ap (λ (w : StartedWith). w .number) (start-is b n room inputs t e f) ∙ rw (start-good b room gs e (counts-ok b n room inputs t e f) (g ∙ sym many))) (none e f g)
-        | no g ↦ to 4 (ap (λ (w : StartedWith). w .number) (start-is b n room inputs t e f) ∙ rw (start-bad b room gs e (counts-ok b n room inputs t e f) (λ q. g (q ∙ many)))) (four e f g)
+        | yes g ↦ subst P (sym (start-is b n room inputs t e f ∙ ap (λ (o : Begun). leaving o t) (start-good b room gs e (counts-ok b n room inputs t e f) (g ∙ sym many)))) (none e f g)
+        | no g ↦ subst P (start-4 b n room inputs t e f (firstBad b gs) refl g) (four e f g)
       ]
 
   pub start-gives-1 : Exactly (number ≡ 1) (boxOk b ≡ false)
   start-gives-1 = record {
-    only = start-case (λ k. k ≡ 1 → boxOk b ≡ false) (λ e h. e) (λ e f h. absurd (omega (arith, h))) (λ e f g h. absurd (omega (arith, h))) (λ e f g h. absurd (begin-not 1 (omega arith) (omega arith) e f g h));
-    so = λ e. start-case (λ k. k ≡ 1) (λ x. refl) (λ x f. differ x e) (λ x f g. differ x e) (λ x f g. differ x e);
+    only = start-case (λ w. w .number ≡ 1 → boxOk b ≡ false) (λ e h. e) (λ e f h. absurd (omega (arith, h))) (λ e f g h. absurd (omega (arith, h))) (λ e f g h. absurd (begin-not 1 (omega arith) (omega arith) e f g h));
+    so = λ e. start-case (λ w. w .number ≡ 1) (λ x. refl) (λ x f. differ x e) (λ x f g. differ x e) (λ x f g. differ x e);
   }
 
   pub start-gives-2 : Exactly (number ≡ 2) ((boxOk b ≡ true) × (fit ≡ false))
   start-gives-2 = record {
-    only = start-case (λ k. k ≡ 2 → (boxOk b ≡ true) × (fit ≡ false)) (λ e h. absurd (omega (arith, h))) (λ e f h. (e, f)) (λ e f g h. absurd (omega (arith, h)))
+    only = start-case (λ w. w .number ≡ 2 → (boxOk b ≡ true) × (fit ≡ false)) (λ e h. absurd (omega (arith, h))) (λ e f h. (e, f)) (λ e f g h. absurd (omega (arith, h)))
         (λ e f g h. absurd (begin-not 2 (omega arith) (omega arith) e f g h));
-    so = λ e. start-case (λ k. k ≡ 2) (λ x. differ (e .0) x) (λ x f. refl) (λ x f g. differ f (e .1)) (λ x f g. differ f (e .1));
+    so = λ e. start-case (λ w. w .number ≡ 2) (λ x. differ (e .0) x) (λ x f. refl) (λ x f g. differ f (e .1)) (λ x f g. differ f (e .1));
   }
 
-  pub start-gives-4 : Exactly (number ≡ 4) ((boxOk b ≡ true) × (fit ≡ true) × (firstBad b (inputsOf n inputs) ≡ n → ⊥))
+  -- the grain that the tests find is the lowest that is out of range
+  lowest-is : (g : ℕ) → Exactly ((firstBad b (inputsOf n inputs) ≡ g) × (g < n)) ((g < n) × LowestBad b (inputsOf n inputs) g)
+  lowest-is g = subst (λ (k : ℕ). Exactly ((firstBad b gs ≡ g) × (g < k)) ((g < k) × LowestBad b gs g)) many (lowest-named b gs g)
+
+  found : (firstBad b (inputsOf n inputs) ≡ n → ⊥) → (firstBad b (inputsOf n inputs) < n) × LowestBad b (inputsOf n inputs) (firstBad b (inputsOf n inputs))
+  found q = lowest-is (firstBad b gs) .only (refl, elim (eq-or-lt-of-le (bad-most b n inputs)) [ inl e ↦ absurd (q e) | inr h ↦ h ])
+
+  none-found : {A : Type 0} (g : ℕ) → (g < n) × LowestBad b (inputsOf n inputs) g → firstBad b (inputsOf n inputs) ≡ n → A
+  none-found g h e = let w = lowest-is g .so h in absurd (let d = w .0 in let l = w .1 in omega (arith, d, l, e))
+
+  pub start-gives-4 : Exactly (number ≡ 4) ((boxOk b ≡ true) × (fit ≡ true) × ((g : ℕ) × (g < n) × LowestBad b (inputsOf n inputs) g))
   start-gives-4 = record {
-    only = start-case (λ k. k ≡ 4 → (boxOk b ≡ true) × (fit ≡ true) × (firstBad b gs ≡ n → ⊥)) (λ e h. absurd (omega (arith, h))) (λ e f h. absurd (omega (arith, h))) (λ e f g h. (e, f, g))
-        (λ e f g h. absurd (begin-not 4 (omega arith) (omega arith) e f g h));
-    so = λ e. start-case (λ k. k ≡ 4) (λ x. differ (e .0) x) (λ x f. differ (e .1) f) (λ x f g. refl) (λ x f g. absurd (e .2 g));
+    only = start-case (λ w. w .number ≡ 4 → (boxOk b ≡ true) × (fit ≡ true) × ((g : ℕ) × (g < n) × LowestBad b gs g)) (λ e h. absurd (omega (arith, h))) (λ e f h. absurd (omega (arith, h)))
+        (λ e f q h. let w = found q in (e, f, (firstBad b gs, w .0, w .1))) (λ e f g h. absurd (begin-not 4 (omega arith) (omega arith) e f g h));
+    so = λ e. start-case (λ w. w .number ≡ 4) (λ x. differ (e .0) x) (λ x f. differ (e .1) f) (λ x f q. refl) (λ x f q. none-found (e .2 .0) (e .2 .1, e .2 .2) q);
   }
+
+  -- and that grain is named
+  not-named : (m g : ℕ) → byMark m ≡ answer.BadGrain g → ⊥
+  not-named zero g e = let z : _≡_ {A = ℕ} 0 1 = cc in omega arith
+  not-named (suc m) g e = let z : _≡_ {A = ℕ} 0 1 = cc in omega arith
+
+  pub start-names : (g : ℕ) → Exactly ((startAll b n room inputs t) .answer ≡ answer.BadGrain g) ((boxOk b ≡ true) × (fit ≡ true) × (g < n) × LowestBad b (inputsOf n inputs) g)
+  start-names g = record {
+    only = start-case (λ w. w .answer ≡ answer.BadGrain g → (boxOk b ≡ true) × (fit ≡ true) × (g < n) × LowestBad b gs g)
+        (λ e h. absurd (let z : _≡_ {A = ℕ} 0 1 = cc in omega arith)) (λ e f h. absurd (let z : _≡_ {A = ℕ} 0 1 = cc in omega arith))
+        (λ e f q h. let is : firstBad b gs ≡ g = cc in let w = subst (λ (k : ℕ). (k < n) × LowestBad b gs k) is (found q) in (e, f, w .0, w .1)) (λ e f q h. absurd (not-named ((begin b room gs) .num) g h));
+    so = λ e. start-case (λ w. w .answer ≡ answer.BadGrain g) (λ x. differ (e .0) x) (λ x f. differ (e .1) f) (λ x f q. ap answer.BadGrain (lowest-is g .so (e .2, e .3) .0)) (λ x f q. none-found g (e .2, e .3) q);
+  }
+
+  -- the answer tells the number and the grain
+  pub answer-tells : with ((startAll b n room inputs t) .answer) ((startAll b n room inputs t) .after) ≡ startAll b n room inputs t
+  answer-tells = start-case (λ w. with (w .answer) (w .after) ≡ w) (λ e. refl) (λ e f. refl) (λ e f q. refl)
+      (λ e f q. let o = begin b room gs in λ i. record { number = mark-number (o .num) i; grain = mark-grain (o .num) i; answer = byMark (o .num); after = (leaving (startedAt o) t) .after })

@@ -4,12 +4,12 @@ use Prim.Native.Nat.{ℕ}
 use mathlib.Core.Path.{_≡_, sym, ap, _∙_, subst}
 use mathlib.Core.Bool.{true}
 use lib.Ieee.{Float}
+use Rattle.model.specs.declared.Report.the-variants.{Refused}
 use Rattle.model.specs.State.{State}
 use Rattle.model.specs.Sound.{Sound, Stands}
 use Rattle.model.specs.Acts.{taken}
 use Rattle.model.specs.Doing.{headEvent}
 use Rattle.model.specs.Run.{refused, Ran, runFrom}
-use Rattle.model.specs.Check.{Fitted}
 use Rattle.model.specs.Check as model
 use Rattle.model.specs.Reached.{steps}
 use Rattle.halting.proofs.Bools.{and-l, and-r}
@@ -18,11 +18,11 @@ use Rattle.model.specs.Rows.{actsOf}
 use Rattle.model.proofs.Halts.{HaltIn, run-halts-in-order, in-range}
 use Rattle.checks.specs.Decode.{Tables, mark, decoded}
 use Rattle.checks.specs.Check.{legible, standing, checked}
-use Rattle.checks.specs.Held.{Fits}
 use Rattle.checks.specs.Encode.{encoded}
-use Rattle.checks.proofs.Accepts.{Passed, checked-means, fitted}
+use Rattle.checks.proofs.Accepts.{Passed, checked-means}
 use Rattle.running.specs.Ran.{RanTables, leaving}
-use Rattle.simulator.specs.Run.{byCheck, runTables}
+use Rattle.simulator.specs.Run.{byCheck, runTables, RunPromise}
+use Rattle.simulator.proofs.RunLaws.{owned-fitted}
 use Rattle.simulator.proofs.Encoded.{decoded-encoded, encoded-sized}
 use Rattle.simulator.proofs.Ran.{halted-tables, left-sound, left-long}
 use Rattle.simulator.proofs.Numbers.{OneOf, halts, unchanged, run-passed-halts}
@@ -38,16 +38,13 @@ pub record HaltsBy (r : ℕ) (rate : Float) (t : Tables) (n : ℕ) (left : Table
   -- and each later run, at any rate and budget, gives it again with zeros and changes nothing
   pub again : (later : Float) (b : ℕ) → runTables later b left ≡ unchanged r left
 
--- tables whose clock and times are 64-bit floats
-module _ (t : Tables) (F : Fitted (decoded t)) (rate : Float) (C : checked rate t ≡ 0) (b : ℕ) where
+-- tables whose state stands
+module _ (t : Tables) (stood : Stands (decoded t)) (rate : Float) (C : checked rate t ≡ 0) (b : ℕ) where
   passed : Passed rate t
   passed = checked-means rate t C
 
-  both : (legible t ≡ true) × (model.standing (decoded t) ≡ true)
-  both = unfold standing in (and-l (legible t) (model.standing (decoded t)) (passed .stands), and-r (legible t) (model.standing (decoded t)) (passed .stands))
-
-  stood : Stands (decoded t)
-  stood = says-stands (decoded t) F .means (both .1)
+  reads : legible t ≡ true
+  reads = unfold standing in and-l (legible t) (model.standing (decoded t)) (passed .stands)
 
   abbrev ran : Ran
   ran = runFrom rate b 0 (decoded t)
@@ -57,13 +54,13 @@ module _ (t : Tables) (F : Fitted (decoded t)) (rate : Float) (C : checked rate 
   run-is = ap (λ (k : ℕ). byCheck k rate b t) C
 
   sound : Sound (ran .state)
-  sound = left-sound rate b t (passed .sizes) (both .0) (passed .rate-in) stood
+  sound = left-sound rate b t (passed .sizes) reads (passed .rate-in) stood
 
   abbrev left : Tables
   left = encoded (ran .state) t
 
   read : decoded left ≡ ran .state
-  read = decoded-encoded (ran .state) sound t (left-long rate b t (passed .sizes) (both .0) (passed .rate-in) stood)
+  read = decoded-encoded (ran .state) sound t (left-long rate b t (passed .sizes) reads (passed .rate-in) stood)
 
   halts-over : (r : ℕ) → ran .how ≡ refused r → OneOf r halts → HaltsBy r rate t (ran .count) (encoded (ran .state) t)
   halts-over r e o =
@@ -75,14 +72,16 @@ module _ (t : Tables) (F : Fitted (decoded t)) (rate : Float) (C : checked rate 
         did = subst (HaltIn (actsOf rate (headEvent u) (taken u)) r (taken u)) (sym read) h;
         marked = m;
         again = λ later k.
-            halted-tables later k left (encoded-sized (ran .state) sound t (left-long rate b t (passed .sizes) (both .0) (passed .rate-in) stood)) (rw m (in-range r (h .five) (h .nine)))
+            halted-tables later k left (encoded-sized (ran .state) sound t (left-long rate b t (passed .sizes) reads (passed .rate-in) stood)) (rw m (in-range r (h .five) (h .nine)))
             ∙ ap (λ (x : ℕ). unchanged x left) m;
       }
 
-  pub halts-fitted : (r : ℕ) → (runTables rate b t) .how ≡ refused r → HaltsBy r rate t ((runTables rate b t) .count) ((runTables rate b t) .after)
-  halts-fitted r e = subst (λ (x : RanTables). HaltsBy r rate t (x .count) (x .after)) (sym run-is) (halts-over r (ap (λ (x : RanTables). x .how) (sym run-is) ∙ e) (run-passed-halts rate b t C r e))
+  pub halts-standing : (r : ℕ) → (runTables rate b t) .how ≡ refused r → HaltsBy r rate t ((runTables rate b t) .count) ((runTables rate b t) .after)
+  halts-standing r e = subst (λ (x : RanTables). HaltsBy r rate t (x .count) (x .after)) (sym run-is) (halts-over r (ap (λ (x : RanTables). x .how) (sym run-is) ∙ e) (run-passed-halts rate b t C r e))
 
--- any tables of 64-bit floats, and any run on them that passes its checks and is refused
-pub halts-any-tables : (t : Tables) → Fits (t .grains) → Fits (t .events) → (rate : Float) → checked rate t ≡ 0 → (b r : ℕ) → (runTables rate b t) .how ≡ refused r
-    → HaltsBy r rate t ((runTables rate b t) .count) ((runTables rate b t) .after)
-halts-any-tables t f g rate C b r e = halts-fitted t (fitted t f g) rate C b r e
+-- any tables, and any run on them that passes its checks and is refused
+pub halts-any-tables : (t : Tables) (rate : Float) (b r n : ℕ) (c : Float) (u : Tables) → RunPromise rate b t (Refused r c n) u → checked rate t ≡ 0 → HaltsBy r rate t n u
+halts-any-tables t rate b r n c u p C =
+    let m : model.standing (decoded t) ≡ true = unfold standing in and-r (legible t) (model.standing (decoded t)) (checked-means rate t C .stands) in
+    let st = says-stands (decoded t) (owned-fitted t (p .owned)) .means m in
+    subst (λ (x : RanTables). HaltsBy r rate t (x .count) (x .after)) (sym (p .is)) (halts-standing t st rate C b r (ap (λ (x : RanTables). x .how) (sym (p .is))))

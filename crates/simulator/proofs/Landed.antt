@@ -12,17 +12,17 @@ use lib.Ieee.{Float}
 use borrow.Author.Tests.{leb-true}
 use Rattle.order.specs.Numbers.{fzero}
 use Rattle.model.specs.declared.Domain.{Domain}
+use Rattle.model.specs.declared.Report.{Report}
+use Rattle.model.specs.declared.Started.{Started}
 use Rattle.model.specs.declared.Started.the-variants as answer
 use Rattle.model.specs.Grid.{cells}
 use Rattle.model.specs.Sizes.{boxOk, countsOk, rated}
 use Rattle.model.specs.State.{State, zeroG}
-use Rattle.model.specs.Sound.{Sound}
-use Rattle.model.specs.Acts.{taken}
-use Rattle.model.specs.Doing.{headEvent}
+use Rattle.model.specs.Sound.{Sound, Stands}
 use Rattle.model.specs.Run.{synchronised, spent, refused, Ran, runFrom}
 use Rattle.model.specs.Start.{Begun, started, start, clear, begin}
 use Rattle.model.specs.Start as begun
-use Rattle.model.specs.Check.{Fits, Fitted, halt, refusal, runAll}
+use Rattle.model.specs.Check.{halt, refusal, runAll}
 use Rattle.model.specs.Reached.{most, Call, after, Reached, StepOf, steps}
 use Rattle.halting.proofs.Bools.{and-l, and-r}
 use Rattle.model.proofs.Stands.{sound-fitted}
@@ -31,11 +31,11 @@ use Rattle.model.proofs.Whole.{runs}
 use Rattle.model.proofs.Counts.{counts, state-at}
 use Rattle.model.proofs.Reached.{Well, runAll-well, reached-well, counted-runs}
 use Rattle.model.proofs.Demand3.{AfterStep, after-each-step, splits}
-use Rattle.model.specs.Rows.{actsOf, startActs}
+use Rattle.model.specs.Rows.{startActs}
 use Rattle.model.specs.History.{history}
 use Rattle.model.proofs.Histories.{Said, reached-said, step-reached}
 use Rattle.model.proofs.Performs.{begin-acted}
-use Rattle.model.proofs.Halts.{Halt, HaltIn, in-row, start-halts-in-order, accepted, reached-marked}
+use Rattle.model.proofs.Halts.{HaltIn, start-halts-in-order, accepted, reached-marked}
 use Rattle.tables.specs.declared.Sizes.{Sizes}
 use Rattle.checks.specs.Decode.{Tables, mark, decoded}
 use Rattle.checks.specs.Check.{listsNeed, grainsNeed, queueNeed, eventsNeed, long, sized, standing, checked}
@@ -43,15 +43,15 @@ use Rattle.checks.proofs.Cut.{cut-long}
 use Rattle.starting.specs.Inputs.{inputAt, inputsOf}
 use Rattle.checks.specs.Encode.{sizesIn, encoded}
 use Rattle.starting.specs.Cleared.{sizesFor, cleared}
-use Rattle.simulator.specs.Start.{fits, with, byNumber, leaving, startAll}
+use Rattle.simulator.specs.Start.{fits, StartedWith, with, byNumber, leaving, startAll, StartPromise}
 use Rattle.running.specs.Ran.{RanTables, beside}
-use Rattle.simulator.specs.Run.{runTables}
+use Rattle.simulator.specs.Run.{runTables, RunPromise}
 use Rattle.simulator.specs.Reached.{Taken, afterCalls, ReachedTables}
 use Rattle.simulator.proofs.Answers.{halted-start}
 use Rattle.simulator.proofs.Kept.{does-kept, all-kept}
 use Rattle.simulator.proofs.Encoded.{Long, decoded-encoded, encoded-standing, encoded-sized}
 use Rattle.simulator.proofs.Ran.{halted-tables, sizes-same, run-over}
-use Rattle.simulator.proofs.Halted.{halts-fitted}
+use Rattle.simulator.proofs.Halted.{HaltsBy, halts-standing}
 
 -- ---- 1. reached tables hold a reached state
 pub record Reaches (t : Tables) : Type 0 where
@@ -128,12 +128,12 @@ calls-over (k ∷ ks) s t w F =
     (ap (λ (x : RanTables). afterCalls ks (x .after)) (run-over s t (w .sound) F (k .rate) (k .budget)) ∙ q .0, q .1)
 
 -- a start that is taken leaves a reached state, and the cleared tables have places for it
-module _ (b : Domain) (F : Fits b) (n room : ℕ) (inputs : List Float) (t : Tables) (k : Taken ((startAll b n room inputs t) .answer)) where
-  begun-so : Begins b n room inputs t ((startAll b n room inputs t) .after)
-  begun-so = begins b n room inputs t k
+module _ (b : Domain) (n room : ℕ) (inputs : List Float) (t : Tables) (a : Started) (u : Tables) (p : StartPromise b n room inputs t a u) (k : Taken a) where
+  begun-so : Begins b n room inputs t u
+  begun-so = subst (λ (w : StartedWith). Taken (w .answer) → Begins b n room inputs t (w .after)) (sym (p .is)) (begins b n room inputs t) k
 
   begun-reached : Reached (begun-so .state)
-  begun-reached = record { box = b; fits = F; room = room; grains = inputsOf n inputs; begun = begun-so .state; accepted = begun-so .accepted; calls = []; there = unfold after in refl }
+  begun-reached = record { box = b; fits = p .box-fits; room = room; grains = inputsOf n inputs; begun = begun-so .state; accepted = begun-so .accepted; calls = []; there = unfold after in refl }
 
   begun-well : Well (begun-so .state)
   begun-well = reached-well (begun-so .state) begun-reached
@@ -147,12 +147,14 @@ module _ (b : Domain) (F : Fits b) (n room : ℕ) (inputs : List Float) (t : Tab
 
 pub reaches : (t : Tables) → ReachedTables t → Reaches t
 reaches t r =
-    let g = begun-so (r .box) (r .fits) (r .count) (r .room) (r .inputs) (r .lent) (r .taken) in
+    let g = begun-so (r .box) (r .count) (r .room) (r .inputs) (r .lent) (r .answer) (r .begun) (r .began) (r .taken) in
+    let w = begun-well (r .box) (r .count) (r .room) (r .inputs) (r .lent) (r .answer) (r .begun) (r .began) (r .taken) in
+    let l = begun-long (r .box) (r .count) (r .room) (r .inputs) (r .lent) (r .answer) (r .begun) (r .began) (r .taken) in
     let s = g .state in
-    let q = calls-over (r .calls) s (cleared (r .lent)) (begun-well (r .box) (r .fits) (r .count) (r .room) (r .inputs) (r .lent) (r .taken)) (begun-long (r .box) (r .fits) (r .count) (r .room) (r .inputs) (r .lent) (r .taken)) in
+    let q = calls-over (r .calls) s (cleared (r .lent)) w l in
     record {
       state = after (r .calls) s;
-      reached = record { box = r .box; fits = r .fits; room = r .room; grains = inputsOf (r .count) (r .inputs); begun = s; accepted = g .accepted; calls = r .calls; there = refl };
+      reached = record { box = r .box; fits = r .began .box-fits; room = r .room; grains = inputsOf (r .count) (r .inputs); begun = s; accepted = g .accepted; calls = r .calls; there = refl };
       ground = cleared (r .lent);
       long = q .1;
       is = sym (r .there) ∙ ap (afterCalls (r .calls)) (g .is) ∙ q .0;
@@ -249,16 +251,13 @@ unfolding checked
 check-passed rate t z m R p = rw (z, m, R, p)
 
 pub halts-tables : (t : Tables) → ReachedTables t → (rate : Float) → rated rate ≡ true → mark (t .lists) ≡ 0 → (b r : ℕ) → (runTables rate b t) .how ≡ refused r
-    → Halt r (taken (steps rate ((runTables rate b t) .count) (decoded t))) (decoded ((runTables rate b t) .after))
+    → HaltsBy r rate t ((runTables rate b t) .count) ((runTables rate b t) .after)
 halts-tables t q rate R m b r e =
     let h = reaches t q in
     let s = h .state in
-    let z : s .mark ≡ 0 = sym (ap (λ (x : State). x .mark) (read-is t h)) ∙ m in
-    let f : Fitted s = sound-fitted s (sound t h) in
-    let p : standing t ≡ true = ap standing (h .is) ∙ encoded-standing s (sound t h) (h .ground) (h .long) ∙ says-stands s f .holds (reached-well s (h .reached) .stands z) in
-    let C = check-passed rate t (passes t h) m R p in
-    let u = steps rate ((runTables rate b t) .count) (decoded t) in
-    in-row (actsOf rate (headEvent u) (taken u)) r (taken u) (decoded ((runTables rate b t) .after)) (halts-fitted t (subst Fitted (sym (read-is t h)) f) rate C b r e .did)
+    let st = reached-well s (h .reached) .stands (sym (ap (λ (x : State). x .mark) (read-is t h)) ∙ m) in
+    let p : standing t ≡ true = ap standing (h .is) ∙ encoded-standing s (sound t h) (h .ground) (h .long) ∙ says-stands s (sound-fitted s (sound t h)) .holds st in
+    halts-standing t (subst Stands (sym (read-is t h)) st) rate (check-passed rate t (passes t h) m R p) b r e
 
 pub halted-again-tables : (t : Tables) → ReachedTables t → (mark (t .lists) ≡ 0 → ⊥) → (rate : Float) (b : ℕ) → runTables rate b t ≡ beside (refusal (mark (t .lists)) (decoded t)) t
 halted-again-tables t q n rate b =
@@ -267,19 +266,58 @@ halted-again-tables t q n rate b =
     halted-tables rate b t (passes t h) (subst (λ (k : ℕ). halt k ≡ true) m (elim (reached-marked (h .state) (h .reached)) [ inl z ↦ absurd (n (sym m ∙ z)) | inr k ↦ k ]))
 
 -- a start that halts: every place was cleared, and of the start's acts in 01's order those before the refused one were done
-pub start-halts-tables : (b : Domain) → Fits b → (n room : ℕ) (inputs : List Float) (t : Tables) (r : ℕ) → (startAll b n room inputs t) .answer ≡ answer.Halted r
-    → let gs = inputsOf n inputs in HaltIn (startActs b gs (clear b room (length gs))) r (clear b room (length gs)) (decoded ((startAll b n room inputs t) .after))
-start-halts-tables b F n room inputs t r e =
+pub start-halts-tables : (b : Domain) (n room : ℕ) (inputs : List Float) (t : Tables) (r : ℕ) (u : Tables) → StartPromise b n room inputs t (answer.Halted r) u
+    → let gs = inputsOf n inputs in HaltIn (startActs b gs (clear b room (length gs))) r (clear b room (length gs)) (decoded u)
+start-halts-tables b n room inputs t r u p =
     let gs = inputsOf n inputs in
     let c = clear b room (length gs) in
-    let k : Taken ((startAll b n room inputs t) .answer) = subst Taken (sym e) tt in
-    let g = begun-so b F n room inputs t k in
+    let g = begun-so b n room inputs t (answer.Halted r) u p tt in
     let s = g .state in
-    let m = halted-start b n room inputs t r e s (g .accepted) in
-    let read : decoded ((startAll b n room inputs t) .after) ≡ s = ap decoded (g .is) ∙ decoded-encoded s (begun-well b F n room inputs t k .sound) (cleared t) (begun-long b F n room inputs t k) in
+    let m = halted-start b n room inputs t r (ap (λ (w : StartedWith). w .answer) (sym (p .is))) s (g .accepted) in
+    let read : decoded u ≡ s = ap decoded (g .is) ∙ decoded-encoded s (begun-well b n room inputs t (answer.Halted r) u p tt .sound) (cleared t) (begun-long b n room inputs t (answer.Halted r) u p tt) in
     subst (HaltIn (startActs b gs c) r c) (sym read) (subst (λ (x : ℕ). HaltIn (startActs b gs c) x c s) (m .0) (start-halts-in-order b room gs s (g .accepted) (m .1)))
 
--- ---- 6. THE HISTORY: of reached tables that are not halted, what is said over the history of acts of the state that they are read as: no event from an old velocity,
+-- ---- 6. what the calls promise leads to reached tables: a start that was taken, and every run on reached tables
+after-more : (ks : List Call) (k : Call) (t : Tables) → afterCalls (ks ++ k ∷ []) t ≡ (runTables (k .rate) (k .budget) (afterCalls ks t)) .after
+unfolding afterCalls
+after-more [] k t = refl
+after-more (j ∷ ks) k t = after-more ks k ((runTables (j .rate) (j .budget) t) .after)
+
+pub run-reaches : (t : Tables) → ReachedTables t → (k : Call) → ReachedTables ((runTables (k .rate) (k .budget) t) .after)
+run-reaches t r k = record {
+  box = r .box;
+  count = r .count;
+  room = r .room;
+  inputs = r .inputs;
+  lent = r .lent;
+  answer = r .answer;
+  begun = r .begun;
+  began = r .began;
+  taken = r .taken;
+  calls = r .calls ++ k ∷ [];
+  there = after-more (r .calls) k (r .begun) ∙ ap (λ (x : Tables). (runTables (k .rate) (k .budget) x) .after) (r .there);
+}
+
+pub promised-start-reaches : (b : Domain) (n room : ℕ) (inputs : List Float) (t : Tables) (a : Started) (u : Tables) → StartPromise b n room inputs t a u → Taken a → ReachedTables u
+promised-start-reaches b n room inputs t a u p k = record {
+  box = b;
+  count = n;
+  room = room;
+  inputs = inputs;
+  lent = t;
+  answer = a;
+  begun = u;
+  began = p;
+  taken = k;
+  calls = [];
+  there = unfold afterCalls in refl;
+}
+
+pub promised-run-reaches : (t : Tables) → ReachedTables t → (rate : Float) (budget : ℕ) (a : Report) (u : Tables) → RunPromise rate budget t a u → ReachedTables u
+promised-run-reaches t r rate budget a u p =
+    subst ReachedTables (ap (λ (x : RanTables). x .after) (sym (p .is))) (run-reaches t r (record { rate = rate; budget = budget; small = p .owned .small }))
+
+-- ---- 7. THE HISTORY: of reached tables that are not halted, what is said over the history of acts of the state that they are read as: no event from an old velocity,
 -- none missing, nothing else pending
 abbrev pub SaidOf : (t : Tables) → ReachedTables t → Type 0
 SaidOf t r = let h = reaches t r in Said (history (h .state) (h .reached)) (clear (h .reached .box) (h .reached .room) (length (h .reached .grains))) (decoded t)
@@ -291,24 +329,6 @@ said-tables t r m =
     subst (Said (history (h .state) (h .reached)) (clear (h .reached .box) (h .reached .room) (length (h .reached .grains)))) (sym (read-is t h)) (reached-said (h .state) (h .reached) z)
 
 -- and after each unhalted step of all runs: the tables after n events are reached by a run with budget n, and not halted
-after-more : (ks : List Call) (k : Call) (t : Tables) → afterCalls (ks ++ k ∷ []) t ≡ (runTables (k .rate) (k .budget) (afterCalls ks t)) .after
-unfolding afterCalls
-after-more [] k t = refl
-after-more (j ∷ ks) k t = after-more ks k ((runTables (j .rate) (j .budget) t) .after)
-
-pub run-reaches : (t : Tables) → ReachedTables t → (k : Call) → ReachedTables ((runTables (k .rate) (k .budget) t) .after)
-run-reaches t r k = record {
-  box = r .box;
-  fits = r .fits;
-  count = r .count;
-  room = r .room;
-  inputs = r .inputs;
-  lent = r .lent;
-  taken = r .taken;
-  calls = r .calls ++ k ∷ [];
-  there = after-more (r .calls) k ((startAll (r .box) (r .count) (r .room) (r .inputs) (r .lent)) .after) ∙ ap (λ (x : Tables). (runTables (k .rate) (k .budget) x) .after) (r .there);
-}
-
 pub each-step-said-tables : (t : Tables) → ReachedTables t → (k : Call) (n : ℕ) → n < (runTables (k .rate) (k .budget) t) .count
     → let u = (runTables (k .rate) (suc n) t) .after in (r : ReachedTables u) × (mark (u .lists) ≡ 0) × SaidOf u r
 each-step-said-tables t r k n N =

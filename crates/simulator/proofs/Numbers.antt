@@ -11,6 +11,7 @@ use native.Mathlib.Decide.{ℕ-discrete}
 use lib.Ieee.{Float}
 use Rattle.order.specs.Numbers.{fzero}
 use Rattle.model.specs.declared.Domain.{Domain}
+use Rattle.model.specs.declared.Report.{Report}
 use Rattle.model.specs.Sizes.{rated}
 use Rattle.model.specs.Start.{begin}
 use Rattle.model.specs.Run.{How, synchronised, spent, refused, runFrom}
@@ -23,12 +24,11 @@ use Rattle.halting.proofs.Bools.{differ}
 use Rattle.model.proofs.Exactly.{Exactly}
 use Rattle.checks.specs.Decode.{Tables, mark, decoded}
 use Rattle.checks.specs.Check.{sized, legible, standing, checked}
-use Rattle.checks.specs.Held.{Fits}
-use Rattle.checks.proofs.Accepts.{fitted}
 use Rattle.starting.specs.Inputs.{inputsOf}
-use Rattle.running.specs.Ran.{RanTables}
+use Rattle.running.specs.Ran.{RanTables, toldTables}
 use Rattle.simulator.specs.Start.{startAll}
-use Rattle.simulator.specs.Run.{byCheck, runTables}
+use Rattle.simulator.specs.Run.{byCheck, runTables, RunPromise}
+use Rattle.simulator.proofs.RunLaws.{owned-fitted}
 use Rattle.simulator.proofs.Exactly.{check-case, halt-most, begin-halts, start-case, run-gives-10}
 
 -- n is one of these
@@ -55,7 +55,7 @@ of-halts n h k = elim (eq-or-lt-of-le h) [
 -- ---- a start: its number is one of 0, 1, 2, 4 and 5 to 9
 pub start-number : (b : Domain) (n room : ℕ) (inputs : List Float) (t : Tables) → OneOf ((startAll b n room inputs t) .number) (0 ∷ 1 ∷ 2 ∷ 4 ∷ halts)
 start-number b n room inputs t =
-    start-case b n room inputs t (λ k. OneOf k (0 ∷ 1 ∷ 2 ∷ 4 ∷ halts)) (λ e. inr (inl refl)) (λ e f. inr (inr (inl refl))) (λ e f g. inr (inr (inr (inl refl))))
+    start-case b n room inputs t (λ w. OneOf (w .number) (0 ∷ 1 ∷ 2 ∷ 4 ∷ halts)) (λ e. inr (inl refl)) (λ e f. inr (inr (inl refl))) (λ e f g. inr (inr (inr (inl refl))))
     (λ e f g. elim (ℕ-discrete ((begin b room (inputsOf n inputs)) .num) 0) [
       | yes z ↦ inl z
       | no z ↦ let h = begin-halts b n room inputs t e f g z in inr (inr (inr (inr (of-halts _ (h .0) (h .1)))))
@@ -119,16 +119,19 @@ module _ (rate : Float) (b : ℕ) (t : Tables) where
   ]
 
   -- 10 is given exactly if the run passes 2, the mark and 3, and the tables are not legible or their state breaks one of 01's standing facts
-  pub run-gives-10-facts : Fits (t .grains) → Fits (t .events)
-      → Exactly ((runTables rate b t) .how ≡ refused 10) ((sized t ≡ true) × (halt (mark (t .lists)) ≡ false) × (rated rate ≡ true) × ((legible t ≡ true) × Standing (decoded t) → ⊥))
+  pub run-gives-10-facts : (r : Report) (u : Tables) → RunPromise rate b t r u
+      → Exactly ((toldTables r u) .how ≡ refused 10) ((sized t ≡ true) × (halt (mark (t .lists)) ≡ false) × (rated rate ≡ true) × ((legible t ≡ true) × Standing (decoded t) → ⊥))
   unfolding standing
-  run-gives-10-facts f g = record {
-    only = λ e. let w = run-gives-10 rate b t .only e in (w .0, w .1, w .2, λ k. differ (rw (k .0, facts .holds (k .1))) (w .3));
-    so = λ w. run-gives-10 rate b t .so (w .0, w .1, w .2, fails (legible t) refl (model.standing (decoded t)) refl (w .3));
+  run-gives-10-facts r u p = record {
+    only = λ e. let w = run-gives-10 rate b t .only (sym how ∙ e) in (w .0, w .1, w .2, λ k. differ (rw (k .0, facts .holds (k .1))) (w .3));
+    so = λ w. how ∙ run-gives-10 rate b t .so (w .0, w .1, w .2, fails (legible t) refl (model.standing (decoded t)) refl (w .3));
   }
     where
+      how : (toldTables r u) .how ≡ (runTables rate b t) .how
+      how = ap (λ (x : RanTables). x .how) (p .is)
+
       facts : Says (model.standing (decoded t)) (Standing (decoded t))
-      facts = says-standing (decoded t) (fitted t f g)
+      facts = says-standing (decoded t) (owned-fitted t (p .owned))
 
       fails : (x : Bool) → legible t ≡ x → (y : Bool) → model.standing (decoded t) ≡ y → ((legible t ≡ true) × Standing (decoded t) → ⊥) → (x && y) ≡ false
       fails true d true e n = absurd (n (d, facts .means e))

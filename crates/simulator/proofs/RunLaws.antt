@@ -1,20 +1,35 @@
--- A run's answer and tables, by the check's answer. Assumes nothing.
-use Prim.Native.Nat.{ℕ, zero, suc}
-use mathlib.Core.Path.{_≡_, refl, sym, ap, _∙_}
+-- What a run promises, by the check's answer, and what its tables' types say of the state that they are read as. Assumes nothing.
+use Prim.Native.Nat.{ℕ, zero, suc, _^_, _<_}
+use mathlib.Core.Path.{_≡_, sym, ap, _∙_}
 use lib.Ieee.{Float}
 use Rattle.order.specs.Numbers.{fzero}
+use Rattle.model.specs.declared.Report.{Report}
 use Rattle.model.specs.declared.Report.the-variants.{Refused}
 use Rattle.model.specs.Run.{runFrom}
+use Rattle.model.specs.Check.{Fitted}
+use Rattle.model.proofs.Allowed.{budgets}
 use Rattle.checks.specs.Decode.{Tables, decoded}
 use Rattle.checks.specs.Held.{Answered}
-use Rattle.running.specs.Ran.{RanTables, toldTables, leaving}
-use Rattle.simulator.specs.Run.{byCheck, runTables}
+use Rattle.checks.proofs.Accepts.{fitted}
+use Rattle.running.specs.Ran.{toldTables, leaving}
+use Rattle.simulator.specs.Run.{byCheck, runTables, Owned, RunPromise}
 
-pub run-refused : (rate : Float) (budget : ℕ) (t : Tables) (r : ℕ) → Answered rate t r → (r ≡ 0 → ⊥) → toldTables (Refused r fzero 0) t ≡ runTables rate budget t
-unfolding runTables
-run-refused rate budget t zero A n = absurd (n refl)
-run-refused rate budget t (suc r) A n = rw (← (A .is))
+-- the clock and the times are 64-bit floats
+pub owned-fitted : {budget : ℕ} (t : Tables) → Owned budget t → Fitted (decoded t)
+owned-fitted t o = fitted t (o .grains-fit) (o .events-fit)
 
-pub run-done : (rate : Float) (budget : ℕ) (t : Tables) (r : ℕ) (x : RanTables) → Answered rate t r → r ≡ 0 → x ≡ leaving (runFrom rate budget 0 (decoded t)) t → x ≡ runTables rate budget t
-unfolding runTables
-run-done rate budget t r x A z e = e ∙ ap (λ (k : ℕ). byCheck k rate budget t) (sym z ∙ A .is)
+module _ (rate : Float) (budget : ℕ) (t : Tables) (r : ℕ) (A : Answered rate t r) (B : budget < 2 ^ 32) where
+  owned : Owned budget t
+  owned = record { grains-fit = A .grains-fit; events-fit = A .events-fit; small = budgets budget .only B }
+
+  refused-is : (k : ℕ) → r ≡ k → (r ≡ 0 → ⊥) → toldTables (Refused r fzero 0) t ≡ byCheck k rate budget t
+  refused-is zero e n = absurd (n e)
+  refused-is (suc k) e n = ap (λ (x : ℕ). toldTables (Refused x fzero 0) t) e
+
+  pub run-refused : (r ≡ 0 → ⊥) → RunPromise rate budget t (Refused r fzero 0) t
+  unfolding runTables
+  run-refused n = record { owned = owned; is = refused-is _ (A .is) n }
+
+  pub run-done : (x : Report) (u : Tables) → r ≡ 0 → toldTables x u ≡ leaving (runFrom rate budget 0 (decoded t)) t → RunPromise rate budget t x u
+  unfolding runTables
+  run-done x u z e = record { owned = owned; is = e ∙ ap (λ (k : ℕ). byCheck k rate budget t) (sym z ∙ A .is) }

@@ -14,7 +14,7 @@ use Rattle.model.specs.Sizes.{boxOk, countsOk, firstBad}
 use Rattle.model.specs.Grid.{cells}
 use Rattle.model.specs.State.{marked}
 use Rattle.model.specs.Start.{Begun, refused, startedAt, start, begin}
-use Rattle.model.specs.Reports.{startNumber}
+use Rattle.model.specs.Reports.{startNumber, grainNamed}
 use Rattle.halting.proofs.Bools.{and-l, and-r}
 use Rattle.cell.specs.declared.Grid.{Grid}
 use Rattle.cell.specs.Cell.{gridOf}
@@ -83,7 +83,7 @@ cells-counted b g c e f = f ∙ ap (λ (k : Grid). k .n0 * k .n1) e
 
 -- ---- the model's start, by its tests
 module _ (b : Domain) (room : ℕ) (gs : List Particle) (box : boxOk b ≡ true) (counts : countsOk room (length gs) ≡ true) where
-  pub start-bad : (firstBad b gs ≡ length gs → ⊥) → start b room gs ≡ refused 4 (firstBad b gs)
+  start-bad : (firstBad b gs ≡ length gs → ⊥) → start b room gs ≡ refused 4 (firstBad b gs)
   unfolding start
   start-bad u = rw (box, counts, ne-eqb (firstBad b gs) (length gs) u)
 
@@ -91,10 +91,14 @@ module _ (b : Domain) (room : ℕ) (gs : List Particle) (box : boxOk b ≡ true)
   unfolding start
   start-good u = rw (box, counts, eq-eqb (firstBad b gs) (length gs) u)
 
--- ---- the number of a start that was not refused is its mark
-mark-number : (m : ℕ) → startNumber (byMark m) ≡ m
+-- ---- the number of a start that was not refused is its mark, and no grain is named
+pub mark-number : (m : ℕ) → startNumber (byMark m) ≡ m
 mark-number zero = refl
 mark-number (suc m) = refl
+
+pub mark-grain : (m : ℕ) → grainNamed (byMark m) ≡ 0
+mark-grain zero = refl
+mark-grain (suc m) = refl
 
 -- ---- refused by 1; by 2; by 4; accepted
 module _ (b : Domain) (n room : ℕ) (inputs : List Float) (t : Tables) where
@@ -128,7 +132,7 @@ module _ (b : Domain) (n room : ℕ) (inputs : List Float) (t : Tables) where
       start-begun : (r : ℕ) (u : Tables) → firstBad b (inputsOf n inputs) ≡ n → Began (begin b room (inputsOf n inputs)) r t u → with (byMark r) u ≡ startAll b n room inputs t
       start-begun r u f B =
           (λ i. with (byMark (B .number i)) (B .left i))
-          ∙ (let o = begin b room (inputsOf n inputs) in λ i. record { number = mark-number (o .num) i; answer = byMark (o .num); after = encoded (marked (o .num) (o .st)) (cleared t) })
+          ∙ (let o = begin b room (inputsOf n inputs) in λ i. record { number = mark-number (o .num) i; grain = mark-grain (o .num) i; answer = byMark (o .num); after = encoded (marked (o .num) (o .st)) (cleared t) })
           ∙ sym (start-is ∙ ap (λ (r : Begun). leaving r t) (start-good b room (inputsOf n inputs) box counts-ok (f ∙ sym (cut-long inputAt 5 n inputs))))
 
       pub start-accepted : (r : ℕ) (u : Tables) → firstBad b (inputsOf n inputs) ≡ n → Began (begin b room (inputsOf n inputs)) r t u → r ≡ 0 → with answer.Accepted u ≡ startAll b n room inputs t

@@ -1,4 +1,4 @@
--- A start (Start), a run (Run), and what both reach (Reached).
+-- A start (Start) and a run (Run), with what each promises, and what both reach (Reached).
 pub mod Start
 pub mod Run
 pub mod Reached

@@ -6,10 +6,9 @@ use lib.Ieee.{Float}
 use Rattle.model.specs.declared.Domain.{Domain}
 use Rattle.model.specs.declared.Started.{Started}
 use Rattle.model.specs.declared.Started.the-variants.{Accepted, Halted, Refused, BadGrain}
-use Rattle.model.specs.Check.{Fits}
 use Rattle.model.specs.Reached.{Call}
 use Rattle.checks.specs.Decode.{Tables}
-use Rattle.simulator.specs.Start.{startAll}
+use Rattle.simulator.specs.Start.{StartPromise}
 use Rattle.simulator.specs.Run.{runTables}
 
 -- a start that was not refused, halted or not
@@ -24,14 +23,16 @@ unfoldable pub afterCalls : List Call → Tables → Tables
 afterCalls [] t = t
 afterCalls (k ∷ ks) t = afterCalls ks ((runTables (k .rate) (k .budget) t) .after)
 
--- any box of 64-bit floats, counts, start numbers and tables that a start takes, and then any calls
+-- a start of any box, counts, start numbers and tables, by what it promises, that was taken; and then any calls
 pub record ReachedTables (t : Tables) : Type 0 where
   pub box : Domain
-  pub fits : Fits box
   pub count : ℕ
   pub room : ℕ
   pub inputs : List Float
   pub lent : Tables
-  pub taken : Taken ((startAll box count room inputs lent) .answer)
+  pub answer : Started
+  pub begun : Tables
+  pub began : StartPromise box count room inputs lent answer begun
+  pub taken : Taken answer
   pub calls : List Call
-  pub there : afterCalls calls ((startAll box count room inputs lent) .after) ≡ t
+  pub there : afterCalls calls begun ≡ t

@@ -1,6 +1,7 @@
 -- 01: "Start takes no rate and checks 1, 2, 4 in that order"; "a start refused 1, 2 or 4 changes nothing"; "accepted start clears every table place to zero";
 -- "start can halt too, and then gives that number". Assumes nothing: these are definitions.
 use Prim.Native.Nat.{ℕ, zero, suc, _*_}
+use mathlib.Core.Path.{_≡_}
 use mathlib.Core.List.{List}
 use mathlib.Core.Bool.{Bool, _&&_, cond}
 use lib.Dec.{eqb, leb}
@@ -10,8 +11,9 @@ use Rattle.model.specs.declared.Domain.{Domain}
 use Rattle.model.specs.declared.Started.{Started}
 use Rattle.model.specs.declared.Started.the-variants as answer
 use Rattle.model.specs.Sizes.{boxOk, countsOk}
+use Rattle.model.specs.Check.{Fits}
 use Rattle.model.specs.Start.{Begun, refused, started, start}
-use Rattle.model.specs.Reports.{startNumber}
+use Rattle.model.specs.Reports.{startNumber, grainNamed}
 use Rattle.tables.specs.declared.Sizes.{Sizes}
 use Rattle.checks.specs.Decode.{Tables}
 use Rattle.checks.specs.Check.{long}
@@ -23,14 +25,15 @@ use Rattle.checks.specs.Encode.{encoded}
 unfoldable pub fits : Sizes → ℕ → ℕ → ℕ → ℕ → ℕ → ℕ → Bool
 fits z inputs l g q e o = countsOk (z .room) (z .grains) && (leb (z .grains * 5) inputs && long z l g q e o)
 
--- an answer, the number of 01 that it stands for (0: accepted, not halted), and the tables afterwards
+-- an answer, the number of 01 that it stands for (0: accepted, not halted), the grain that 4 names (0 beside every other answer), and the tables afterwards
 pub record StartedWith : Type 0 where
   pub number : ℕ
+  pub grain : ℕ
   pub answer : Started
   pub after : Tables
 
 abbrev pub with : Started → Tables → StartedWith
-with a t = record { number = startNumber a; answer = a; after = t }
+with a t = record { number = startNumber a; grain = grainNamed a; answer = a; after = t }
 
 -- by the mark that the start left, 0 or a halt's number; by a refusal's number, and the grain that 4 names
 abbrev pub byMark : ℕ → Started
@@ -41,8 +44,8 @@ abbrev pub byNumber : ℕ → ℕ → Started
 byNumber r g = cond (eqb r 4) (answer.BadGrain g) (answer.Refused r)
 
 abbrev pub leaving : Begun → Tables → StartedWith
-leaving (refused r g) t = record { number = r; answer = byNumber r g; after = t }
-leaving (started s) t = record { number = s .mark; answer = byMark (s .mark); after = encoded s (cleared t) }
+leaving (refused r g) t = record { number = r; grain = g; answer = byNumber r g; after = t }
+leaving (started s) t = record { number = s .mark; grain = 0; answer = byMark (s .mark); after = encoded s (cleared t) }
 
 unfoldable pub startAll : Domain → ℕ → ℕ → List Float → Tables → StartedWith
 startAll b n room inputs t =
@@ -51,3 +54,8 @@ startAll b n room inputs t =
     (leaving (start b room (inputsOf n inputs)) t)
     (with (answer.Refused 2) t))
     (with (answer.Refused 1) t)
+
+-- what a start that answers r and leaves u promises: the box's lengths are 64-bit floats, as every owned float is, and answer and tables are the definition's
+pub record StartPromise (b : Domain) (n room : ℕ) (inputs : List Float) (t : Tables) (r : Started) (u : Tables) : Type 0 where
+  pub box-fits : Fits b
+  pub is : with r u ≡ startAll b n room inputs t

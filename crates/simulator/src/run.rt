@@ -1,8 +1,6 @@
 // A run: its checks, and behind them what crate running does.
-ghost use mathlib.Core.Path.{_≡_};
 ghost use Rattle.checks.specs.Decode.{tables};
-ghost use Rattle.running.specs.Ran.{toldTables};
-ghost use Rattle.simulator.specs.Run.{runTables};
+ghost use Rattle.simulator.specs.Run.{RunPromise};
 use model::Report;
 
 // Events until one is a synchronisation or the budget is spent; 2, the number of an earlier halt, 3 or 10 where the tables or the rate do not allow it.
@@ -15,8 +13,8 @@ pub fn run(
     rate: f64,
     budget: u32,
 ) -> Report
-    ensures { λ r. ⌜ toldTables r (tables (now (lists .exit)) (now (grains .exit)) (now (queue .exit)) (now (events .exit)) (now (order .exit)))
-        ≡ runTables rate budget (tables (now (lists .entry)) (now (grains .entry)) (now (queue .entry)) (now (events .entry)) (now (order .entry))) ⌝ }
+    ensures { λ r. ⌜ RunPromise rate budget (tables (now (lists .entry)) (now (grains .entry)) (now (queue .entry)) (now (events .entry)) (now (order .entry))) r
+        (tables (now (lists .exit)) (now (grains .exit)) (now (queue .exit)) (now (events .exit)) (now (order .exit))) ⌝ }
 {
     let refused = checks::check(lists, grains, queue, events, order, rate);
     if refused != 0 {

@@ -2,7 +2,7 @@
 ghost use mathlib.Core.Path.{_≡_};
 ghost use Prim.Native.Nat.{_≤_};
 ghost use Rattle.checks.specs.Decode.{tables};
-ghost use Rattle.simulator.specs.Start.{fits as fitsIn, with, startAll};
+ghost use Rattle.simulator.specs.Start.{fits as fitsIn, StartPromise};
 use cell::Grid;
 use model::Domain;
 use model::Started;
@@ -42,9 +42,9 @@ pub fn start(
     events: &mut [f64],
     order: &mut [u8],
 ) -> Started
-    ensures { λ r. ⌜ with r (tables (now (lists .exit)) (now (grains .exit)) (now (queue .exit)) (now (events .exit)) (now (order .exit)))
-        ≡ startAll domain count room (now (inputs .entry))
-        (tables (now (lists .entry)) (now (grains .entry)) (now (queue .entry)) (now (events .entry)) (now (order .entry))) ⌝ }
+    ensures { λ r. ⌜ StartPromise domain count room (now (inputs .entry))
+        (tables (now (lists .entry)) (now (grains .entry)) (now (queue .entry)) (now (events .entry)) (now (order .entry))) r
+        (tables (now (lists .exit)) (now (grains .exit)) (now (queue .exit)) (now (events .exit)) (now (order .exit))) ⌝ }
 {
     if !cell::box_ok(domain) {
         return Started::Refused { number: 1 };

@@ -12,12 +12,14 @@ use Rattle.cell.specs.Cell.{cellOf}
 use Rattle.cell.proofs.Laws.{index-cell}
 use Rattle.model.specs.declared.Particle.{Particle}
 use Rattle.model.specs.declared.Plan.{Plan}
+use Rattle.model.specs.Reports.{planTold}
 use Rattle.model.specs.State.{State, home, listed, grain, zeroG}
 use Rattle.model.specs.Acts.{put, cancel}
 use Rattle.model.specs.Doing.{others, stepGrain, scheduleCollision, Finder, scheduleBy, boundaries, scheduleWith, scheduleEvents, again, forget}
 use Rattle.model.specs.Collision.{collision}
 use Rattle.model.specs.Moves.{toNeighbour, outOfCell}
 use Rattle.model.specs.Walls.{wall}
+use Rattle.model.proofs.Answers.{one-plan}
 use Rattle.tables.specs.declared.Sizes.{Sizes}
 use Rattle.tables.specs.Holds.{Grained, Queued, Told}
 use Rattle.step.specs.declared.World.{World}
@@ -37,19 +39,19 @@ abbrev Read : List Float → ℕ → Particle → Type 0
 Read t i a = (z : Sizes) (gs : List Particle) → Grained z t gs → a ≡ getD gs i zeroG
 
 module _ {z : Sizes} {w : World} {g : List Float} {q q₁ : List ℕ} {e e₁ : List Float} {o o₁ : List ℕ} {r : ℕ} where
-  pub collide-does : (c i j : ℕ) (plan : Plan) {a b : Particle} → plan ≡ collision (w .domain) (w .clock) c i j a b → Read g i a → Read g j b
+  pub collide-does : (c i j : ℕ) (plan : Plan) {a b : Particle} → planTold plan ≡ planTold (collision (w .domain) (w .clock) c i j a b) → Read g i a → Read g j b
       → ((s : State) → Queued z q e o s → Told z q₁ e₁ o₁ r (put c plan s)) → Does (Seen z w g q e o) (Seen z w g q₁ e₁ o₁) r (scheduleCollision c i j)
   collide-does c i j plan {a} {b} k x y t =
       put-does c plan (λ s. collision (s .box) (s .clock) c i j (grain s i) (grain s j))
       (λ s h. let m : s .box ≡ w .domain = h .at .0 in let n : s .clock ≡ w .clock = h .at .1 in let x₁ : a ≡ grain s i = x z (s .grains) (h .grained) in let y₁ : b ≡ grain s j = y z (s .grains) (h .grained) in
-      k ∙ rw (m, n, x₁, y₁)) t
+      one-plan plan _ k ∙ rw (m, n, x₁, y₁)) t
 
-  pub bound-does : (f : Finder) (d c i : ℕ) (plan : Plan) {a : Particle} → plan ≡ f d (w .domain) (w .clock) c i a → Read g i a
+  pub bound-does : (f : Finder) (d c i : ℕ) (plan : Plan) {a : Particle} → planTold plan ≡ planTold (f d (w .domain) (w .clock) c i a) → Read g i a
       → ((s : State) → Queued z q e o s → Told z q₁ e₁ o₁ r (put c plan s)) → Does (Seen z w g q e o) (Seen z w g q₁ e₁ o₁) r (scheduleBy f c i d)
   bound-does f d c i plan {a} k x t =
       put-does c plan (λ s. f d (s .box) (s .clock) c i (grain s i))
       (λ s h. let m : s .box ≡ w .domain = h .at .0 in let n : s .clock ≡ w .clock = h .at .1 in let x₁ : a ≡ grain s i = x z (s .grains) (h .grained) in
-      k ∙ rw (m, n, x₁)) t
+      one-plan plan _ k ∙ rw (m, n, x₁)) t
 
 -- ---- an act in both directions
 says-last : (Q : State → Type 0) {r : ℕ} (a : Out State) → Says Q r a → Says Q r (then a (out 0))

@@ -5,6 +5,7 @@ ghost use Rattle.halting.specs.Out.{then, each, eachOf};
 ghost use Rattle.halting.specs.Every.{All};
 ghost use Rattle.cell.specs.Cell.{IsCell};
 ghost use Rattle.model.specs.Doing.{others, scheduleCollision, scheduleBy, boundaries, scheduleEvents, again as againIn};
+ghost use Rattle.model.specs.Reports.{planTold};
 ghost use Rattle.model.specs.Rows.{finder};
 ghost use Rattle.step.specs.World.{Placed, Celled, Seen, Held, Some, Does, unless};
 use crate::World;
@@ -80,7 +81,7 @@ pub fn schedule_collisions(
 // What a grain does at one of a cell's bounds in a direction.
 fn plan_bound(kind: Bound, dim: usize, w: World, cell: Cell, i: u64, p: Particle) -> Plan
     requires { ⌜ IsCell (w .domain) cell ⌝ }
-    ensures { λ r. ⌜ r ≡ finder kind dim (w .domain) (w .clock) (cell .index) i p ⌝ }
+    ensures { λ r. ⌜ planTold r ≡ planTold (finder kind dim (w .domain) (w .clock) (cell .index) i p) ⌝ }
 {
     match kind {
         Bound::ToNeighbour => event::move_to_neighbour::schedule(

@@ -32,7 +32,7 @@ same-length-5 : tie.Need-same-length-5
 same-length-5 c = c .before .before .before .before .order .given
 
 returns : tie.Need-returns
-returns c = run-told (c .before .before .before .before .before .before .before .before .before .before .before .before .before .run .result) _ _ _ _ _ (c .run-number .ensures) (c .before .before .clock-of .ensures) (c .before .events-told .ensures) (c .before .before .before .before .before .before .before .before .before .before .before .before .before .run .ensures)
+returns c = let r = c .before .before .before .before .before .before .before .before .before .before .before .before .before .run in (r .ensures .owned, run-told (r .result) _ _ _ _ _ (c .run-number .ensures) (c .before .before .clock-of .ensures) (c .before .events-told .ensures) (r .ensures .is))
 
 pub fesolopi-run-spec : {M : Type 1} → statement M
 fesolopi-run-spec =

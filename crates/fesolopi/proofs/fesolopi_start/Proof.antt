@@ -29,7 +29,7 @@ same-length-5 : tie.Need-same-length-5
 same-length-5 c = c .before .before .before .order .given
 
 returns : tie.Need-returns
-returns c = start-told (c .before .before .before .before .before .before .before .before .before .before .before .before .start .result) _ _ _ _ (c .start-number .ensures) (c .before .grain-named .ensures) (c .before .before .before .before .before .before .before .before .before .before .before .before .start .ensures)
+returns c = let s = c .before .before .before .before .before .before .before .before .before .before .before .before .start in (s .ensures .box-fits, start-told (s .result) _ _ _ _ (c .start-number .ensures) (c .before .grain-named .ensures) (s .ensures .is))
 
 pub fesolopi-start-spec : {M : Type 1} → statement M
 fesolopi-start-spec =

@@ -33,7 +33,7 @@ same-length-5 : tie.Need-same-length-5
 same-length-5 c = search needs
 
 returns : tie.Need-returns
-returns c = ran _ (c .before .before .before .before .before .before .before .before .before .before .run .result) _ _ _ _ _ (c .before .before .before .before .before .before .before .before .before .before .before .before .before .before .before .before .enum-told .given .1) (c .before .before .before .before .before .before .before .before .before .before .run .ensures)
+returns c = ran _ (c .before .before .before .before .before .before .before .before .before .before .run .result) _ _ _ _ _ (c .before .before .before .before .before .before .before .before .before .before .before .before .before .before .before .before .enum-told .given .1) (c .before .before .before .before .before .before .before .before .before .before .run .ensures .is)
 
 returns-2 : tie.Need-returns-2
 returns-2 c = kept _ _ _ _ (c .before .report .given .1) refl

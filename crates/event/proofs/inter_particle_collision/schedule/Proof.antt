@@ -1,5 +1,8 @@
 -- The plan by when the two touch. Assumes nothing.
+use mathlib.Core.Path.{ap}
 use borrow.Author.Needs.{needs}
+use Rattle.model.specs.Reports.{planTold}
+use Rattle.model.proofs.Answers.{one-contact, one-plan}
 use Rattle.event.proofs.Collision.{plan-never, plan-due, plan-refused}
 use Rattle.event.proofs.inter_particle_collision.schedule.Statement.{statement}
 use Rattle.event.proofs.inter_particle_collision.schedule.Tie as tie
@@ -32,13 +35,13 @@ enum-told-2 : tie.Need-enum-told-2
 enum-told-2 c = search needs
 
 returns : tie.Need-returns
-returns c = plan-never _ _ _ _ _ _ _ _ _ _ _ (c .before .before .before .before .before .sub .ensures) (c .before .before .before .before .apart .ensures) (c .before .before .before .sub2 .ensures) (c .before .before .contact .ensures) (c .enum-told .given .1)
+returns c = ap planTold (plan-never _ _ _ _ _ _ _ _ _ _ _ (c .before .before .before .before .before .sub .ensures) (c .before .before .before .before .apart .ensures) (c .before .before .before .sub2 .ensures) (one-contact _ _ (c .before .before .contact .ensures)) (c .enum-told .given .1))
 
 returns-2 : tie.Need-returns-2
-returns-2 c = plan-due _ _ _ _ _ _ _ _ _ _ _ (c .before .before .before .before .before .before .before .before .sub .ensures) (c .before .before .before .before .before .before .before .apart .ensures) (c .before .before .before .before .before .before .sub2 .ensures) (c .before .before .before .before .before .contact .ensures) _ _ _ (c .before .before .before .dt .given .1) (c .before .struck .ensures) (c .due .ensures)
+returns-2 c = ap planTold (plan-due _ _ _ _ _ _ _ _ _ _ _ (c .before .before .before .before .before .before .before .before .sub .ensures) (c .before .before .before .before .before .before .before .apart .ensures) (c .before .before .before .before .before .before .sub2 .ensures) (one-contact _ _ (c .before .before .before .before .before .contact .ensures)) _ _ _ (c .before .before .before .dt .given .1) (c .before .struck .ensures) (one-plan _ _ (c .due .ensures)))
 
 returns-3 : tie.Need-returns-3
-returns-3 c = plan-refused _ _ _ _ _ _ _ _ _ _ _ (c .before .before .before .before .before .sub .ensures) (c .before .before .before .before .apart .ensures) (c .before .before .before .sub2 .ensures) (c .before .before .contact .ensures) (c .enum-told2 .given .1)
+returns-3 c = ap planTold (plan-refused _ _ _ _ _ _ _ _ _ _ _ (c .before .before .before .before .before .sub .ensures) (c .before .before .before .before .apart .ensures) (c .before .before .before .sub2 .ensures) (one-contact _ _ (c .before .before .contact .ensures)) (c .enum-told2 .given .1))
 
 pub schedule-spec : {M : Type 1} → statement M
 schedule-spec =

@@ -1,7 +1,7 @@
 -- The time by the root's answer. Assumes nothing.
 use mathlib.Core.Path.{sym, _∙_}
 use borrow.Author.Needs.{needs}
-use Rattle.event.proofs.Collision.{before, after, refused}
+use Rattle.event.proofs.Collision.{before, after, refused, time-told}
 use Rattle.event.proofs.inter_particle_collision.time_of.Statement.{statement}
 use Rattle.event.proofs.inter_particle_collision.time_of.Tie as tie
 
@@ -15,13 +15,13 @@ enum-told : tie.Need-enum-told
 enum-told c = search needs
 
 returns : tie.Need-returns
-returns c = before _ _ _ (c .before .before .s .given .0 .0) (sym (c .before .before .before .before .square-root .ensures) ∙ c .before .before .s .given .1) (c .if1 .taken)
+returns c = time-told _ _ _ _ (before _ _ _ (c .before .before .s .given .0 .0) (sym (c .before .before .before .before .square-root .ensures .0) ∙ c .before .before .s .given .1) (c .if1 .taken))
 
 returns-2 : tie.Need-returns-2
-returns-2 c = after _ _ _ (c .before .before .s .given .0 .0) (sym (c .before .before .before .before .square-root .ensures) ∙ c .before .before .s .given .1) (c .if1 .left)
+returns-2 c = time-told _ _ _ _ (after _ _ _ (c .before .before .s .given .0 .0) (sym (c .before .before .before .before .square-root .ensures .0) ∙ c .before .before .s .given .1) (c .if1 .left))
 
 returns-3 : tie.Need-returns-3
-returns-3 c = refused _ _ _ (sym (c .before .before .square-root .ensures) ∙ c .enum-told .given .1)
+returns-3 c = time-told _ _ _ _ (refused _ _ _ (sym (c .before .before .square-root .ensures .0) ∙ c .enum-told .given .1))
 
 pub time-of-spec : {M : Type 1} → statement M
 time-of-spec =

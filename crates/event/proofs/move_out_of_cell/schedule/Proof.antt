@@ -1,5 +1,8 @@
 -- The three ways of a move out of a cell: shut, not ahead, or due. Assumes nothing.
+use mathlib.Core.Path.{ap}
 use borrow.Author.Needs.{needs}
+use Rattle.model.specs.Reports.{planTold}
+use Rattle.model.proofs.Answers.{one-plan}
 use Rattle.event.proofs.Moves.{out-none, out-early, out-found}
 use Rattle.event.proofs.move_out_of_cell.schedule.Statement.{statement}
 use Rattle.event.proofs.move_out_of_cell.schedule.Tie as tie
@@ -11,13 +14,13 @@ shut-requires : tie.Need-shut-requires
 shut-requires c κs = search needs
 
 returns : tie.Need-returns
-returns c = out-none _ _ _ _ _ _ _ (c .before .before .new .ensures) _ (c .before .shut .ensures) (c .if1 .taken)
+returns c = ap planTold (out-none _ _ _ _ _ _ _ (c .before .before .new .ensures) _ (c .before .shut .ensures) (c .if1 .taken))
 
 dt-requires : tie.Need-dt-requires
 dt-requires c κs = search needs
 
 returns-2 : tie.Need-returns-2
-returns-2 c = out-early _ _ _ _ _ _ _ (c .before .before .before .before .new .ensures) _ _ (c .before .before .before .shut .ensures) (c .before .before .if1 .left) (c .before .dt .ensures) (c .if2 .taken)
+returns-2 c = ap planTold (out-early _ _ _ _ _ _ _ (c .before .before .before .before .new .ensures) _ _ (c .before .before .before .shut .ensures) (c .before .before .if1 .left) (c .before .dt .ensures) (c .if2 .taken))
 
 get-new-pos-requires : tie.Need-get-new-pos-requires
 get-new-pos-requires c κs = search needs
@@ -26,7 +29,7 @@ due-requires : tie.Need-due-requires
 due-requires c κs = search needs
 
 returns-3 : tie.Need-returns-3
-returns-3 c = out-found _ _ _ _ _ _ _ (c .before .before .before .before .before .before .new .ensures) _ _ _ _ (c .before .before .before .before .before .shut .ensures) (c .before .before .before .before .if1 .left) (c .before .before .before .dt .ensures) (c .before .before .if2 .left) (c .before .get-new-pos .ensures) (c .due .ensures)
+returns-3 c = ap planTold (out-found _ _ _ _ _ _ _ (c .before .before .before .before .before .before .new .ensures) _ _ _ _ (c .before .before .before .before .before .shut .ensures) (c .before .before .before .before .if1 .left) (c .before .before .before .dt .ensures) (c .before .before .if2 .left) (c .before .get-new-pos .ensures) (one-plan _ _ (c .due .ensures)))
 
 pub schedule-spec : {M : Type 1} → statement M
 schedule-spec =

@@ -1,5 +1,8 @@
 -- The three ways of a move to a neighbour: shut, not ahead, or due. Assumes nothing.
+use mathlib.Core.Path.{ap}
 use borrow.Author.Needs.{needs}
+use Rattle.model.specs.Reports.{planTold}
+use Rattle.model.proofs.Answers.{one-plan}
 use Rattle.event.proofs.Moves.{neighbour-none, neighbour-early, neighbour-found}
 use Rattle.event.proofs.move_to_neighbour.schedule.Statement.{statement}
 use Rattle.event.proofs.move_to_neighbour.schedule.Tie as tie
@@ -11,13 +14,13 @@ shut-requires : tie.Need-shut-requires
 shut-requires c κs = search needs
 
 returns : tie.Need-returns
-returns c = neighbour-none _ _ _ _ _ _ _ (c .before .before .new .ensures) _ (c .before .shut .ensures) (c .if1 .taken)
+returns c = ap planTold (neighbour-none _ _ _ _ _ _ _ (c .before .before .new .ensures) _ (c .before .shut .ensures) (c .if1 .taken))
 
 dt-requires : tie.Need-dt-requires
 dt-requires c κs = search needs
 
 returns-2 : tie.Need-returns-2
-returns-2 c = neighbour-early _ _ _ _ _ _ _ (c .before .before .before .before .new .ensures) _ _ (c .before .before .before .shut .ensures) (c .before .before .if1 .left) (c .before .dt .ensures) (c .if2 .taken)
+returns-2 c = ap planTold (neighbour-early _ _ _ _ _ _ _ (c .before .before .before .before .new .ensures) _ _ (c .before .before .before .shut .ensures) (c .before .before .if1 .left) (c .before .dt .ensures) (c .if2 .taken))
 
 get-new-pos-requires : tie.Need-get-new-pos-requires
 get-new-pos-requires c κs = search needs
@@ -29,7 +32,7 @@ due-requires : tie.Need-due-requires
 due-requires c κs = search needs
 
 returns-3 : tie.Need-returns-3
-returns-3 c = neighbour-found _ _ _ _ _ _ _ (c .before .before .before .before .before .before .before .new .ensures) _ _ _ _ _ (c .before .before .before .before .before .before .shut .ensures) (c .before .before .before .before .before .if1 .left) (c .before .before .before .before .dt .ensures) (c .before .before .before .if2 .left) (c .before .before .get-new-pos .ensures) (c .before .aside .ensures) (c .due .ensures)
+returns-3 c = ap planTold (neighbour-found _ _ _ _ _ _ _ (c .before .before .before .before .before .before .before .new .ensures) _ _ _ _ _ (c .before .before .before .before .before .before .shut .ensures) (c .before .before .before .before .before .if1 .left) (c .before .before .before .before .dt .ensures) (c .before .before .before .if2 .left) (c .before .before .get-new-pos .ensures) (c .before .aside .ensures) (one-plan _ _ (c .due .ensures)))
 
 pub schedule-spec : {M : Type 1} → statement M
 schedule-spec =
