@@ -8,7 +8,7 @@ use lib.ListN.{length, take}
 use Rattle.libc.specs.Io.{Moved}
 use Rattle.pipes.specs.declared.reading.Heard.{Heard}
 use Rattle.pipes.specs.Reads.{Read, readOf, textOf, moreOf, failedOf, overOf, heardOf}
-use Rattle.pipes.proofs.ReadLaws.{heard-text, one-read, reads-then, reads-most, text-then, more-then, failed-then, over-is}
+use Rattle.pipes.proofs.ReadLaws.{heard-text, one-read, reads-then, reads-most, text-then, end-then, over-is}
 use Rattle.pipes.specs.Writes.{HandedOut}
 use Rattle.listing_text.specs.declared.reader.Reader.{Reader}
 use Rattle.listing_text.specs.Reading.{startOf, feedAll}
@@ -34,7 +34,7 @@ turned-once {y} {z} c r buf {t} l m e = (readOf z buf ∷ [], one-read z buf l m
 -- however the text is cut into reads, the reader is fed all of it
 pub turn-then : (r : Reader) (reads next : List Read) → moreOf reads ≡ true → turnOf (turnOf r reads .reader) next ≡ turnOf r (reads ++ next)
 turn-then r reads next e =
-    turn-as r (reads ++ next) (sym (ap (feedAll r) (text-then reads next e) ∙ feed-parts (textOf reads) (textOf next) r)) (sym (more-then reads next e)) (sym (failed-then reads next e))
+    turn-as r (reads ++ next) (sym (ap (feedAll r) (text-then reads next e) ∙ feed-parts (textOf reads) (textOf next) r)) (sym (end-then true false false reads next e)) (sym (end-then false true false reads next e))
 
 pub turned-then : {m n : ℕ} {r : Reader} {t u : Turn} → Turned m r t → t .more ≡ true → Turned n (t .reader) u → Turned (m + n) r u
 turned-then {r = r} {t = t} {u = u} a e b =

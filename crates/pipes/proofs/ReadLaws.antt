@@ -13,7 +13,7 @@ use borrow.Author.Tests.{lt-ltb, le-ltb}
 use Rattle.libc.specs.Io.{Moved}
 use Rattle.io.specs.Counts.{clamped}
 use Rattle.pipes.specs.declared.reading.Heard.{Heard}
-use Rattle.pipes.specs.Reads.{Read, failed, over, gave, Reads, spent, ended, broken, more, readOf, textOf, moreOf, failedOf, overOf, heardOf}
+use Rattle.pipes.specs.Reads.{Read, failed, over, gave, Reads, spent, ended, broken, more, readOf, textOf, byEnd, moreOf, failedOf, overOf, heardOf}
 
 heard-as : (n : ℕ) (m f : Bool) (a : Read) → n ≡ length (textOf (a ∷ [])) → m ≡ moreOf (a ∷ []) → f ≡ failedOf (a ∷ []) → _≡_ {A = Heard} (record { count = n; more = m; failed = f }) (heardOf a)
 heard-as n m f a p q r = cc
@@ -73,17 +73,11 @@ text-then (failed ∷ reads) next e = absurd (false≢true e)
 text-then (over ∷ reads) next e = absurd (false≢true e)
 text-then (gave s ∷ reads) next e = ap (λ (t : List ℕ). s ++ t) (text-then reads next e) ∙ sym (append-assoc s (textOf reads) (textOf next))
 
-pub more-then : (reads next : List Read) → moreOf reads ≡ true → moreOf (reads ++ next) ≡ moreOf next
-more-then [] next e = refl
-more-then (failed ∷ reads) next e = absurd (false≢true e)
-more-then (over ∷ reads) next e = absurd (false≢true e)
-more-then (gave s ∷ reads) next e = more-then reads next e
-
-pub failed-then : (reads next : List Read) → moreOf reads ≡ true → failedOf (reads ++ next) ≡ failedOf next
-failed-then [] next e = refl
-failed-then (failed ∷ reads) next e = absurd (false≢true e)
-failed-then (over ∷ reads) next e = absurd (false≢true e)
-failed-then (gave s ∷ reads) next e = failed-then reads next e
+pub end-then : {A : Type 0} (goes fails ends : A) (reads next : List Read) → moreOf reads ≡ true → byEnd goes fails ends (reads ++ next) ≡ byEnd goes fails ends next
+end-then goes fails ends [] next e = refl
+end-then goes fails ends (failed ∷ reads) next e = absurd (false≢true e)
+end-then goes fails ends (over ∷ reads) next e = absurd (false≢true e)
+end-then goes fails ends (gave s ∷ reads) next e = end-then goes fails ends reads next e
 
 -- the end was said where no more may follow and none failed
 pub over-is : (reads : List Read) → cond (moreOf reads) false (not (failedOf reads)) ≡ overOf reads

@@ -32,26 +32,22 @@ textOf (failed ∷ reads) = []
 textOf (over ∷ reads) = []
 textOf (gave s ∷ reads) = s ++ textOf reads
 
--- whether more may follow
+-- one thing while all gave bytes, another where one fails, a third where one says the end
+abbrev pub byEnd : {A : Type 0} → A → A → A → List Read → A
+byEnd goes fails ends [] = goes
+byEnd goes fails ends (failed ∷ reads) = fails
+byEnd goes fails ends (over ∷ reads) = ends
+byEnd goes fails ends (gave s ∷ reads) = byEnd goes fails ends reads
+
+-- whether more may follow, whether a read failed, whether one said the end
 abbrev pub moreOf : List Read → Bool
-moreOf [] = true
-moreOf (failed ∷ reads) = false
-moreOf (over ∷ reads) = false
-moreOf (gave s ∷ reads) = moreOf reads
+moreOf reads = byEnd true false false reads
 
--- whether a read failed
 abbrev pub failedOf : List Read → Bool
-failedOf [] = false
-failedOf (failed ∷ reads) = true
-failedOf (over ∷ reads) = false
-failedOf (gave s ∷ reads) = failedOf reads
+failedOf reads = byEnd false true false reads
 
--- whether a read said the end
 abbrev pub overOf : List Read → Bool
-overOf [] = false
-overOf (failed ∷ reads) = false
-overOf (over ∷ reads) = true
-overOf (gave s ∷ reads) = overOf reads
+overOf reads = byEnd false false true reads
 
 -- one read: how many bytes it gave, and both
 abbrev pub heardOf : Read → Heard
