@@ -26,7 +26,11 @@ took-requires : tie.Need-took-requires
 took-requires c κs = search needs
 
 returns : tie.Need-returns
-returns c = let f : SFits w64 (c .before .before .before .read .result) = search needs in turned-once (toZ-ofZ f) _ _ (search needs) (subst (λ (n : ℕ). Moved n (c .before .before .before .read .result)) (sym (c .before .before .before .before .before .buffer .ensures)) (c .before .before .before .read .ensures)) (c .took .ensures)
+returns c =
+    let read = c .before .before .before .read in
+    let f : SFits w64 (read .result) = search needs in
+    let moved = subst (λ (n : ℕ). Moved n (read .result)) (sym (c .before .before .before .before .before .buffer .ensures)) (read .ensures) in
+    turned-once (toZ-ofZ f) _ _ (search needs) moved (c .took .ensures)
 
 pub read-some-spec : {M : Type 1} → statement M
 read-some-spec =

@@ -40,7 +40,11 @@ loop-less : tie.Need-loop-less Inv-loop μ-loop
 loop-less c = omega (arith, taken-most (c .before .before .before .before .before .before .args .bytes .now) (c .before .before .before .before .loop .done) (c .before .write-some .ensures .1) (search needs), c .if1 .left)
 
 loop-again : tie.Need-loop-again Inv-loop μ-loop
-loop-again c = (omega (arith, taken-most (c .before .before .before .before .before .before .args .bytes .now) (c .before .before .before .before .loop .done) (c .before .write-some .ensures .1) (search needs)), λ r k. c .before .before .before .before .loop .inv .1 r (taken-some (c .before .before .before .before .before .before .args .bytes .now) (c .before .before .before .before .loop .done) (c .before .write-some .ensures .1) _ (c .before .write-some .ensures .2) (search needs) k))
+loop-again c =
+    let bytes = c .before .before .before .before .before .before .args .bytes .now in
+    let loop = c .before .before .before .before .loop in
+    let took = c .before .write-some .ensures in
+    (omega (arith, taken-most bytes (loop .done) (took .1) (search needs)), λ r k. loop .inv .1 r (taken-some bytes (loop .done) (took .1) _ (took .2) (search needs) k))
 
 returns-2 : tie.Need-returns-2 Inv-loop μ-loop
 returns-2 c = c .before .loop .inv .1 true (taken-all (c .before .before .before .args .bytes .now) (c .before .loop .done) (search needs))
