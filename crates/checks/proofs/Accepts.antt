@@ -22,7 +22,7 @@ use Rattle.model.proofs.Stands.{stands}
 use Rattle.model.proofs.Reflect.{says-standing}
 use Rattle.checks.specs.Decode.{Tables, mark, sizesOf, decoded, cutBoth, grainAt, grainsPart, placesOf, queuesOf}
 use Rattle.checks.specs.Check.{sized, legible, standing, checked}
-use Rattle.checks.specs.Held.{Fits, Answered, Accepted}
+use Rattle.checks.specs.Held.{Fits, Floats, Answered, Accepted}
 use Rattle.checks.proofs.Cut.{cut-long}
 use Rattle.checks.proofs.Same.{legible-means}
 use Rattle.checks.proofs.Stages.{sized-means}
@@ -46,8 +46,8 @@ queues-timed room zero q e c f = tt
 queues-timed room (suc n) q e zero f = all-take Timed (placesOf room (drop 1 q) e) (getD q 0 0) (places-timed room (drop 1 q) e f)
 queues-timed room (suc n) q e (suc c) f = queues-timed room n (drop (room * 4 + 1) q) (drop (room * 10) e) c (fits-drop (room * 10) e f)
 
-pub fitted : (t : Tables) → Fits (t .grains) → Fits (t .events) → Fitted (decoded t)
-fitted t f g = record { clock = f 2; times = λ c. queues-timed ((sizesOf (t .lists)) .room) ((sizesOf (t .lists)) .cells) (t .queue) (t .events) c g }
+pub fitted : (t : Tables) → Floats t → Fitted (decoded t)
+fitted t f = record { clock = f .grains-fit 2; times = λ c. queues-timed ((sizesOf (t .lists)) .room) ((sizesOf (t .lists)) .cells) (t .queue) (t .events) c (f .events-fit) }
 
 -- ---- the answer 0
 pub record Passed (rate : Float) (t : Tables) : Type 0 where
@@ -81,7 +81,7 @@ accepted rate t r A e = from (checked-means rate t (sym (A .is) ∙ e))
         let S = sized-means t (p .sizes) in
         let b = both t (p .stands) in
         let L = legible-means z (t .lists) (t .queue) (b .0) in
-        let f = fitted t (A .grains-fit) (A .events-fit) in
+        let f = fitted t (A .floats) in
         let F = stands (decoded t) f (says-standing (decoded t) f .means (b .1)) in
         record { sized = S; hold = record { sizes = refl; mark-is = refl; flags = (L .flag0, L .flag1); box-is = refl; clock-is = refl; body = held z t S L F }; stands = F }
 

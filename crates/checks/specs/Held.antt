@@ -24,11 +24,15 @@ pub record Hold (z : Sizes) (t : Tables) (s : State) : Type 0 where
 abbrev pub Fits : List Float → Type 0
 Fits l = (i : ℕ) → T (fits binary64 (getD l i nan))
 
--- what the check answers; of the tables it says, besides, what their type says
-pub record Answered (rate : Float) (t : Tables) (r : ℕ) : Type 0 where
-  pub is : r ≡ checked rate t
+-- what the type of the tables says
+pub record Floats (t : Tables) : Type 0 where
   pub grains-fit : Fits (t .grains)
   pub events-fit : Fits (t .events)
+
+-- what the check answers, and besides what the tables' type says
+pub record Answered (rate : Float) (t : Tables) (r : ℕ) : Type 0 where
+  pub is : r ≡ checked rate t
+  pub floats : Floats t
 
 -- nothing refuses the run: the tables hold a state whose facts stand
 pub record Accepted (t : Tables) : Type 0 where

@@ -57,10 +57,10 @@ due {r = r} a e f h =
       reads = a .0;
       made = a .1;
       answers = λ _. subst (λ (x : Turn). HandedOut (answered (x .reader)) r) (a .2) h;
-      silent = λ n. absurd (true≢false (sym o ∙ n));
+      unended = λ n. absurd (true≢false (sym o ∙ n));
     }
 
 pub not-due : {t : Turn} {b : Bool} → Turned most startOf t → b ≡ endedOf t → b ≡ false → Responded false
 not-due a e f =
     let o : overOf (a .0) ≡ false = sym (ended-is (a .0) (a .2) e) ∙ f in
-    record { reads = a .0; made = a .1; answers = λ y. absurd (true≢false (sym y ∙ o)); silent = λ _. refl }
+    record { reads = a .0; made = a .1; answers = λ y. absurd (true≢false (sym y ∙ o)); unended = λ _. refl }

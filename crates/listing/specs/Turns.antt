@@ -26,9 +26,9 @@ most = 18446744073709551615
 abbrev pub endedOf : Turn → Bool
 endedOf t = cond (t .more) false (not (t .failed))
 
--- the answer to what reads gave is handed out where they reached the end, and nothing otherwise; r: all of it was taken
+-- where reads reached the end, the answer to what they gave is handed out, and r says whether all of it was taken; otherwise r is false
 pub record Responded (r : Bool) : Type 0 where
   pub reads : List Read
   pub made : Reads most reads
   pub answers : overOf reads ≡ true → HandedOut (answer (textOf reads)) r
-  pub silent : overOf reads ≡ false → r ≡ false
+  pub unended : overOf reads ≡ false → r ≡ false

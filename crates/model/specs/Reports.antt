@@ -1,4 +1,4 @@
--- 01, "Numbers given back" and "Doing an event": the number and the values that each case of an answer stands for. Assumes nothing: these are definitions.
+-- 01, "Numbers given back", "Collision" and "Doing an event": the number and the values that each case of an answer stands for. Assumes nothing: these are definitions.
 use Prim.Native.Nat.{ℕ}
 use mathlib.Core.List.{List, [], _∷_}
 use lib.Ieee.{Float}

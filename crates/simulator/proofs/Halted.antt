@@ -19,10 +19,9 @@ use Rattle.model.proofs.Halts.{HaltIn, run-halts-in-order, in-range}
 use Rattle.checks.specs.Decode.{Tables, mark, decoded}
 use Rattle.checks.specs.Check.{legible, standing, checked}
 use Rattle.checks.specs.Encode.{encoded}
-use Rattle.checks.proofs.Accepts.{Passed, checked-means}
+use Rattle.checks.proofs.Accepts.{fitted, Passed, checked-means}
 use Rattle.running.specs.Ran.{RanTables, leaving}
 use Rattle.simulator.specs.Run.{byCheck, runTables, RunPromise}
-use Rattle.simulator.proofs.RunLaws.{owned-fitted}
 use Rattle.simulator.proofs.Encoded.{decoded-encoded, encoded-sized}
 use Rattle.simulator.proofs.Ran.{halted-tables, left-sound, left-long}
 use Rattle.simulator.proofs.Numbers.{OneOf, halts, unchanged, run-passed-halts}
@@ -83,5 +82,5 @@ module _ (t : Tables) (stood : Stands (decoded t)) (rate : Float) (C : checked r
 pub halts-any-tables : (t : Tables) (rate : Float) (b r n : ℕ) (c : Float) (u : Tables) → RunPromise rate b t (Refused r c n) u → checked rate t ≡ 0 → HaltsBy r rate t n u
 halts-any-tables t rate b r n c u p C =
     let m : model.standing (decoded t) ≡ true = unfold standing in and-r (legible t) (model.standing (decoded t)) (checked-means rate t C .stands) in
-    let st = says-stands (decoded t) (owned-fitted t (p .owned)) .means m in
+    let st = says-stands (decoded t) (fitted t (p .owned .floats)) .means m in
     subst (λ (x : RanTables). HaltsBy r rate t (x .count) (x .after)) (sym (p .is)) (halts-standing t st rate C b r (ap (λ (x : RanTables). x .how) (sym (p .is))))

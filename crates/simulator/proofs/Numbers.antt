@@ -24,11 +24,11 @@ use Rattle.halting.proofs.Bools.{differ}
 use Rattle.model.proofs.Exactly.{Exactly}
 use Rattle.checks.specs.Decode.{Tables, mark, decoded}
 use Rattle.checks.specs.Check.{sized, legible, standing, checked}
+use Rattle.checks.proofs.Accepts.{fitted}
 use Rattle.starting.specs.Inputs.{inputsOf}
 use Rattle.running.specs.Ran.{RanTables, toldTables}
 use Rattle.simulator.specs.Start.{startAll}
 use Rattle.simulator.specs.Run.{byCheck, runTables, RunPromise}
-use Rattle.simulator.proofs.RunLaws.{owned-fitted}
 use Rattle.simulator.proofs.Exactly.{check-case, halt-most, begin-halts, start-case, run-gives-10}
 
 -- n is one of these
@@ -131,7 +131,7 @@ module _ (rate : Float) (b : ℕ) (t : Tables) where
       how = ap (λ (x : RanTables). x .how) (p .is)
 
       facts : Says (model.standing (decoded t)) (Standing (decoded t))
-      facts = says-standing (decoded t) (owned-fitted t (p .owned))
+      facts = says-standing (decoded t) (fitted t (p .owned .floats))
 
       fails : (x : Bool) → legible t ≡ x → (y : Bool) → model.standing (decoded t) ≡ y → ((legible t ≡ true) × Standing (decoded t) → ⊥) → (x && y) ≡ false
       fails true d true e n = absurd (n (d, facts .means e))

@@ -25,13 +25,12 @@ use Rattle.checks.proofs.Cut.{cut-long}
 use Rattle.checks.specs.Encode.{sizesIn, encoded}
 use Rattle.running.specs.Ran.{RanTables, beside, toldTables, leaving as over-found}
 use Rattle.simulator.specs.Run.{byCheck, runTables, RunPromise}
-use Rattle.simulator.proofs.RunLaws.{owned-fitted}
 use Rattle.simulator.proofs.Kept.{Kept, run-kept}
 use Rattle.simulator.proofs.Encoded.{Long, decoded-encoded, encoded-mark, encoded-standing, encoded-sized, encoded-again}
 use Rattle.model.specs.declared.Report.{Report}
 use Rattle.model.specs.declared.Report.the-variants as report
 use Rattle.checks.proofs.Stages.{sized-means}
-use Rattle.checks.proofs.Accepts.{sized-model}
+use Rattle.checks.proofs.Accepts.{fitted, sized-model}
 
 -- ---- 1. tables that the mark of an earlier halt refuses: its number and zeros, nothing changed, whatever they hold
 by-halt : (k : ℕ) (rate : Float) (b : ℕ) (t : Tables) → halt k ≡ true → byCheck k rate b t ≡ beside (refusal k (decoded t)) t
@@ -104,7 +103,7 @@ module _ (rate : Float) (b : ℕ) (t : Tables) (S : sized t ≡ true) (L : legib
     where
       held : rated rate ≡ true → model.standing (decoded t) ≡ true → decoded (encoded ((runFrom rate b 0 (decoded t)) .state) t) ≡ (runFrom rate b 0 (decoded t)) .state
       held R s =
-          let st = says-stands (decoded t) (owned-fitted t (p .owned)) .means s in
+          let st = says-stands (decoded t) (fitted t (p .owned .floats)) .means s in
           decoded-encoded ((runFrom rate b 0 (decoded t)) .state) (left-sound R st) t (left-long R st)
 
 -- ---- 3. a run over tables that hold a sound state is the model's run of that state

@@ -1,4 +1,4 @@
--- What a run promises, by the check's answer, and what its tables' types say of the state that they are read as. Assumes nothing.
+-- What a run promises, by the check's answer. Assumes nothing.
 use Prim.Native.Nat.{ℕ, zero, suc, _^_, _<_}
 use mathlib.Core.Path.{_≡_, sym, ap, _∙_}
 use lib.Ieee.{Float}
@@ -6,21 +6,15 @@ use Rattle.order.specs.Numbers.{fzero}
 use Rattle.model.specs.declared.Report.{Report}
 use Rattle.model.specs.declared.Report.the-variants.{Refused}
 use Rattle.model.specs.Run.{runFrom}
-use Rattle.model.specs.Check.{Fitted}
 use Rattle.model.proofs.Allowed.{budgets}
 use Rattle.checks.specs.Decode.{Tables, decoded}
 use Rattle.checks.specs.Held.{Answered}
-use Rattle.checks.proofs.Accepts.{fitted}
 use Rattle.running.specs.Ran.{toldTables, leaving}
 use Rattle.simulator.specs.Run.{byCheck, runTables, Owned, RunPromise}
 
--- the clock and the times are 64-bit floats
-pub owned-fitted : {budget : ℕ} (t : Tables) → Owned budget t → Fitted (decoded t)
-owned-fitted t o = fitted t (o .grains-fit) (o .events-fit)
-
 module _ (rate : Float) (budget : ℕ) (t : Tables) (r : ℕ) (A : Answered rate t r) (B : budget < 2 ^ 32) where
   owned : Owned budget t
-  owned = record { grains-fit = A .grains-fit; events-fit = A .events-fit; small = budgets budget .only B }
+  owned = record { floats = A .floats; small = budgets budget .only B }
 
   refused-is : (k : ℕ) → r ≡ k → (r ≡ 0 → ⊥) → toldTables (Refused r fzero 0) t ≡ byCheck k rate budget t
   refused-is zero e n = absurd (n e)

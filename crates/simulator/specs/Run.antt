@@ -9,7 +9,7 @@ use Rattle.model.specs.Check.{refusal}
 use Rattle.model.specs.Reached.{most}
 use Rattle.checks.specs.Decode.{Tables, decoded}
 use Rattle.checks.specs.Check.{checked}
-use Rattle.checks.specs.Held.{Fits}
+use Rattle.checks.specs.Held.{Floats}
 use Rattle.running.specs.Ran.{RanTables, beside, toldTables, leaving}
 
 -- by the number that refuses it, 0 for none
@@ -22,8 +22,7 @@ runTables rate b t = byCheck (checked rate t) rate b t
 
 -- what the types of a run's arguments say: its tables are of 64-bit floats, and its budget is in its range
 pub record Owned (budget : ℕ) (t : Tables) : Type 0 where
-  pub grains-fit : Fits (t .grains)
-  pub events-fit : Fits (t .events)
+  pub floats : Floats t
   pub small : budget ≤ most
 
 -- what a run that reports r and leaves u promises: the above, and report and tables are the definition's
