@@ -20,7 +20,8 @@ use Rattle.chunks.proofs.Laws.{length-flat, length-front, flat-cut, flat-set, m
 use Rattle.order.specs.Numbers.{last}
 use Rattle.order.proofs.Compare.{lt-irrefl}
 use Rattle.scheduler.specs.declared.Scheduler.{Scheduler}
-use Rattle.scheduler.specs.Heap.{headIn, updated, Fit}
+use Rattle.scheduler.specs.Heap.{updated}
+use Rattle.scheduler.specs.Inside.{headIn, Fit}
 use Rattle.model.specs.declared.Place.{Place}
 use Rattle.model.specs.Events.{headTime, headPlace, finePlace, insertBy, keepBy, goneBy, zeroP}
 use Rattle.model.specs.State.{Row, none, State, queue, heads, liveAt, requeued, withClock}

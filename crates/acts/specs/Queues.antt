@@ -6,7 +6,8 @@ use mathlib.Core.List.{List, _∷_, _++_}
 use lib.ListN.{length, getD, take, drop, replicate}
 use lib.Ieee.{Float}
 use Rattle.scheduler.specs.declared.Scheduler.{Scheduler}
-use Rattle.scheduler.specs.Heap.{headIn, childIn, parentIn}
+use Rattle.scheduler.specs.Heap.{childIn, parentIn}
+use Rattle.scheduler.specs.Inside.{headIn}
 use Rattle.model.specs.declared.Place.{Place}
 use Rattle.model.specs.Events.{insertBy, keepBy, goneBy, zeroP}
 use Rattle.model.specs.State.{Row, row}

@@ -7,6 +7,10 @@ ghost use Rattle.model.specs.State.{State, home, listed};
 ghost use Rattle.model.specs.Acts.{enter as enterAct, leave as leaveAct};
 ghost use Rattle.tables.specs.Holds.{Ranged};
 ghost use Rattle.acts.specs.Tell.{InLists, Lists, Pair, ListsPair, ListsTold};
+use layout::HOME;
+use layout::HOME_ROOM;
+use layout::MEMBER_ROOM;
+use layout::MEMBERS;
 use tables::Sizes;
 
 // A part of a table: from a place to before a place.
@@ -21,7 +25,7 @@ pub fn members_of(lists: &[u64], z: Sizes, cell: usize) -> Part
     ensures { λ r. ⌜ (r .from ≤ r .to) × (r .to ≤ length (now (lists .entry)))
         × ((s : State) → InLists z (now (lists .entry)) s → midOf (r .from) (r .to - r .from) (now (lists .entry)) ≡ listed s cell) ⌝ }
 {
-    let p = z.grains * 9 + cell * 33;
+    let p = z.grains * HOME + cell * MEMBERS;
     let n = lists[p] as usize;
     Part {
         from: p + 1,
@@ -35,7 +39,7 @@ pub fn cells_of(lists: &[u64], z: Sizes, grain: usize) -> Part
     ensures { λ r. ⌜ (r .from ≤ r .to) × (r .to ≤ length (now (lists .entry)))
         × ((s : State) → InLists z (now (lists .entry)) s → midOf (r .from) (r .to - r .from) (now (lists .entry)) ≡ home s grain) ⌝ }
 {
-    let a = grain * 9;
+    let a = grain * HOME;
     let n = lists[a] as usize;
     Part {
         from: a + 1,
@@ -48,17 +52,17 @@ pub fn enter(lists: &mut [u64], z: Sizes, grain: usize, cell: usize) -> u64
     requires { ⌜ Lists z (now lists) × Ranged z × (grain < z .grains) × (cell < z .cells) ⌝ }
     ensures { λ r. ⌜ ((s : State) → InLists z (now (lists .entry)) s → ListsTold z (now (lists .exit)) r (enterAct grain cell s)) ⌝ }
 {
-    let a = grain * 9;
-    let b = a + 9;
-    let p = z.grains * 9 + cell * 33;
-    let q = p + 33;
+    let a = grain * HOME;
+    let b = a + HOME;
+    let p = z.grains * HOME + cell * MEMBERS;
+    let q = p + MEMBERS;
     if tables::rows::lists(&lists[p..q], grain as u64) {
         return 8;
     }
-    if 32 <= lists[p] {
+    if MEMBER_ROOM as u64 <= lists[p] {
         return 7;
     }
-    if 8 <= lists[a] {
+    if HOME_ROOM as u64 <= lists[a] {
         return 7;
     }
     tables::rows::add_to(&mut lists[p..q], grain as u64);
@@ -71,10 +75,10 @@ pub fn leave(lists: &mut [u64], z: Sizes, grain: usize, cell: usize) -> u64
     requires { ⌜ ListsPair z (now lists) grain cell × Ranged z × (grain < z .grains) × (cell < z .cells) ⌝ }
     ensures { λ r. ⌜ ((s : State) → InLists z (now (lists .entry)) s → Pair grain cell s → ListsTold z (now (lists .exit)) r (leaveAct grain cell s)) ⌝ }
 {
-    let a = grain * 9;
-    let b = a + 9;
-    let p = z.grains * 9 + cell * 33;
-    let q = p + 33;
+    let a = grain * HOME;
+    let b = a + HOME;
+    let p = z.grains * HOME + cell * MEMBERS;
+    let q = p + MEMBERS;
     if lists[a] <= 1 {
         return 9;
     }

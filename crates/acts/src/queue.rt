@@ -4,11 +4,14 @@ ghost use Prim.Native.Nat.{ℕ, _+_, _*_, _<_};
 ghost use lib.ListN.{length, getD};
 ghost use Rattle.halting.specs.Out.{eachOf};
 ghost use Rattle.halting.specs.Every.{All};
+ghost use Rattle.layout.specs.Widths.{queueFrom, eventsFrom};
 ghost use Rattle.model.specs.State.{State};
 ghost use Rattle.model.specs.Acts.{insert as insertAct, put as putAct, cancel as cancelAct, first, head, taken};
 ghost use Rattle.tables.specs.Holds.{Ranged, Queued, Ready, Told};
 ghost use Rattle.acts.specs.Queues.{RowOf};
 use crate::heap;
+use layout::PLACE_NUMS;
+use layout::PLACE_REALS;
 use model::Place;
 use model::Plan;
 use tables::Sizes;
@@ -26,11 +29,11 @@ pub struct CellRow {
 }
 
 fn row_of(queue: &[u64], events: &[f64], z: Sizes, cell: usize) -> CellRow
-    requires { ⌜ Ranged z × (cell < z .cells) × (length (now queue) ≡ z .cells * (z .room * 4 + 1)) × (length (now events) ≡ z .cells * (z .room * 10)) ⌝ }
+    requires { ⌜ Ranged z × (cell < z .cells) × (length (now queue) ≡ queueFrom (z .room) (z .cells)) × (length (now events) ≡ eventsFrom (z .room) (z .cells)) ⌝ }
     ensures { λ k. ⌜ RowOf z (now (queue .entry)) (now (events .entry)) cell k ⌝ }
 {
-    let w = z.room * 4 + 1;
-    let v = z.room * 10;
+    let w = z.room * PLACE_NUMS + 1;
+    let v = z.room * PLACE_REALS;
     let at = cell * w;
     let p = cell * v;
     CellRow {
@@ -151,7 +154,7 @@ pub fn cancel_each(
 
 // The head of a cell that holds an event goes. The clock is the caller's.
 pub fn take(queue: &mut [u64], events: &mut [f64], order: &mut [u8], z: Sizes, cell: usize) -> Place
-    requires { ⌜ Ready z (now queue) (now events) (now order) × (cell < z .cells) × (0 < getD (now queue) (cell * (z .room * 4 + 1)) 0) ⌝ }
+    requires { ⌜ Ready z (now queue) (now events) (now order) × (cell < z .cells) × (0 < getD (now queue) (queueFrom (z .room) cell) 0) ⌝ }
     ensures { λ r. ⌜ ((s : State) → Queued z (now (queue .entry)) (now (events .entry)) (now (order .entry)) s → cell ≡ first s
         → (r ≡ head s) × Queued z (now (queue .exit)) (now (events .exit)) (now (order .exit)) (taken s)) ⌝ }
 {

@@ -15,7 +15,7 @@ use Rattle.order.specs.Numbers.{fzero}
 use Rattle.myvec.specs.Vec.{vec}
 use Rattle.model.specs.declared.Particle.{Particle}
 use Rattle.model.specs.Stepping.{grainOf}
-use Rattle.checks.specs.Decode.{cut, grainAt, grainsOf, grainsPart}
+use Rattle.tables.specs.Decode.{cut, grainAt, grainsOf, grainsPart}
 use Rattle.checks.proofs.Cut.{cut-none, cut-step, drop-next}
 use Rattle.listing_text.specs.Grammar.{Grain}
 use Rattle.starting.specs.Inputs.{inputsOf}

@@ -13,7 +13,7 @@ use Rattle.model.specs.declared.Domain.{Domain}
 use Rattle.model.specs.declared.Report.{Report}
 use Rattle.model.specs.declared.Report.the-variants.{Synchronised, Spent, Refused}
 use Rattle.model.specs.declared.Started.{Started}
-use Rattle.checks.specs.Decode.{Tables, tables, grainsOf, grainsPart}
+use Rattle.tables.specs.Decode.{Tables, tables, grainsOf, grainsPart}
 use Rattle.running.specs.Ran.{RanTables, toldTables}
 use Rattle.simulator.specs.Start.{with, startAll}
 use Rattle.simulator.specs.Run.{runTables}

@@ -23,10 +23,10 @@ use Rattle.model.specs.Check.{Fits, runAll}
 use Rattle.model.specs.Reached.{after}
 use Rattle.model.proofs.Reached.{Well, runAll-well, reached-well}
 use Rattle.tables.specs.declared.Sizes.{Sizes}
-use Rattle.checks.specs.Decode.{Tables, grainsOf, grainsPart}
-use Rattle.checks.specs.Check.{listsNeed, grainsNeed, queueNeed, eventsNeed}
+use Rattle.tables.specs.Decode.{Tables, grainsOf, grainsPart}
+use Rattle.tables.specs.Lengths.{listsNeed, grainsNeed, queueNeed, eventsNeed}
 use Rattle.starting.specs.Inputs.{inputsOf}
-use Rattle.checks.specs.Encode.{sizesIn, encoded}
+use Rattle.tables.specs.Encode.{sizesIn, encoded}
 use Rattle.starting.specs.Cleared.{sizesFor, cleared}
 use Rattle.simulator.specs.Start.{fits, StartedWith, with, leaving, startAll}
 use Rattle.simulator.specs.Start as simulator

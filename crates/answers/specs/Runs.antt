@@ -14,7 +14,7 @@ use Rattle.model.specs.declared.Report.{Report}
 use Rattle.model.specs.declared.Report.the-variants.{Synchronised, Spent, Refused}
 use Rattle.model.specs.Grid.{boxOf}
 use Rattle.model.specs.Run.{How, synchronised, spent, refused}
-use Rattle.checks.specs.Decode.{Tables, tables, grainsOf, grainsPart}
+use Rattle.tables.specs.Decode.{Tables, tables, grainsOf, grainsPart}
 use Rattle.simulator.specs.Start.{StartedWith, startAll}
 use Rattle.running.specs.Ran.{RanTables, toldTables}
 use Rattle.simulator.specs.Run.{runTables}

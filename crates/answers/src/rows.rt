@@ -4,7 +4,7 @@ ghost use mathlib.Core.List.{_++_, map};
 ghost use Prim.Native.Nat.{_+_, _*_, _≤_};
 ghost use lib.ListN.{length, drop};
 ghost use Rattle.chunks.specs.Flat.{flat};
-ghost use Rattle.checks.specs.Decode.{grainAt, grainsOf, grainsPart};
+ghost use Rattle.tables.specs.Decode.{grainAt, grainsOf, grainsPart};
 ghost use Rattle.listing_text.specs.Rows.{fiveOf};
 ghost use Rattle.answers.specs.Answer.{float, shown};
 use listing_text::bits_of_float;

@@ -5,7 +5,7 @@ ghost use Prim.Native.Nat.{_*_, _≤_};
 ghost use lib.ListN.{drop};
 ghost use Rattle.order.specs.Numbers.{fzero};
 ghost use Rattle.chunks.specs.Flat.{flat};
-ghost use Rattle.checks.specs.Decode.{tables, grainsOf, grainsPart};
+ghost use Rattle.tables.specs.Decode.{tables, grainsOf, grainsPart};
 ghost use Rattle.running.specs.Ran.{toldTables};
 ghost use Rattle.listing_text.specs.Rows.{fiveOf};
 ghost use Rattle.answers.specs.Answer.{shown};

@@ -20,7 +20,7 @@ use Rattle.halting.proofs.Bools.{and-l, and-r}
 use Rattle.model.proofs.Halts.{halt-range}
 use Rattle.model.proofs.Stands.{stands}
 use Rattle.model.proofs.Reflect.{says-standing}
-use Rattle.checks.specs.Decode.{Tables, mark, sizesOf, decoded, cutBoth, grainAt, grainsPart, placesOf, queuesOf}
+use Rattle.tables.specs.Decode.{Tables, mark, sizesOf, decoded, cutBoth, grainAt, grainsPart, placesOf, queuesOf}
 use Rattle.checks.specs.Check.{sized, legible, standing, checked}
 use Rattle.checks.specs.Held.{Fits, Floats, Answered, Accepted}
 use Rattle.checks.proofs.Cut.{cut-long}

@@ -16,8 +16,9 @@ use Rattle.tables.specs.declared.Sizes.{Sizes}
 use Rattle.tables.specs.Layout.{places, rowNums, queueNums}
 use Rattle.tables.specs.Holds.{Rows, Good}
 use Rattle.tables.proofs.RowLaws.{live-most}
-use Rattle.checks.specs.Decode.{Tables}
-use Rattle.checks.specs.Check.{counted, legibleBy, queueNeed}
+use Rattle.tables.specs.Decode.{Tables}
+use Rattle.checks.specs.Check.{counted, legibleBy}
+use Rattle.tables.specs.Lengths.{queueNeed}
 use Rattle.checks.specs.Held.{Hold}
 use Rattle.tables.proofs.Runs.{row-nums-long}
 use Rattle.checks.proofs.Back.{row-wide, lists-cut, members-cut, queue-cut}

@@ -21,8 +21,8 @@ use Rattle.tables.specs.Layout.{places, grainReals, rowNums, placeNums, placeRe
 use Rattle.tables.specs.Holds.{Rows, Good}
 use Rattle.tables.proofs.ListLaws.{rows-long}
 use Rattle.tables.proofs.Runs.{row-nums-long, row-reals-long}
-use Rattle.checks.specs.Decode.{Tables, decoded, decodedBy, cut, cutBoth, rowOf, grainAt, grainsOf, rowAt, rowsOf, placeAt, placesOf, queueAt, queuesOf, schedulerOf}
-use Rattle.checks.specs.Check.{listsNeed, grainsNeed, queueNeed, eventsNeed}
+use Rattle.tables.specs.Decode.{Tables, decoded, decodedBy, cut, cutBoth, rowOf, grainAt, grainsOf, rowAt, rowsOf, placeAt, placesOf, queueAt, queuesOf, schedulerOf}
+use Rattle.tables.specs.Lengths.{listsNeed, grainsNeed, queueNeed, eventsNeed}
 use Rattle.checks.specs.Held.{Hold}
 
 -- ---- records that are written are read back, whatever follows them

@@ -12,7 +12,7 @@ use borrow.Author.Tests.{leb-true, le-leb, lt-leb}
 use borrow.Rule.Slice.PartMut.{midOf}
 use Rattle.halting.proofs.Bools.{and-l, and-r}
 use Rattle.chunks.proofs.Laws.{tail-is, tail-long}
-use Rattle.checks.specs.Decode.{cut, cutBoth}
+use Rattle.tables.specs.Decode.{cut, cutBoth}
 use Rattle.checks.specs.Check.{counted}
 use Rattle.checks.specs.Walk.{Rowed, First}
 

@@ -11,12 +11,12 @@ use lib.Seq.{getD-drop}
 use lib.Ieee.{Float, nan}
 use borrow.Author.Tests.{ne-eqb}
 use Rattle.order.specs.Numbers.{last}
-use Rattle.scheduler.specs.Heap.{headIn}
+use Rattle.scheduler.specs.Inside.{headIn}
 use Rattle.model.specs.declared.Place.{Place}
 use Rattle.scheduler.proofs.Laws.{getD-any}
 use Rattle.model.specs.Events.{headTime}
 use Rattle.model.specs.State.{Row, none, heads}
-use Rattle.checks.specs.Decode.{cutBoth, placesOf, queueAt, queuesOf}
+use Rattle.tables.specs.Decode.{cutBoth, placesOf, queueAt, queuesOf}
 use Rattle.checks.proofs.Cut.{both-at}
 
 head-first : (k room : ℕ) (q : List ℕ) (e : List Float) → 0 < room → headTime (take k (placesOf room q e)) ≡ cond (eqb k 0) last (getD e 0 nan)

@@ -21,8 +21,10 @@ use Rattle.tables.specs.declared.Sizes.{Sizes}
 use Rattle.tables.specs.Layout.{places, grainReals, rowNums, placeNums, placeReals, queueNums, queueReals}
 use Rattle.tables.specs.Holds.{Grained, Rows, Listed, Good, Tabled, Heaped, Holds}
 use Rattle.tables.proofs.Runs.{good-of}
-use Rattle.checks.specs.Decode.{Tables, decodedBy, cut, cutBoth, grainsPart, grainAt, rowAt, rowsOf, placeAt, placesOf, queueAt}
-use Rattle.checks.specs.Check.{Legible, Sized, counted, listsNeed, grainsNeed, listsBody, grainsBody, queueBody, eventsBody, orderBody}
+use Rattle.tables.specs.Decode.{Tables, decodedBy, cut, cutBoth, grainsPart, grainAt, rowAt, rowsOf, placeAt, placesOf, queueAt}
+use Rattle.checks.specs.Check.{Legible, Sized, counted}
+use Rattle.tables.specs.Lengths.{listsNeed, grainsNeed}
+use Rattle.tables.specs.Bodies.{listsBody, grainsBody, queueBody, eventsBody, orderBody}
 use Rattle.checks.proofs.Cut.{take-tab, drop-next, cut-long, both-long, counted-at}
 use Rattle.checks.proofs.OneRow.{row-read}
 

@@ -4,8 +4,8 @@ use Prim.Native.Nat.{ℕ, _+_, _*_, _≤_}
 use native.Mathlib.Nat.{mul-add, mul-assoc, mul-one}
 use native.Mathlib.Omega.{arith}
 use Rattle.tables.specs.declared.Sizes.{Sizes}
-use Rattle.checks.specs.declared.Lengths.{Lengths}
-use Rattle.checks.specs.Check.{listsNeed, grainsNeed, queueNeed, eventsNeed, orderNeed, lengthsFor}
+use Rattle.tables.specs.declared.lengths.Lengths.{Lengths}
+use Rattle.tables.specs.Lengths.{listsNeed, grainsNeed, queueNeed, eventsNeed, orderNeed, lengthsFor}
 
 -- grains, cells, list places and event places
 abbrev pub allowed : Sizes → ℕ

@@ -18,7 +18,7 @@ use Rattle.model.specs.Standing.{syncs, one-if}
 use Rattle.model.specs.Check.{all, rising, named, held, queueOk}
 use Rattle.chunks.proofs.Laws.{tail-is}
 use Rattle.tables.specs.Holds.{Run}
-use Rattle.checks.specs.Decode.{placeAt, placesOf, queueAt}
+use Rattle.tables.specs.Decode.{placeAt, placesOf, queueAt}
 use Rattle.checks.proofs.Cut.{take-tab, both-take, both-long}
 
 -- ---- the tests of a list of places, step by step

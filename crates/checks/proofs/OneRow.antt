@@ -13,7 +13,7 @@ use borrow.Rule.Slice.PartMut.{midOf}
 use Rattle.model.specs.State.{Row, has, liveAt, none}
 use Rattle.model.specs.Check.{all, once, numbers}
 use Rattle.tables.specs.Layout.{rowNums}
-use Rattle.checks.specs.Decode.{rowAt, rowsOf}
+use Rattle.tables.specs.Decode.{rowAt, rowsOf}
 use Rattle.checks.specs.Walk.{First, Rowed, housed}
 use Rattle.chunks.proofs.Laws.{tail-is}
 use Rattle.checks.proofs.Cut.{cut-at, cut-long, counted-at, rowed-in}

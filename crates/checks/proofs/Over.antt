@@ -8,7 +8,7 @@ use lib.ListN.{length, take, drop, replicate, length-append, length-replicate, r
 use lib.Seq.{take-at, drop-at, drop-drop, sets, sets-eq}
 use borrow.Rule.Slice.PartMut.{midOf, putMid}
 use Rattle.chunks.proofs.Laws.{mid-at}
-use Rattle.checks.specs.Encode.{over}
+use Rattle.tables.specs.Encode.{over}
 
 module _ {A : Type 0} where
   pub over-part : (xs l : List A) (w k : ℕ) → length xs ≡ w → midOf w k (over xs l) ≡ midOf w k l

@@ -13,7 +13,8 @@ use lib.Ieee.Scale.{finite}
 use borrow.Author.Tests.{eqb-true, eq-eqb, le-leb, leb-true, ltb-true}
 use Rattle.halting.specs.Every.{every}
 use Rattle.halting.proofs.Tests.{true-every}
-use Rattle.scheduler.specs.Heap.{headIn, timeIn, parent}
+use Rattle.scheduler.specs.Heap.{timeIn, parent}
+use Rattle.scheduler.specs.Inside.{headIn}
 use Rattle.model.specs.Grid.{cells, cellsOf, across}
 use Rattle.model.specs.Sizes.{boxOk}
 use Rattle.model.specs.State.{Row, none, home, queue, heads, liveAt, zeroG}
@@ -23,7 +24,7 @@ use Rattle.model.specs.Check.{all, numbers, side, back, inverse, sound}
 use Rattle.model.specs.Check as model
 use Rattle.halting.proofs.Bools.{clash, and-l, and-r, both-ways}
 use Rattle.tables.specs.declared.Sizes.{Sizes}
-use Rattle.checks.specs.Decode.{Tables, mark, decodedBy, homesPart, membersPart, grainsPart, grainAt, grainsOf, rowAt, rowsOf, placesOf, queueAt, queuesOf}
+use Rattle.tables.specs.Decode.{Tables, mark, decodedBy, homesPart, membersPart, grainsPart, grainAt, grainsOf, rowAt, rowsOf, placesOf, queueAt, queuesOf}
 use Rattle.checks.specs.Check.{Sized, Legible, counted, legibleBy, standing}
 use Rattle.checks.specs.Walk.{walk, backRow, housed, linked, inOrder}
 use Rattle.checks.specs.Parts.{boxed, grainOk, settled, queueIn, queued, heaped, parts}

@@ -13,8 +13,9 @@ use Rattle.model.specs.Sizes.{rated}
 use Rattle.model.specs.Check.{halt}
 use Rattle.halting.proofs.Bools.{and-l, and-r}
 use Rattle.tables.specs.declared.Sizes.{Sizes}
-use Rattle.checks.specs.Decode.{Tables, mark, sizesOf, rowsOf}
-use Rattle.checks.specs.Check.{Legible, ranged, listsNeed, grainsNeed, queueNeed, eventsNeed, long, sizedBy, sized, Sized, legibleBy, standing, checked}
+use Rattle.tables.specs.Decode.{Tables, mark, sizesOf, rowsOf}
+use Rattle.checks.specs.Check.{Legible, ranged, sizedBy, sized, Sized, legibleBy, standing, checked}
+use Rattle.tables.specs.Lengths.{listsNeed, grainsNeed, queueNeed, eventsNeed, long}
 use Rattle.checks.specs.Walk.{Rowed, linked}
 use Rattle.checks.specs.Parts.{settled, queued, heaped, parts}
 use Rattle.chunks.proofs.Laws.{tail-is}

@@ -10,7 +10,7 @@ use lib.ListN.{length, getD, take, drop}
 use lib.Ieee.{Float, le, fits}
 use Rattle.halting.specs.Every.{every}
 use Rattle.order.specs.Numbers.{nine, fortyeight}
-use Rattle.scheduler.specs.Heap.{headIn}
+use Rattle.scheduler.specs.Inside.{headIn}
 use Rattle.model.specs.Grid.{cellsOf}
 use Rattle.model.specs.Sizes.{within}
 use Rattle.model.specs.State.{Row}
@@ -20,7 +20,7 @@ use Rattle.halting.proofs.Bools.{and-l, and-r}
 use Rattle.model.proofs.Queue.{T-of}
 use Rattle.model.proofs.Grid.{cells-range}
 use Rattle.tables.specs.declared.Sizes.{Sizes}
-use Rattle.checks.specs.Decode.{placesOf, queuesOf}
+use Rattle.tables.specs.Decode.{placesOf, queuesOf}
 use Rattle.checks.specs.Walk.{walk, inOrder}
 use Rattle.checks.specs.Held.{Fits}
 use Rattle.checks.specs.Parts.{queueIn, queued, heaped}

@@ -9,15 +9,16 @@ use Rattle.model.specs.State.{State}
 use Rattle.model.specs.Sound.{Stands}
 use Rattle.tables.specs.declared.Sizes.{Sizes}
 use Rattle.tables.specs.Holds.{Holds}
-use Rattle.checks.specs.Decode.{Tables, mark, sizesOf, boxIn, decoded}
-use Rattle.checks.specs.Check.{Sized, listsBody, grainsBody, queueBody, eventsBody, orderBody, checked}
+use Rattle.tables.specs.Decode.{Tables, mark, sizesOf, boxIn, clockIn, decoded}
+use Rattle.checks.specs.Check.{Sized, checked}
+use Rattle.tables.specs.Bodies.{listsBody, grainsBody, queueBody, eventsBody, orderBody}
 
 pub record Hold (z : Sizes) (t : Tables) (s : State) : Type 0 where
   pub sizes : z ≡ sizesOf (t .lists)
   pub mark-is : mark (t .lists) ≡ s .mark
   pub flags : (getD (t .lists) 4 0 ≤ 1) × (getD (t .lists) 5 0 ≤ 1)
   pub box-is : boxIn (t .lists) (t .grains) ≡ s .box
-  pub clock-is : getD (t .grains) 2 nan ≡ s .clock
+  pub clock-is : clockIn (t .grains) ≡ s .clock
   pub body : Holds z (listsBody z (t .lists)) (grainsBody z (t .grains)) (queueBody z (t .queue)) (eventsBody z (t .events)) (orderBody (t .order)) s
 
 -- every float of a table is a 64-bit one

@@ -8,17 +8,18 @@ use lib.Ieee.{Float, nan, le}
 use lib.Ieee.Scale.{finite}
 use Rattle.halting.specs.Every.{every}
 use Rattle.order.specs.Numbers.{nine, fortyeight}
-use Rattle.scheduler.specs.Heap.{headIn}
+use Rattle.layout.specs.Widths.{heapWide}
+use Rattle.scheduler.specs.Inside.{headIn}
 use Rattle.model.specs.declared.Particle.{Particle}
 use Rattle.model.specs.Grid.{cellsOf}
-use Rattle.model.specs.Sizes.{within}
+use Rattle.model.specs.Sizes.{within, homeRoom, memberRoom}
 use Rattle.model.specs.Acts.{fineGrain}
 use Rattle.model.specs.State.{Row, liveAt}
 use Rattle.model.specs.declared.Place.{Place}
 use Rattle.model.specs.Standing.{syncs}
 use Rattle.model.specs.Check.{all, queueOk, inverse}
 use Rattle.tables.specs.declared.Sizes.{Sizes}
-use Rattle.checks.specs.Decode.{Tables, mark, homesPart, membersPart, grainsPart, grainsOf, rowsOf, placesOf, queuesOf}
+use Rattle.tables.specs.Decode.{Tables, mark, clockIn, homesPart, membersPart, grainsPart, grainsOf, rowsOf, placesOf, queuesOf}
 use Rattle.checks.specs.Check.{legibleBy}
 use Rattle.checks.specs.Walk.{walk, linked, inOrder}
 
@@ -32,7 +33,7 @@ grainOk t p = fineGrain p && le (p .time) t
 -- the headers, and the grains
 unfoldable pub settled : Sizes → List ℕ → List Float → Bool
 settled z l g =
-    eqb (mark l) 0 && (finite (getD g 2 nan) && (boxed (getD g 0 nan) (getD g 1 nan) (z .cells) && all (grainOk (getD g 2 nan)) (grainsOf (z .grains) (grainsPart g))))
+    eqb (mark l) 0 && (finite (clockIn g) && (boxed (getD g 0 nan) (getD g 1 nan) (z .cells) && all (grainOk (clockIn g)) (grainsOf (z .grains) (grainsPart g))))
 
 -- the queues, of cells that list the rows ms
 abbrev pub queueIn : Float → ℕ → ℕ → List (Row ℕ) → ℕ → Row Place → Bool
@@ -45,11 +46,11 @@ queued z t q e ms =
 -- the heap
 unfoldable pub heaped : Sizes → List ℕ → List ℕ → List Float → Bool
 heaped z o q e =
-    inverse (z .cells) (take 256 o) (take 256 (drop 256 o)) &&
-    (inverse (z .cells) (take 256 (drop 256 o)) (take 256 o) && every (inOrder (headIn e q (z .room)) (take 256 o) (z .cells)) (z .cells) 0)
+    inverse (z .cells) (take heapWide o) (take heapWide (drop heapWide o)) &&
+    (inverse (z .cells) (take heapWide (drop heapWide o)) (take heapWide o) && every (inOrder (headIn e q (z .room)) (take heapWide o) (z .cells)) (z .cells) 0)
 
 unfoldable pub parts : Sizes → Tables → Bool
 parts z t =
     legibleBy z (t .lists) (t .queue) && (settled z (t .lists) (t .grains) &&
-    (linked (z .grains) (z .cells) (rowsOf 8 (z .grains) (homesPart (t .lists))) (rowsOf 32 (z .cells) (membersPart (z .grains) (t .lists))) &&
-    (queued z (getD (t .grains) 2 nan) (t .queue) (t .events) (rowsOf 32 (z .cells) (membersPart (z .grains) (t .lists))) && heaped z (t .order) (t .queue) (t .events))))
+    (linked (z .grains) (z .cells) (rowsOf homeRoom (z .grains) (homesPart (t .lists))) (rowsOf memberRoom (z .cells) (membersPart (z .grains) (t .lists))) &&
+    (queued z (clockIn (t .grains)) (t .queue) (t .events) (rowsOf memberRoom (z .cells) (membersPart (z .grains) (t .lists))) && heaped z (t .order) (t .queue) (t .events))))

@@ -8,6 +8,7 @@ use lib.ListN.{length, getD}
 use lib.Ieee.{Float, lt}
 use Rattle.scheduler.specs.Heap.{timeIn, parent}
 use Rattle.model.specs.State.{Row, liveAt, has}
+use Rattle.model.specs.Sizes.{homeRoom, memberRoom}
 use Rattle.model.specs.Check.{all, numbers}
 use Rattle.checks.specs.Check.{counted}
 
@@ -33,7 +34,7 @@ abbrev pub housed : Row ℕ → Bool
 housed r = leb 1 (length (r .live))
 
 abbrev pub linked : ℕ → ℕ → List (Row ℕ) → List (Row ℕ) → Bool
-linked g n hs ms = (all (numbers n 8) hs && all (numbers g 32) ms) && ((walk (backRow ms) 0 hs && walk (backRow hs) 0 ms) && all housed hs)
+linked g n hs ms = (all (numbers n homeRoom) hs && all (numbers g memberRoom) ms) && ((walk (backRow ms) 0 hs && walk (backRow hs) 0 ms) && all housed hs)
 
 -- what each turn of the heap's tests asks
 abbrev pub leadsBack : List ℕ → List ℕ → ℕ → ℕ → Bool

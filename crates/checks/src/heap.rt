@@ -3,7 +3,7 @@ ghost use mathlib.Core.Path.{_≡_};
 ghost use Prim.Native.Nat.{_≤_, _<_};
 ghost use lib.ListN.{length};
 ghost use Rattle.halting.specs.Every.{every};
-ghost use Rattle.scheduler.specs.Heap.{headIn};
+ghost use Rattle.scheduler.specs.Inside.{headIn};
 ghost use Rattle.model.specs.Check.{inverse};
 ghost use Rattle.checks.specs.Walk.{leadsBack, inOrder};
 

@@ -1,14 +1,25 @@
 // What a run tests before it does anything, over the lent tables: 2, the halt mark, 3, 10.
 ghost use mathlib.Core.Path.{_≡_};
-ghost use Prim.Native.Nat.{_+_, _*_, _≤_};
+ghost use Prim.Native.Nat.{_≤_};
 ghost use lib.ListN.{length};
-ghost use Rattle.model.specs.Sizes.{countsOk, rated};
+ghost use Rattle.layout.specs.Widths.{listsHeadWide, membersWide, queueWide, eventsFrom, orderWide};
+ghost use Rattle.model.specs.Sizes.{memberRoom, countsOk, rated};
 ghost use Rattle.model.specs.Check.{halt};
-ghost use Rattle.checks.specs.Decode.{tables, sizesOf, rowsOf};
-ghost use Rattle.checks.specs.Check.{lengthsFor, long, sizedBy, Sized, legibleBy, standing, listsNeed, grainsNeed, queueNeed};
+ghost use Rattle.tables.specs.Decode.{tables, sizesOf, rowsOf};
+ghost use Rattle.checks.specs.Check.{sizedBy, Sized, legibleBy, standing};
+ghost use Rattle.tables.specs.Lengths.{lengthsFor, long, listsNeed, grainsNeed, queueNeed};
 ghost use Rattle.checks.specs.Held.{Answered};
 ghost use Rattle.checks.specs.Walk.{Rowed};
 ghost use Rattle.checks.specs.Parts.{settled, queued, heaped};
+use layout::GRAINS_HEAD;
+use layout::HEAP;
+use layout::HOME;
+use layout::HOME_ROOM;
+use layout::LISTS_HEAD;
+use layout::MEMBER_ROOM;
+use layout::MEMBERS;
+use layout::ORDER;
+use layout::PLACE_NUMS;
 use tables::Sizes;
 
 mod domain;
@@ -43,31 +54,11 @@ pub fn counts_ok(grains: u64, room: u64) -> bool
     room <= 256
 }
 
-// How long the tables must be for these counts; that of the heap always 512.
-pub struct Lengths {
-    pub lists: usize,
-    pub grains: usize,
-    pub queue: usize,
-    pub events: usize,
-}
-
-pub fn needed(z: Sizes) -> Lengths
-    requires { ⌜ (z .grains ≤ 256) × (z .cells ≤ 256) × (z .room ≤ 256) ⌝ }
-    ensures { λ r. ⌜ r ≡ lengthsFor z ⌝ }
-{
-    Lengths {
-        lists: 6 + z.grains * 9 + z.cells * 33,
-        grains: 3 + z.grains * 6,
-        queue: z.cells * (z.room * 4 + 1),
-        events: z.cells * (z.room * 10),
-    }
-}
-
 // Check 2: are the counts in range, and the tables as long as they need?
 pub fn sized(lists: &[u64], grains: usize, queue: usize, events: usize, order: usize) -> bool
     ensures { λ r. ⌜ r ≡ sizedBy (now (lists .entry)) grains queue events order ⌝ }
 {
-    if lists.len() < 6 {
+    if lists.len() < LISTS_HEAD {
         return false;
     }
     if 256 < lists[1] {
@@ -86,35 +77,7 @@ pub fn sized(lists: &[u64], grains: usize, queue: usize, events: usize, order: u
         return false;
     }
     let z = sizes_of(lists);
-    long(z, lists.len(), grains, queue, events, order)
-}
-
-// Are the tables as long as these counts need?
-pub fn long(
-    z: Sizes,
-    lists: usize,
-    grains: usize,
-    queue: usize,
-    events: usize,
-    order: usize,
-) -> bool
-    requires { ⌜ (z .grains ≤ 256) × (z .cells ≤ 256) × (z .room ≤ 256) ⌝ }
-    ensures { λ r. ⌜ r ≡ long z lists grains queue events order ⌝ }
-{
-    let need = needed(z);
-    if lists < need.lists {
-        return false;
-    }
-    if grains < need.grains {
-        return false;
-    }
-    if queue < need.queue {
-        return false;
-    }
-    if events < need.events {
-        return false;
-    }
-    512 <= order
+    tables::lengths::long(z, lists.len(), grains, queue, events, order)
 }
 
 // The marks that an earlier halt left.
@@ -148,20 +111,20 @@ fn legible(lists: &[u64], queue: &[u64], z: Sizes) -> bool
     let g = z.grains;
     let n = z.cells;
     let room = z.room;
-    if !rows::counted(&lists[6..], 8, 9, g) {
+    if !rows::counted(&lists[LISTS_HEAD..], HOME_ROOM, HOME, g) {
         return false;
     }
-    let a = 6 + g * 9;
-    if !rows::counted(&lists[a..], 32, 33, n) {
+    let a = LISTS_HEAD + g * HOME;
+    if !rows::counted(&lists[a..], MEMBER_ROOM, MEMBERS, n) {
         return false;
     }
-    let w = room * 4 + 1;
+    let w = room * PLACE_NUMS + 1;
     rows::counted(queue, room, w, n)
 }
 
 // The headers and the grains: no mark, a finite clock, a box in range with these cells, and grains that are finite and not past the clock.
 fn settled(lists: &[u64], grains: &[f64], z: Sizes) -> bool
-    requires { ⌜ (6 ≤ length (now lists)) × (grainsNeed z ≤ length (now grains)) ⌝ }
+    requires { ⌜ (listsHeadWide ≤ length (now lists)) × (grainsNeed z ≤ length (now grains)) ⌝ }
     ensures { λ r. ⌜ r ≡ settled z (now (lists .entry)) (now (grains .entry)) ⌝ }
 {
     if lists[0] != 0 {
@@ -174,13 +137,13 @@ fn settled(lists: &[u64], grains: &[f64], z: Sizes) -> bool
     if !domain::boxed(grains[0], grains[1], z.cells) {
         return false;
     }
-    grains::settled(&grains[3..], z.grains, clock)
+    grains::settled(&grains[GRAINS_HEAD..], z.grains, clock)
 }
 
 // The queues: each as it should be, and one synchronisation in cell 0's.
 fn queued(queue: &[u64], events: &[f64], members: &[u64], z: Sizes, clock: f64) -> bool
-    requires { ⌜ Rowed (z .room) (z .room * 4 + 1) (z .cells) (now queue) × (z .cells * (z .room * 10) ≤ length (now events)) × (z .room ≤ 256) × Rowed 32 33 (z .cells) (now members) × (z .cells ≤ 256) × (9 ≤ z .cells) ⌝ }
-    ensures { λ r. ⌜ r ≡ queued z clock (now (queue .entry)) (now (events .entry)) (rowsOf 32 (z .cells) (now (members .entry))) ⌝ }
+    requires { ⌜ Rowed (z .room) (queueWide (z .room)) (z .cells) (now queue) × (eventsFrom (z .room) (z .cells) ≤ length (now events)) × (z .room ≤ 256) × Rowed memberRoom membersWide (z .cells) (now members) × (z .cells ≤ 256) × (9 ≤ z .cells) ⌝ }
+    ensures { λ r. ⌜ r ≡ queued z clock (now (queue .entry)) (now (events .entry)) (rowsOf memberRoom (z .cells) (now (members .entry))) ⌝ }
 {
     let n = z.cells;
     let room = z.room;
@@ -193,17 +156,17 @@ fn queued(queue: &[u64], events: &[f64], members: &[u64], z: Sizes, clock: f64) 
 
 // The heap: inverse to its lookups on the cells, and in order.
 fn heaped(order: &[u8], queue: &[u64], events: &[f64], z: Sizes) -> bool
-    requires { ⌜ (512 ≤ length (now order)) × (z .room ≤ 256) × (z .cells ≤ 256) ⌝ }
+    requires { ⌜ (orderWide ≤ length (now order)) × (z .room ≤ 256) × (z .cells ≤ 256) ⌝ }
     ensures { λ r. ⌜ r ≡ heaped z (now (order .entry)) (now (queue .entry)) (now (events .entry)) ⌝ }
 {
     let n = z.cells;
-    if !heap::inverse(&order[..256], &order[256..512], n) {
+    if !heap::inverse(&order[..HEAP], &order[HEAP..ORDER], n) {
         return false;
     }
-    if !heap::inverse(&order[256..512], &order[..256], n) {
+    if !heap::inverse(&order[HEAP..ORDER], &order[..HEAP], n) {
         return false;
     }
-    heap::ordered(&order[..256], queue, events, z.room, n)
+    heap::ordered(&order[..HEAP], queue, events, z.room, n)
 }
 
 // Check 10: do the standing facts hold?
@@ -224,8 +187,8 @@ pub fn standing(
     if !settled(lists, grains, z) {
         return false;
     }
-    let a = 6 + z.grains * 9;
-    if !rows::linked(&lists[6..], &lists[a..], z.grains, z.cells) {
+    let a = LISTS_HEAD + z.grains * HOME;
+    if !rows::linked(&lists[LISTS_HEAD..], &lists[a..], z.grains, z.cells) {
         return false;
     }
     if !queued(queue, events, &lists[a..], z, grains[2]) {

@@ -1,19 +1,24 @@
-// Tests of rows of events: a count and then places of four numbers in one table, ten floats a place in another.
+// Tests of rows of events: a count and the places' numbers in one table, their floats in another.
 ghost use mathlib.Core.Path.{_≡_};
 ghost use Prim.Native.Nat.{ℕ, _+_, _*_, _≤_};
 ghost use mathlib.Core.List.{List};
 ghost use lib.ListN.{length, getD, take};
 ghost use lib.Ieee.{Float};
+ghost use Rattle.layout.specs.Widths.{membersWide, placeNumsWide, placeRealsWide, queueWide, eventsWide, eventsFrom};
+ghost use Rattle.model.specs.Sizes.{memberRoom};
 ghost use Rattle.model.specs.Events.{eventOf};
 ghost use Rattle.model.specs.State.{liveAt};
 ghost use Rattle.model.specs.Standing.{syncs};
 ghost use Rattle.model.specs.Check.{all, rising, named, held, queueOk};
-ghost use Rattle.checks.specs.Decode.{rowAt, rowsOf, placeAt, placesOf, queueAt, queuesOf};
+ghost use Rattle.tables.specs.Decode.{rowAt, rowsOf, placeAt, placesOf, queueAt, queuesOf};
 ghost use Rattle.checks.specs.Walk.{First, Rowed, walk};
+use layout::MEMBERS;
+use layout::PLACE_NUMS;
+use layout::PLACE_REALS;
 
 // Are the times of the first k places in order, from t on?
 fn rising(reals: &[f64], k: usize, t: f64) -> bool
-    requires { ⌜ k * 10 ≤ length (now reals) ⌝ }
+    requires { ⌜ k * placeRealsWide ≤ length (now reals) ⌝ }
     ensures { λ r. ⌜ ((q : List ℕ) → r ≡ rising t (placesOf k q (now (reals .entry)))) ⌝ }
 {
     let mut rest = reals;
@@ -22,7 +27,7 @@ fn rising(reals: &[f64], k: usize, t: f64) -> bool
     while 0 < left {
         let u = rest[0];
         if from <= u {
-            rest = &rest[10..];
+            rest = &rest[PLACE_REALS..];
             left -= 1;
             from = u;
         } else {
@@ -34,7 +39,7 @@ fn rising(reals: &[f64], k: usize, t: f64) -> bool
 
 // The first place, of cell c of n, which lists the first k of `members`: does its event name only grains and cells that it may?
 fn named(nums: &[u64], members: &[u64], k: usize, n: u64, c: u64) -> bool
-    requires { ⌜ (4 ≤ length (now nums)) × (k ≤ length (now members)) ⌝ }
+    requires { ⌜ (placeNumsWide ≤ length (now nums)) × (k ≤ length (now members)) ⌝ }
     ensures { λ r. ⌜ ((e : List Float) → r ≡ named n c (take k (now (members .entry))) (eventOf (getD (now (nums .entry)) 0 0) (placeAt (now (nums .entry)) e))) ⌝ }
 {
     let kind = nums[0];
@@ -66,7 +71,7 @@ fn named(nums: &[u64], members: &[u64], k: usize, n: u64, c: u64) -> bool
 
 // The first place: its kind is one, its floats are fine, and it names what it may.
 fn held(nums: &[u64], reals: &[f64], members: &[u64], k: usize, n: u64, c: u64) -> bool
-    requires { ⌜ (4 ≤ length (now nums)) × (10 ≤ length (now reals)) × (k ≤ length (now members)) ⌝ }
+    requires { ⌜ (placeNumsWide ≤ length (now nums)) × (placeRealsWide ≤ length (now reals)) × (k ≤ length (now members)) ⌝ }
     ensures { λ r. ⌜ r ≡ held n c (take k (now (members .entry))) (placeAt (now (nums .entry)) (now (reals .entry))) ⌝ }
 {
     let kind = nums[0];
@@ -76,7 +81,7 @@ fn held(nums: &[u64], reals: &[f64], members: &[u64], k: usize, n: u64, c: u64) 
     if 5 < kind {
         return false;
     }
-    let s = tables::places::get_head(&nums[0..4], &reals[0..10]);
+    let s = tables::places::get_head(&nums[0..PLACE_NUMS], &reals[0..PLACE_REALS]);
     if !tables::places::fine_place(s) {
         return false;
     }
@@ -93,7 +98,7 @@ fn all_held(
     n: u64,
     c: u64,
 ) -> bool
-    requires { ⌜ (j * 4 ≤ length (now nums)) × (j * 10 ≤ length (now reals)) × (k ≤ length (now members)) ⌝ }
+    requires { ⌜ (j * placeNumsWide ≤ length (now nums)) × (j * placeRealsWide ≤ length (now reals)) × (k ≤ length (now members)) ⌝ }
     ensures { λ r. ⌜ r ≡ all (held n c (take k (now (members .entry)))) (placesOf j (now (nums .entry)) (now (reals .entry))) ⌝ }
 {
     let mut places = nums;
@@ -103,8 +108,8 @@ fn all_held(
         if !held(places, floats, members, k, n, c) {
             return false;
         }
-        places = &places[4..];
-        floats = &floats[10..];
+        places = &places[PLACE_NUMS..];
+        floats = &floats[PLACE_REALS..];
         left -= 1;
     }
     true
@@ -120,8 +125,8 @@ fn queue_ok(
     c: u64,
     t: f64,
 ) -> bool
-    requires { ⌜ (getD (now queue) 0 0 ≤ room) × (room * 4 + 1 ≤ length (now queue)) × (room * 10 ≤ length (now events)) × First 32 (now members) ⌝ }
-    ensures { λ r. ⌜ r ≡ queueOk t room n c ((rowAt 32 (now (members .entry))) .live) (queueAt room (now (queue .entry)) (now (events .entry))) ⌝ }
+    requires { ⌜ (getD (now queue) 0 0 ≤ room) × (queueWide room ≤ length (now queue)) × (eventsWide room ≤ length (now events)) × First memberRoom (now members) ⌝ }
+    ensures { λ r. ⌜ r ≡ queueOk t room n c ((rowAt memberRoom (now (members .entry))) .live) (queueAt room (now (queue .entry)) (now (events .entry))) ⌝ }
 {
     let j = queue[0] as usize;
     if !rising(events, j, t) {
@@ -142,17 +147,17 @@ pub fn queues_ok(
     c: usize,
     t: f64,
 ) -> bool
-    requires { ⌜ Rowed room (room * 4 + 1) m (now queue) × (m * (room * 10) ≤ length (now events)) × (room ≤ 256) × Rowed 32 33 n (now members) × (n ≤ 256) × (c + m ≡ n) ⌝ }
-    ensures { λ r. ⌜ r ≡ walk (λ i q. queueOk t room n i (liveAt (rowsOf 32 n (now (members .entry))) i) q) c (queuesOf room m (now (queue .entry)) (now (events .entry))) ⌝ }
+    requires { ⌜ Rowed room (queueWide room) m (now queue) × (eventsFrom room m ≤ length (now events)) × (room ≤ 256) × Rowed memberRoom membersWide n (now members) × (n ≤ 256) × (c + m ≡ n) ⌝ }
+    ensures { λ r. ⌜ r ≡ walk (λ i q. queueOk t room n i (liveAt (rowsOf memberRoom n (now (members .entry))) i) q) c (queuesOf room m (now (queue .entry)) (now (events .entry))) ⌝ }
 {
-    let w = room * 4 + 1;
-    let v = room * 10;
+    let w = room * PLACE_NUMS + 1;
+    let v = room * PLACE_REALS;
     let mut rows = queue;
     let mut floats = events;
     let mut left = m;
     let mut at = c;
     while 0 < left {
-        let a = at * 33;
+        let a = at * MEMBERS;
         if !queue_ok(rows, floats, room, &members[a..], n as u64, at as u64, t) {
             return false;
         }
@@ -166,14 +171,14 @@ pub fn queues_ok(
 
 // Synchronisations among the first k places.
 pub fn syncs(nums: &[u64], k: usize) -> usize
-    requires { ⌜ k * 4 ≤ length (now nums) ⌝ }
+    requires { ⌜ k * placeNumsWide ≤ length (now nums) ⌝ }
     ensures { λ r. ⌜ ((e : List Float) → r ≡ syncs (placesOf k (now (nums .entry)) e)) ⌝ }
 {
     if k == 0 {
         return 0;
     }
     let kind = nums[0];
-    let others = syncs(&nums[4..], k - 1);
+    let others = syncs(&nums[PLACE_NUMS..], k - 1);
     if kind < 1 {
         return 1 + others;
     }

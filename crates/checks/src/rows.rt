@@ -3,11 +3,15 @@ ghost use mathlib.Core.Path.{_≡_};
 ghost use Prim.Native.Nat.{_+_, _*_, _≤_};
 ghost use lib.Dec.{ltb};
 ghost use lib.ListN.{length, take};
+ghost use Rattle.layout.specs.Widths.{homeWide, membersWide};
+ghost use Rattle.model.specs.Sizes.{homeRoom, memberRoom};
 ghost use Rattle.model.specs.State.{has, liveAt};
 ghost use Rattle.model.specs.Check.{all, once, numbers};
-ghost use Rattle.checks.specs.Decode.{rowAt, rowsOf};
+ghost use Rattle.tables.specs.Decode.{rowAt, rowsOf};
 ghost use Rattle.checks.specs.Check.{counted};
 ghost use Rattle.checks.specs.Walk.{First, Rowed, walk, backRow, housed, linked};
+use layout::HOME_ROOM;
+use layout::MEMBER_ROOM;
 
 // Is each of the first k numbers below n?
 fn below(nums: &[u64], k: usize, n: u64) -> bool
@@ -158,20 +162,20 @@ fn back(rows: &[u64], u: usize, m: usize, others: &[u64], v: usize, n: usize, x:
 
 // Do g grains and n cells list each other, once each, and is each grain in some cell?
 pub fn linked(homes: &[u64], members: &[u64], g: usize, n: usize) -> bool
-    requires { ⌜ Rowed 8 9 g (now homes) × Rowed 32 33 n (now members) × (g ≤ 256) × (n ≤ 256) ⌝ }
-    ensures { λ r. ⌜ r ≡ linked g n (rowsOf 8 g (now (homes .entry))) (rowsOf 32 n (now (members .entry))) ⌝ }
+    requires { ⌜ Rowed homeRoom homeWide g (now homes) × Rowed memberRoom membersWide n (now members) × (g ≤ 256) × (n ≤ 256) ⌝ }
+    ensures { λ r. ⌜ r ≡ linked g n (rowsOf homeRoom g (now (homes .entry))) (rowsOf memberRoom n (now (members .entry))) ⌝ }
 {
-    if !side(homes, 8, g, n as u64) {
+    if !side(homes, HOME_ROOM, g, n as u64) {
         return false;
     }
-    if !side(members, 32, n, g as u64) {
+    if !side(members, MEMBER_ROOM, n, g as u64) {
         return false;
     }
-    if !back(homes, 8, g, members, 32, n, 0) {
+    if !back(homes, HOME_ROOM, g, members, MEMBER_ROOM, n, 0) {
         return false;
     }
-    if !back(members, 32, n, homes, 8, g, 0) {
+    if !back(members, MEMBER_ROOM, n, homes, HOME_ROOM, g, 0) {
         return false;
     }
-    housed(homes, 8, g)
+    housed(homes, HOME_ROOM, g)
 }

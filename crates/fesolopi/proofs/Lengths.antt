@@ -9,8 +9,8 @@ use Rattle.model.specs.Grid.{cells}
 use Rattle.model.proofs.Grid.{cells-max}
 use Rattle.cell.specs.declared.Grid.{Grid}
 use Rattle.cell.specs.Cell.{gridOf, Laid}
-use Rattle.checks.specs.declared.Lengths.{Lengths}
-use Rattle.checks.specs.Check.{lengthsFor}
+use Rattle.tables.specs.declared.lengths.Lengths.{Lengths}
+use Rattle.tables.specs.Lengths.{lengthsFor}
 use Rattle.simulator.proofs.StartLaws.{Counts, counts-mean, cells-counted}
 use Rattle.fesolopi.specs.Needed.{Needed, needed, neededBy, none, refusedBy, neededFor}
 

@@ -11,7 +11,7 @@ use Rattle.model.specs.declared.Report.the-variants.{Synchronised, Spent, Refus
 use Rattle.model.specs.Check.{Fits}
 use Rattle.model.specs.Run.{How, synchronised, spent, refused}
 use Rattle.model.specs.Reports.{startNumber, grainNamed}
-use Rattle.checks.specs.Decode.{Tables}
+use Rattle.tables.specs.Decode.{Tables}
 use Rattle.running.specs.Going.{clockOf}
 use Rattle.simulator.specs.Start.{StartedWith, with, startAll, StartPromise}
 use Rattle.simulator.specs.Run.{runTables, Owned, RunPromise}

@@ -16,7 +16,7 @@ use Rattle.model.specs.State.{has}
 use Rattle.model.specs.Run.{How, synchronised, spent, refused}
 use Rattle.halting.proofs.Bools.{clash}
 use Rattle.model.proofs.Exactly.{Exactly}
-use Rattle.checks.specs.Decode.{Tables}
+use Rattle.tables.specs.Decode.{Tables}
 use Rattle.simulator.specs.Start.{startAll}
 use Rattle.simulator.specs.Run.{runTables}
 use Rattle.simulator.proofs.Numbers.{OneOf, Given, run-number}

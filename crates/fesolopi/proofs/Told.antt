@@ -6,7 +6,7 @@ use Rattle.model.specs.declared.Started.{Started}
 use Rattle.model.specs.declared.Report.{Report}
 use Rattle.model.specs.declared.Report.the-variants as report
 use Rattle.model.specs.Reports.{startNumber, grainNamed}
-use Rattle.checks.specs.Decode.{Tables}
+use Rattle.tables.specs.Decode.{Tables}
 use Rattle.simulator.specs.Start.{StartedWith, with}
 use Rattle.running.specs.Ran.{RanTables, toldTables}
 use Rattle.running.specs.Going.{clockOf}

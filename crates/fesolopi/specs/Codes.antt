@@ -8,7 +8,7 @@ use Rattle.model.specs.declared.Report.{Report}
 use Rattle.model.specs.declared.Report.the-variants as report
 use Rattle.model.specs.Grid.{boxOf}
 use Rattle.model.specs.Run.{How, synchronised, spent, refused}
-use Rattle.checks.specs.Decode.{Tables}
+use Rattle.tables.specs.Decode.{Tables}
 use Rattle.simulator.specs.Start.{StartedWith}
 use Rattle.running.specs.Ran.{RanTables}
 

@@ -4,7 +4,8 @@ use mathlib.Core.Bool.{cond}
 use Rattle.model.specs.declared.Domain.{Domain}
 use Rattle.model.specs.Sizes.{boxOk, countsOk}
 use Rattle.tables.specs.declared.Sizes.{Sizes}
-use Rattle.checks.specs.Check.{listsNeed, grainsNeed, queueNeed, eventsNeed, orderNeed}
+use Rattle.layout.specs.Widths.{inputWide}
+use Rattle.tables.specs.Lengths.{listsNeed, grainsNeed, queueNeed, eventsNeed, orderNeed}
 use Rattle.starting.specs.Cleared.{sizesFor}
 
 -- a number, and the lengths beside it
@@ -21,7 +22,7 @@ abbrev pub needed : ℕ → ℕ → ℕ → ℕ → ℕ → ℕ → ℕ → Need
 needed r i l g q e o = record { number = r; inputs = i; lists = l; grains = g; queue = q; events = e; order = o }
 
 abbrev pub neededBy : ℕ → Sizes → Needed
-neededBy n z = needed 0 (n * 5) (listsNeed z) (grainsNeed z) (queueNeed z) (eventsNeed z) orderNeed
+neededBy n z = needed 0 (n * inputWide) (listsNeed z) (grainsNeed z) (queueNeed z) (eventsNeed z) orderNeed
 
 abbrev pub none : ℕ → Needed
 none r = needed r 0 0 0 0 0 0

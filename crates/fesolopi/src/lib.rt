@@ -5,12 +5,14 @@ ghost use Rattle.model.specs.Check.{Fits};
 ghost use Rattle.model.specs.Reports.{startNumber, grainNamed};
 ghost use Rattle.root.specs.Root.{rootOf};
 ghost use Rattle.root.specs.Rule.{number as rootNumber, value as rootValue, RootSays};
-ghost use Rattle.checks.specs.Decode.{tables};
+ghost use Rattle.tables.specs.Decode.{tables};
 ghost use Rattle.simulator.specs.Start.{startAll};
 ghost use Rattle.simulator.specs.Run.{runTables, Owned};
 ghost use Rattle.fesolopi.specs.Codes.{boxed, begun, begunBy, reportNumber, eventsTold, ended, endedBy};
 ghost use Rattle.fesolopi.specs.Needed.{refusedBy, needed, neededFor};
 use cell::Grid;
+use layout::INPUT;
+use layout::ORDER;
 use model::Domain;
 use model::Report;
 use model::Started;
@@ -194,13 +196,13 @@ pub extern "C" fn fesolopi_needed(
         cells: grid.cells(),
         room: room as usize,
     };
-    let need = checks::needed(z);
-    *inputs = count * 5;
+    let need = tables::lengths::needed(z);
+    *inputs = count * INPUT as u64;
     *lists = need.lists as u64;
     *grains = need.grains as u64;
     *queue = need.queue as u64;
     *events = need.events as u64;
-    *order = 512;
+    *order = ORDER as u64;
     0
 }
 

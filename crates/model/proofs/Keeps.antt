@@ -18,7 +18,8 @@ use Rattle.model.specs.declared.Event.the-variants.{InterParticleCollisi
 use Rattle.order.specs.Numbers.{last}
 use Rattle.order.proofs.Order.{le-trans, le-refl}
 use Rattle.order.proofs.Clock.{finite-no-nan}
-use Rattle.scheduler.specs.Heap.{timeAt, updated, Fit}
+use Rattle.scheduler.specs.Heap.{timeAt, updated}
+use Rattle.scheduler.specs.Inside.{Fit}
 use Rattle.scheduler.specs.Standing.{Real}
 use Rattle.order.proofs.Compare.{lt-irrefl, le-of-not-lt}
 use Rattle.scheduler.proofs.Laws.{time-in}

@@ -18,12 +18,14 @@ use Rattle.model.specs.Reports.{told}
 use Rattle.cell.specs.declared.Grid.{Grid}
 use Rattle.cell.specs.Cell.{gridOf}
 use Rattle.tables.specs.declared.Sizes.{Sizes}
-use Rattle.checks.specs.Decode.{Tables, tables, flag, sizesOf, boxIn, decoded}
-use Rattle.checks.specs.declared.Lengths.{Lengths}
-use Rattle.checks.specs.Check.{Sized, lengthsFor, listsNeed, grainsNeed, queueNeed, eventsNeed, listsBody, grainsBody, queueBody, eventsBody, orderBody}
+use Rattle.tables.specs.Decode.{Tables, tables, flag, sizesOf, boxIn, decoded}
+use Rattle.tables.specs.declared.lengths.Lengths.{Lengths}
+use Rattle.checks.specs.Check.{Sized}
+use Rattle.tables.specs.Lengths.{lengthsFor, listsNeed, grainsNeed, queueNeed, eventsNeed}
+use Rattle.tables.specs.Bodies.{listsBody, grainsBody, queueBody, eventsBody, orderBody}
 use Rattle.checks.specs.Held.{Answered, Accepted}
 use Rattle.step.specs.World.{Placed}
-use Rattle.checks.specs.Encode.{over, flagged, listsHead, grainsHead, sizesIn, encoded}
+use Rattle.tables.specs.Encode.{over, flagged, listsHead, grainsHead, sizesIn, encoded}
 use Rattle.running.specs.Going.{clockOf, markOf, Lent, Gone}
 use Rattle.running.specs.Ran.{beside, toldTables, leaving}
 use Rattle.checks.proofs.Needs.{Ends, ends-of}

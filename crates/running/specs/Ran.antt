@@ -4,8 +4,8 @@ use lib.Ieee.{Float}
 use Rattle.model.specs.declared.Report.{Report}
 use Rattle.model.specs.Run.{How, Ran}
 use Rattle.model.specs.Reports.{told}
-use Rattle.checks.specs.Decode.{Tables, decoded}
-use Rattle.checks.specs.Encode.{encoded}
+use Rattle.tables.specs.Decode.{Tables, decoded}
+use Rattle.tables.specs.Encode.{encoded}
 
 -- how it ended, the clock, the events done, and the tables afterwards
 pub record RanTables : Type 0 where

@@ -4,12 +4,15 @@ ghost use mathlib.Core.Bool.{true};
 ghost use Rattle.model.specs.Sizes.{rated};
 ghost use Rattle.model.specs.State.{State};
 ghost use Rattle.model.specs.Run.{runFrom};
-ghost use Rattle.checks.specs.Decode.{tables, decoded};
+ghost use Rattle.tables.specs.Decode.{tables, decoded};
 ghost use Rattle.checks.specs.Held.{Answered};
 ghost use Rattle.step.specs.World.{Some, Placed};
 ghost use Rattle.running.specs.Going.{clockOf, markOf, Lent, Gone};
 ghost use Rattle.running.specs.Ran.{toldTables, leaving};
 use cell::Grid;
+use layout::GRAINS_HEAD;
+use layout::LISTS_HEAD;
+use layout::ORDER;
 use model::Domain;
 use model::Report;
 use myvec::MyVec;
@@ -121,17 +124,17 @@ pub fn work(
     };
     let grid = Grid::new(domain);
     let clock = grains[2];
-    let need = checks::needed(z);
+    let need = tables::lengths::needed(z);
     let lists_end = need.lists;
     let grains_end = need.grains;
     let queue_end = need.queue;
     let events_end = need.events;
     let report = go(
-        &mut lists[6..lists_end],
-        &mut grains[3..grains_end],
+        &mut lists[LISTS_HEAD..lists_end],
+        &mut grains[GRAINS_HEAD..grains_end],
         &mut queue[..queue_end],
         &mut events[..events_end],
-        &mut order[..512],
+        &mut order[..ORDER],
         z,
         domain,
         grid,

@@ -10,7 +10,8 @@ use lib.Dec.{ltb}
 use lib.Ieee.{Float, ofBits, lt, le}
 use borrow.Author.Tests.{lt-ltb, le-ltb, eq-eqb, ne-eqb}
 use Rattle.scheduler.specs.declared.Scheduler.{Scheduler}
-use Rattle.scheduler.specs.Heap.{timeIn, timeAt, swapAt, childIn, childOf, down, downshifted, parent, parentIn, parentOf, up, upshifted, Fit}
+use Rattle.scheduler.specs.Heap.{timeIn, timeAt, swapAt, childIn, childOf, down, downshifted, parent, parentIn, parentOf, up, upshifted}
+use Rattle.scheduler.specs.Inside.{Fit}
 use Rattle.halting.proofs.Bools.{differ}
 use Rattle.order.specs.Numbers.{last}
 

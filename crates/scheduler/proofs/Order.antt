@@ -7,7 +7,8 @@ use native.Mathlib.Decide.{decLe, ℕ-discrete}
 use lib.ListN.{length, getD}
 use lib.Ieee.{Float, ofBits, lt, le, isNan}
 use Rattle.scheduler.specs.declared.Scheduler.{Scheduler}
-use Rattle.scheduler.specs.Heap.{timeAt, swapAt, childOf, down, downshifted, parent, parentOf, up, upshifted, updated, Fit}
+use Rattle.scheduler.specs.Heap.{timeAt, swapAt, childOf, down, downshifted, parent, parentOf, up, upshifted, updated}
+use Rattle.scheduler.specs.Inside.{Fit}
 use Rattle.order.specs.Numbers.{last}
 use Rattle.scheduler.specs.Standing.{Inverse, Ordered, Real}
 use Rattle.scheduler.proofs.Laws.{time-in, time-out, child-in, child-out, child-elim, down-stays, down-goes, up-stays, up-goes, parent-elim}

@@ -1,18 +1,13 @@
 -- 01, "Heap (scheduler.rs)": the heap of cell numbers with its lookups, and what one shift and one update make of it.
 -- `h` gives each cell's head time, `last` (f64::MAX) where its list is empty. Assumes nothing: these are definitions.
-use mathlib.Core.Path.{_≡_}
-use mathlib.Core.Bool.{false, cond, _&&_}
+use mathlib.Core.Bool.{cond, _&&_}
 use mathlib.Core.List.{List}
-use Prim.Native.Nat.{ℕ, zero, suc, _+_, _-_, _*_, _/_, _≤_}
+use Prim.Native.Nat.{ℕ, zero, suc, _+_, _-_, _*_, _/_}
 use lib.ListN.{getD, set, replicate}
 use lib.Dec.{ltb, eqb}
 use lib.Ieee.{Float, lt, le}
 use Rattle.order.specs.Numbers.{last}
 use Rattle.scheduler.specs.declared.Scheduler.{Scheduler}
-
--- the head time of a cell: `held` has room * 4 + 1 numbers to a cell (its count first), `times` room * 10 floats (the first event's time first)
-unfoldable pub headIn : List Float → List ℕ → ℕ → ℕ → Float
-headIn times held room cell = cond (eqb (getD held (cell * (room * 4 + 1)) 0) 0) last (getD times (cell * (room * 10)) last)
 
 -- the head time at a heap index; an index past the end reads `last`
 unfoldable pub timeIn : (ℕ → Float) → List ℕ → ℕ → ℕ → Float
@@ -79,12 +74,3 @@ numbered (suc i) l = set (numbered i l) i i
 
 unfoldable pub start : ℕ → Scheduler
 start n = record { heap = numbered n (replicate 256 0); lookups = numbered n (replicate 256 0); cells = n }
-
--- the scheduler with this heap, these lookups and so many cells
-abbrev pub made : List ℕ → List ℕ → ℕ → Scheduler
-made heap lookups n = record { heap = heap; lookups = lookups; cells = n }
-
--- what a shift asks: the heap's room holds the cells, and no head time is above `last`
-pub record Fit (h : ℕ → Float) (s : Scheduler) : Type 0 where
-  pub room : s .cells ≤ 256
-  pub top : (k : ℕ) → lt last (h k) ≡ false

@@ -1,3 +1,4 @@
--- The heap (Heap) and its standing facts (Standing).
+-- The heap (Heap), its standing facts (Standing), and what the functions say to each other (Inside).
 pub mod Heap
 pub mod Standing
+pub mod Inside

@@ -2,7 +2,8 @@
 ghost use mathlib.Core.Path.{_≡_};
 ghost use Prim.Native.Nat.{ℕ, _≤_, _<_};
 ghost use lib.ListN.{length};
-ghost use Rattle.scheduler.specs.Heap.{headIn, timeIn, swapAt, chosen, childIn, downshifted, parentIn, upshifted, updated, start, made, Fit};
+ghost use Rattle.scheduler.specs.Heap.{timeIn, swapAt, chosen, childIn, downshifted, parentIn, upshifted, updated, start};
+ghost use Rattle.scheduler.specs.Inside.{headIn, made, Fit};
 
 const LAST: f64 = 1.7976931348623157e308;
 
@@ -13,21 +14,18 @@ pub struct Scheduler {
 }
 
 // The head time of a cell: its first place's, f64::MAX where it holds no event.
-// `held` has room * 4 + 1 numbers to a cell (its count first), `times` room * 10 floats.
 pub fn head_time(times: &[f64], held: &[u64], room: usize, cell: usize) -> f64
     requires { ⌜ (room ≤ 256) × (cell < 256) ⌝ }
     ensures { λ r. ⌜ r ≡ headIn (now (times .entry)) (now (held .entry)) room cell ⌝ }
 {
-    let w = room * 4 + 1;
-    let v = room * 10;
-    let at = cell * w;
+    let at = layout::queue_from(room, cell);
     if held.len() <= at {
         return LAST;
     }
     if held[at] == 0 {
         return LAST;
     }
-    let p = cell * v;
+    let p = layout::events_from(room, cell);
     if p < times.len() { times[p] } else { LAST }
 }
 

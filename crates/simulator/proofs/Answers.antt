@@ -15,7 +15,7 @@ use Rattle.model.specs.State.{State}
 use Rattle.model.specs.Start.{Begun, refused, started, start}
 use Rattle.model.proofs.Never.{no-8-or-9-at-start}
 use Rattle.tables.specs.declared.Sizes.{Sizes}
-use Rattle.checks.specs.Decode.{Tables}
+use Rattle.tables.specs.Decode.{Tables}
 use Rattle.checks.proofs.Needs.{allowed}
 use Rattle.starting.specs.Inputs.{inputsOf}
 use Rattle.starting.specs.Cleared.{sizesFor}

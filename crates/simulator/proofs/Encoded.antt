@@ -21,8 +21,9 @@ use Rattle.tables.specs.declared.Sizes.{Sizes}
 use Rattle.tables.specs.Layout.{grainReals, rowNums, queueNums, queueReals, orderBytes}
 use Rattle.tables.specs.Holds.{Holds}
 use Rattle.acts.proofs.FromSound.{sound-held}
-use Rattle.checks.specs.Decode.{Tables, flag, sizesOf, decoded}
-use Rattle.checks.specs.Check.{Sized, sized, listsNeed, grainsNeed, queueNeed, eventsNeed, legible, standing}
+use Rattle.tables.specs.Decode.{Tables, flag, sizesOf, decoded}
+use Rattle.checks.specs.Check.{Sized, sized, legible, standing}
+use Rattle.tables.specs.Lengths.{listsNeed, grainsNeed, queueNeed, eventsNeed}
 use Rattle.checks.specs.Held.{Hold}
 use Rattle.checks.proofs.Holding.{side-rows}
 use Rattle.checks.proofs.Stages.{means-sized}
@@ -30,7 +31,7 @@ use Rattle.tables.proofs.ListLaws.{lists-long as listed-long}
 use Rattle.tables.proofs.Runs.{rows-nums-wide, rows-reals-wide}
 use Rattle.checks.proofs.Back.{read-back}
 use Rattle.checks.proofs.Again.{legible-held}
-use Rattle.checks.specs.Encode.{over, flagged, listsHead, grainsHead, sizesIn, encoded}
+use Rattle.tables.specs.Encode.{over, flagged, listsHead, grainsHead, sizesIn, encoded}
 use Rattle.checks.proofs.Over.{over-again}
 
 -- ---- what a state of these sizes needs of the tables

@@ -23,7 +23,7 @@ use Rattle.halting.proofs.Bools.{and-l, and-r, differ}
 use Rattle.model.proofs.Halts.{run-halts, start-halts}
 use Rattle.model.proofs.Exactly.{Exactly}
 use Rattle.model.proofs.Allowed.{LowestBad, lowest-named}
-use Rattle.checks.specs.Decode.{Tables, mark, decoded}
+use Rattle.tables.specs.Decode.{Tables, mark, decoded}
 use Rattle.checks.specs.Check.{sized, standing, checked}
 use Rattle.checks.proofs.Cut.{cut-long}
 use Rattle.starting.specs.Inputs.{inputAt, inputsOf}

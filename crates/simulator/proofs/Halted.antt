@@ -16,9 +16,9 @@ use Rattle.halting.proofs.Bools.{and-l, and-r}
 use Rattle.model.proofs.Reflect.{says-stands}
 use Rattle.model.specs.Rows.{actsOf}
 use Rattle.model.proofs.Halts.{HaltIn, run-halts-in-order, in-range}
-use Rattle.checks.specs.Decode.{Tables, mark, decoded}
+use Rattle.tables.specs.Decode.{Tables, mark, decoded}
 use Rattle.checks.specs.Check.{legible, standing, checked}
-use Rattle.checks.specs.Encode.{encoded}
+use Rattle.tables.specs.Encode.{encoded}
 use Rattle.checks.proofs.Accepts.{fitted, Passed, checked-means}
 use Rattle.running.specs.Ran.{RanTables, leaving}
 use Rattle.simulator.specs.Run.{byCheck, runTables, RunPromise}

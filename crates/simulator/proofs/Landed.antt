@@ -37,11 +37,12 @@ use Rattle.model.proofs.Histories.{Said, reached-said, step-reached}
 use Rattle.model.proofs.Performs.{begin-acted}
 use Rattle.model.proofs.Halts.{HaltIn, start-halts-in-order, accepted, reached-marked}
 use Rattle.tables.specs.declared.Sizes.{Sizes}
-use Rattle.checks.specs.Decode.{Tables, mark, decoded}
-use Rattle.checks.specs.Check.{listsNeed, grainsNeed, queueNeed, eventsNeed, long, sized, standing, checked}
+use Rattle.tables.specs.Decode.{Tables, mark, decoded}
+use Rattle.checks.specs.Check.{sized, standing, checked}
+use Rattle.tables.specs.Lengths.{listsNeed, grainsNeed, queueNeed, eventsNeed, long}
 use Rattle.checks.proofs.Cut.{cut-long}
 use Rattle.starting.specs.Inputs.{inputAt, inputsOf}
-use Rattle.checks.specs.Encode.{sizesIn, encoded}
+use Rattle.tables.specs.Encode.{sizesIn, encoded}
 use Rattle.starting.specs.Cleared.{sizesFor, cleared}
 use Rattle.simulator.specs.Start.{fits, StartedWith, with, byNumber, leaving, startAll, StartPromise}
 use Rattle.running.specs.Ran.{RanTables, beside}

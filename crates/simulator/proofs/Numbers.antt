@@ -22,7 +22,7 @@ use Rattle.model.proofs.Reflect.{Says, says-standing}
 use Rattle.model.proofs.Halts.{run-halts, refused-is}
 use Rattle.halting.proofs.Bools.{differ}
 use Rattle.model.proofs.Exactly.{Exactly}
-use Rattle.checks.specs.Decode.{Tables, mark, decoded}
+use Rattle.tables.specs.Decode.{Tables, mark, decoded}
 use Rattle.checks.specs.Check.{sized, legible, standing, checked}
 use Rattle.checks.proofs.Accepts.{fitted}
 use Rattle.starting.specs.Inputs.{inputsOf}

@@ -19,10 +19,10 @@ use Rattle.model.proofs.Reflect.{says-stands}
 use Rattle.model.proofs.Whole.{sound-sized}
 use Rattle.model.proofs.Reached.{run-well}
 use Rattle.tables.specs.declared.Sizes.{Sizes}
-use Rattle.checks.specs.Decode.{Tables, mark, grainAt, decoded, sizesOf, grainsPart}
+use Rattle.tables.specs.Decode.{Tables, mark, grainAt, decoded, sizesOf, grainsPart}
 use Rattle.checks.specs.Check.{sized, checked, legible, standing}
 use Rattle.checks.proofs.Cut.{cut-long}
-use Rattle.checks.specs.Encode.{sizesIn, encoded}
+use Rattle.tables.specs.Encode.{sizesIn, encoded}
 use Rattle.running.specs.Ran.{RanTables, beside, toldTables, leaving as over-found}
 use Rattle.simulator.specs.Run.{byCheck, runTables, RunPromise}
 use Rattle.simulator.proofs.Kept.{Kept, run-kept}

@@ -19,11 +19,11 @@ use Rattle.halting.proofs.Bools.{and-l, and-r}
 use Rattle.cell.specs.declared.Grid.{Grid}
 use Rattle.cell.specs.Cell.{gridOf}
 use Rattle.tables.specs.declared.Sizes.{Sizes}
-use Rattle.checks.specs.Decode.{Tables}
-use Rattle.checks.specs.Check.{long, listsNeed, grainsNeed, queueNeed, eventsNeed}
+use Rattle.tables.specs.Decode.{Tables}
+use Rattle.tables.specs.Lengths.{long, listsNeed, grainsNeed, queueNeed, eventsNeed}
 use Rattle.checks.proofs.Cut.{cut-long}
 use Rattle.starting.specs.Inputs.{inputAt, inputsOf}
-use Rattle.checks.specs.Encode.{encoded}
+use Rattle.tables.specs.Encode.{encoded}
 use Rattle.starting.specs.Cleared.{sizesFor, cleared}
 use Rattle.simulator.specs.Start.{fits, with, byMark, leaving, startAll}
 use Rattle.starting.specs.Begin.{Startable, Began}

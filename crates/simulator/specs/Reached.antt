@@ -7,7 +7,7 @@ use Rattle.model.specs.declared.Domain.{Domain}
 use Rattle.model.specs.declared.Started.{Started}
 use Rattle.model.specs.declared.Started.the-variants.{Accepted, Halted, Refused, BadGrain}
 use Rattle.model.specs.Reached.{Call}
-use Rattle.checks.specs.Decode.{Tables}
+use Rattle.tables.specs.Decode.{Tables}
 use Rattle.simulator.specs.Start.{StartPromise}
 use Rattle.simulator.specs.Run.{runTables}
 

@@ -7,7 +7,7 @@ use Rattle.model.specs.declared.Report.{Report}
 use Rattle.model.specs.Run.{runFrom}
 use Rattle.model.specs.Check.{refusal}
 use Rattle.model.specs.Reached.{most}
-use Rattle.checks.specs.Decode.{Tables, decoded}
+use Rattle.tables.specs.Decode.{Tables, decoded}
 use Rattle.checks.specs.Check.{checked}
 use Rattle.checks.specs.Held.{Floats}
 use Rattle.running.specs.Ran.{RanTables, beside, toldTables, leaving}

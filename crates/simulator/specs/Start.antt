@@ -15,11 +15,11 @@ use Rattle.model.specs.Check.{Fits}
 use Rattle.model.specs.Start.{Begun, refused, started, start}
 use Rattle.model.specs.Reports.{startNumber, grainNamed}
 use Rattle.tables.specs.declared.Sizes.{Sizes}
-use Rattle.checks.specs.Decode.{Tables}
-use Rattle.checks.specs.Check.{long}
+use Rattle.tables.specs.Decode.{Tables}
+use Rattle.tables.specs.Lengths.{long}
 use Rattle.starting.specs.Inputs.{inputsOf}
 use Rattle.starting.specs.Cleared.{sizesFor, cleared}
-use Rattle.checks.specs.Encode.{encoded}
+use Rattle.tables.specs.Encode.{encoded}
 
 -- 2: a count is out of range, or a lent table is shorter than the counts need
 unfoldable pub fits : Sizes → ℕ → ℕ → ℕ → ℕ → ℕ → ℕ → Bool

@@ -1,5 +1,5 @@
 // A run: its checks, and behind them what crate running does.
-ghost use Rattle.checks.specs.Decode.{tables};
+ghost use Rattle.tables.specs.Decode.{tables};
 ghost use Rattle.simulator.specs.Run.{RunPromise};
 use model::Report;
 

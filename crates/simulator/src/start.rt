@@ -1,9 +1,10 @@
 // A start over the five lent tables: checks 1, 2 and 4, and then, accepted, what crate starting does.
 ghost use mathlib.Core.Path.{_≡_};
 ghost use Prim.Native.Nat.{_≤_};
-ghost use Rattle.checks.specs.Decode.{tables};
+ghost use Rattle.tables.specs.Decode.{tables};
 ghost use Rattle.simulator.specs.Start.{fits as fitsIn, StartPromise};
 use cell::Grid;
+use layout::INPUT;
 use model::Domain;
 use model::Started;
 use tables::Sizes;
@@ -24,10 +25,10 @@ fn fits(
     if !checks::counts_ok(z.grains as u64, z.room as u64) {
         return false;
     }
-    if inputs < z.grains * 5 {
+    if inputs < z.grains * INPUT {
         return false;
     }
-    checks::long(z, lists, grains, queue, events, order)
+    tables::lengths::long(z, lists, grains, queue, events, order)
 }
 
 // Refused by 1, 2 or 4, and nothing is changed; or accepted, halted or not.

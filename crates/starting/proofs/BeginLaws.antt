@@ -19,9 +19,9 @@ use Rattle.cell.specs.declared.Grid.{Grid}
 use Rattle.tables.specs.declared.Sizes.{Sizes}
 use Rattle.tables.specs.Layout.{orderBytes, rowNums, grainReals, queueNums, queueReals}
 use Rattle.tables.specs.Holds.{Queued, Holds}
-use Rattle.checks.specs.Decode.{Tables, tables}
-use Rattle.checks.specs.declared.Lengths.{Lengths}
-use Rattle.checks.specs.Check.{lengthsFor}
+use Rattle.tables.specs.Decode.{Tables, tables}
+use Rattle.tables.specs.declared.lengths.Lengths.{Lengths}
+use Rattle.tables.specs.Lengths.{lengthsFor}
 use Rattle.checks.proofs.Cut.{cut-long}
 use Rattle.checks.proofs.Needs.{Ends, ends-of}
 use Rattle.acts.proofs.InTurn.{told-stop, told-on}
@@ -29,7 +29,7 @@ use Rattle.step.specs.declared.World.{World}
 use Rattle.step.specs.World.{Held, Says, Does, worldAt}
 use Rattle.starting.specs.Inputs.{inputAt, inputsOf}
 use Rattle.starting.specs.Grains.{InBoth, BothTold, Going}
-use Rattle.checks.specs.Encode.{listsHead, grainsHead, over, sizesIn, encoded}
+use Rattle.tables.specs.Encode.{listsHead, grainsHead, over, sizesIn, encoded}
 use Rattle.starting.specs.Begin.{Startable, Filling, Began}
 use Rattle.checks.proofs.Over.{over-part, over-put, over-again, over-front, same-part}
 use Rattle.starting.proofs.Zeros.{start-long, cleared-held}

@@ -5,7 +5,7 @@ use Rattle.order.specs.Numbers.{fzero}
 use Rattle.model.specs.declared.Domain.{Domain}
 use Rattle.model.specs.Grid.{cells}
 use Rattle.tables.specs.declared.Sizes.{Sizes}
-use Rattle.checks.specs.Decode.{Tables, tables}
+use Rattle.tables.specs.Decode.{Tables, tables}
 
 abbrev pub sizesFor : Domain → ℕ → ℕ → Sizes
 sizesFor b n room = record { grains = n; cells = cells b; room = room }

@@ -5,6 +5,7 @@ use mathlib.Core.List.{List}
 use lib.ListN.{length}
 use lib.Ieee.{Float}
 use Rattle.halting.specs.Out.{Out}
+use Rattle.layout.specs.Widths.{inputWide}
 use Rattle.model.specs.declared.Domain.{Domain}
 use Rattle.model.specs.Grid.{cells}
 use Rattle.model.specs.State.{State}
@@ -28,4 +29,4 @@ pub record Going (z : Sizes) (b : Domain) (g : Grid) (inputs : List Float) (l : 
   pub ranged : Ranged z
   pub laid : Laid b g
   pub cells-are : z .cells ≡ cells b
-  pub inputs-long : z .grains * 5 ≤ length inputs
+  pub inputs-long : z .grains * inputWide ≤ length inputs

@@ -4,14 +4,15 @@ use mathlib.Core.List.{List}
 use lib.ListN.{getD}
 use lib.Ieee.{Float, nan}
 use Rattle.order.specs.Numbers.{fzero}
+use Rattle.layout.specs.Widths.{inputWide}
 use Rattle.myvec.specs.Vec.{vec}
 use Rattle.model.specs.declared.Particle.{Particle}
 use Rattle.model.specs.Stepping.{grainOf}
-use Rattle.checks.specs.Decode.{cut}
+use Rattle.tables.specs.Decode.{cut}
 
 abbrev pub inputAt : List Float → Particle
 inputAt f = grainOf (vec (getD f 0 nan) (getD f 1 nan)) (vec (getD f 2 nan) (getD f 3 nan)) fzero (getD f 4 nan)
 
 -- the first n grains
 abbrev pub inputsOf : ℕ → List Float → List Particle
-inputsOf n f = cut inputAt 5 n f
+inputsOf n f = cut inputAt inputWide n f

@@ -3,9 +3,11 @@ ghost use mathlib.Core.Path.{_≡_};
 ghost use Prim.Native.Nat.{_≤_};
 ghost use lib.ListN.{length, replicate};
 ghost use Rattle.order.specs.Numbers.{fzero};
+ghost use Rattle.layout.specs.Widths.{listsHeadWide, grainsHeadWide, orderWide};
 ghost use Rattle.scheduler.specs.Heap.{start as startHeap};
 ghost use Rattle.tables.specs.Layout.{orderBytes};
-ghost use Rattle.checks.specs.Encode.{flagged, listsHead, grainsHead, over};
+ghost use Rattle.tables.specs.Encode.{flagged, listsHead, grainsHead, over};
+use layout::ORDER;
 use model::Domain;
 use scheduler::Scheduler;
 use tables::Sizes;
@@ -52,7 +54,7 @@ fn flag(set: bool) -> u64
 
 // All places 0, but the counts and the box's flags.
 pub(crate) fn clear_lists(lists: &mut [u64], z: Sizes, domain: Domain)
-    requires { ⌜ 6 ≤ length (now lists) ⌝ }
+    requires { ⌜ listsHeadWide ≤ length (now lists) ⌝ }
     ensures { λ _. ⌜ now (lists .exit) ≡ over (listsHead 0 z domain) (replicate (length (now (lists .entry))) 0) ⌝ }
 {
     clear_numbers(lists);
@@ -66,7 +68,7 @@ pub(crate) fn clear_lists(lists: &mut [u64], z: Sizes, domain: Domain)
 
 // All places 0, but the box's lengths.
 pub(crate) fn clear_grains(grains: &mut [f64], domain: Domain)
-    requires { ⌜ 3 ≤ length (now grains) ⌝ }
+    requires { ⌜ grainsHeadWide ≤ length (now grains) ⌝ }
     ensures { λ _. ⌜ now (grains .exit) ≡ over (grainsHead domain fzero) (replicate (length (now (grains .entry))) fzero) ⌝ }
 {
     clear_floats(grains);
@@ -77,9 +79,9 @@ pub(crate) fn clear_grains(grains: &mut [f64], domain: Domain)
 
 // All places 0, but the cells numbered in the heap and in the lookups.
 pub(crate) fn clear_order(order: &mut [u8], cells: usize)
-    requires { ⌜ (512 ≤ length (now order)) × (cells ≤ 256) ⌝ }
+    requires { ⌜ (orderWide ≤ length (now order)) × (cells ≤ 256) ⌝ }
     ensures { λ _. ⌜ now (order .exit) ≡ over (orderBytes (startHeap cells)) (replicate (length (now (order .entry))) 0) ⌝ }
 {
     clear_bytes(order);
-    acts::heap::store(&mut order[0..512], Scheduler::new(cells));
+    acts::heap::store(&mut order[0..ORDER], Scheduler::new(cells));
 }

@@ -1,17 +1,19 @@
-// The start numbers of the grains, five floats each: position, velocity, value.
+// The start numbers of the grains: position, velocity, value of each.
 ghost use mathlib.Core.Path.{_≡_};
 ghost use Prim.Native.Nat.{_*_, _<_, _≤_};
 ghost use lib.ListN.{length, getD};
+ghost use Rattle.layout.specs.Widths.{inputWide};
 ghost use Rattle.model.specs.Sizes.{firstBad};
 ghost use Rattle.model.specs.State.{zeroG};
 ghost use Rattle.starting.specs.Inputs.{inputAt, inputsOf};
+use layout::INPUT;
 use model::Domain;
 use model::Particle;
 use myvec::MyVec;
 
 // The first grain, at time 0.
 fn first_input(inputs: &[f64]) -> Particle
-    requires { ⌜ 5 ≤ length (now inputs) ⌝ }
+    requires { ⌜ inputWide ≤ length (now inputs) ⌝ }
     ensures { λ r. ⌜ r ≡ inputAt (now (inputs .entry)) ⌝ }
 {
     Particle {
@@ -30,16 +32,16 @@ fn first_input(inputs: &[f64]) -> Particle
 
 // Grain i of n.
 pub(crate) fn get_input(inputs: &[f64], n: usize, i: usize) -> Particle
-    requires { ⌜ (n * 5 ≤ length (now inputs)) × (i < n) × (n ≤ 256) ⌝ }
+    requires { ⌜ (n * inputWide ≤ length (now inputs)) × (i < n) × (n ≤ 256) ⌝ }
     ensures { λ r. ⌜ r ≡ getD (inputsOf n (now (inputs .entry))) i zeroG ⌝ }
 {
-    let a = i * 5;
+    let a = i * INPUT;
     first_input(&inputs[a..])
 }
 
 // The lowest of n grains whose numbers are out of range, and n if none is.
 pub fn first_bad(domain: Domain, inputs: &[f64], n: usize) -> usize
-    requires { ⌜ n * 5 ≤ length (now inputs) ⌝ }
+    requires { ⌜ n * inputWide ≤ length (now inputs) ⌝ }
     ensures { λ r. ⌜ r ≡ firstBad domain (inputsOf n (now (inputs .entry))) ⌝ }
 {
     if n == 0 {
@@ -48,5 +50,5 @@ pub fn first_bad(domain: Domain, inputs: &[f64], n: usize) -> usize
     if !particle::grain_ok(domain, first_input(inputs)) {
         return 0;
     }
-    1 + first_bad(domain, &inputs[5..], n - 1)
+    1 + first_bad(domain, &inputs[INPUT..], n - 1)
 }

@@ -2,10 +2,13 @@
 ghost use lib.ListN.{length};
 ghost use Rattle.model.specs.Start.{begin as beginIn};
 ghost use Rattle.step.specs.World.{Held, Says};
-ghost use Rattle.checks.specs.Decode.{tables};
+ghost use Rattle.tables.specs.Decode.{tables};
 ghost use Rattle.starting.specs.Inputs.{inputsOf};
 ghost use Rattle.starting.specs.Begin.{Filling, Startable, Began};
 use cell::Grid;
+use layout::GRAINS_HEAD;
+use layout::LISTS_HEAD;
+use layout::ORDER;
 use model::Domain;
 use step::World;
 use step::init;
@@ -60,7 +63,7 @@ pub fn begin(
     clear::clear_numbers(queue);
     clear::clear_floats(events);
     clear::clear_order(order, z.cells);
-    let need = checks::needed(z);
+    let need = tables::lengths::needed(z);
     let lists_end = need.lists;
     let grains_end = need.grains;
     let queue_end = need.queue;
@@ -72,11 +75,11 @@ pub fn begin(
     };
     let number = fill(
         inputs,
-        &mut lists[6..lists_end],
-        &mut grains[3..grains_end],
+        &mut lists[LISTS_HEAD..lists_end],
+        &mut grains[GRAINS_HEAD..grains_end],
         &mut queue[0..queue_end],
         &mut events[0..events_end],
-        &mut order[0..512],
+        &mut order[0..ORDER],
         z,
         w,
     );

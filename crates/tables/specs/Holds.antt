@@ -9,6 +9,7 @@ use Rattle.halting.specs.Every.{All}
 use Rattle.chunks.specs.Flat.{flat}
 use Rattle.halting.specs.Out.{Out}
 use Rattle.order.specs.Numbers.{last}
+use Rattle.layout.specs.Widths.{heapWide}
 use Rattle.scheduler.specs.declared.Scheduler.{Scheduler}
 use Rattle.model.specs.declared.Particle.{Particle}
 use Rattle.model.specs.declared.Place.{Place}
@@ -45,11 +46,6 @@ pub record Run (nums : List ℕ) (reals : List Float) (ps : List Place) : Type 0
   pub nums-is : nums ≡ flat placeNums ps
   pub reals-is : reals ≡ flat placeReals ps
 
--- one cell's two parts hold its row
-pub record InRow (nums : List ℕ) (reals : List Float) (r : Row Place) : Type 0 where
-  pub nums-is : nums ≡ queueNums r
-  pub reals-is : reals ≡ queueReals r
-
 -- a row of `room` places, with no event later than f64::MAX
 pub record Good (room : ℕ) (r : Row Place) : Type 0 where
   pub full : length (places r) ≡ room
@@ -64,8 +60,8 @@ pub record Tabled (z : Sizes) (queue : List ℕ) (events : List Float) (qs : Lis
 -- ---- the heap and its lookups
 pub record Heaped (z : Sizes) (t : List ℕ) (h : Scheduler) : Type 0 where
   pub is : t ≡ orderBytes h
-  pub heap-long : length (h .heap) ≡ 256
-  pub lookups-long : length (h .lookups) ≡ 256
+  pub heap-long : length (h .heap) ≡ heapWide
+  pub lookups-long : length (h .lookups) ≡ heapWide
   pub cells-is : h .cells ≡ z .cells
 
 -- ---- the queues with the heap, and all of it

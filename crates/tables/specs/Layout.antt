@@ -1,9 +1,10 @@
 -- What each place of the lent tables is. Behind their headers:
---   lists   for each grain a count and 8 cells, then for each cell a count and 32 grains
---   grains  for each grain 6 floats: position, velocity, time, value
---   queue   for each cell a count, then 4 numbers a place: kind, two grains, a cell
---   events  for each cell 10 floats a place: time, four pairs, a value
---   order   the heap's 256 bytes, then the lookups' 256
+--   lists   for each grain a count and its cells, then for each cell a count and its grains
+--   grains  for each grain position, velocity, time, value
+--   queue   for each cell a count, then for each place kind, two grains, a cell
+--   events  for each cell's places time, four pairs, a value
+--   order   the heap's bytes, then the lookups'
+-- How wide each is, is layout's to say (Widths).
 -- Assumes nothing: these are definitions.
 use Prim.Native.Nat.{ℕ, _+_}
 use mathlib.Core.List.{List, [], _∷_, _++_}

@@ -3,17 +3,19 @@ ghost use mathlib.Core.Path.{_≡_};
 ghost use Prim.Native.Nat.{_+_, _*_, _<_, _≤_};
 ghost use mathlib.Core.List.{List};
 ghost use lib.ListN.{length, set, getD};
+ghost use Rattle.layout.specs.Widths.{grainWide};
 ghost use Rattle.model.specs.declared.Particle.{Particle as Grain};
 ghost use Rattle.model.specs.State.{zeroG};
 ghost use Rattle.tables.specs.declared.Sizes.{Sizes as Counts};
 ghost use Rattle.tables.specs.Layout.{grainReals};
 ghost use Rattle.tables.specs.Holds.{Grained};
+use layout::GRAIN;
 use model::Particle;
 use myvec::MyVec;
 
-// One grain, in a part of six floats.
+// One grain, in a part of its own.
 pub fn read_grain(s: &[f64]) -> Particle
-    requires { ⌜ length (now s) ≡ 6 ⌝ }
+    requires { ⌜ length (now s) ≡ grainWide ⌝ }
     ensures { λ r. ⌜ ((p : Grain) → now (s .entry) ≡ grainReals p → r ≡ p) ⌝ }
 {
     Particle {
@@ -25,7 +27,7 @@ pub fn read_grain(s: &[f64]) -> Particle
 }
 
 pub fn write_grain(s: &mut [f64], p: Particle)
-    requires { ⌜ length (now s) ≡ 6 ⌝ }
+    requires { ⌜ length (now s) ≡ grainWide ⌝ }
     ensures { λ _. ⌜ now (s .exit) ≡ grainReals p ⌝ }
 {
     s[0] = p.pos.x;
@@ -38,19 +40,19 @@ pub fn write_grain(s: &mut [f64], p: Particle)
 
 // Grain i of the table.
 pub fn get_grain(t: &[f64], i: usize) -> Particle
-    requires { ⌜ (i < 256) × (i * 6 + 6 ≤ length (now t)) ⌝ }
+    requires { ⌜ (i < 256) × (i * grainWide + grainWide ≤ length (now t)) ⌝ }
     ensures { λ r. ⌜ ((z : Counts) (gs : List Grain) → Grained z (now (t .entry)) gs → r ≡ getD gs i zeroG) ⌝ }
 {
-    let a = i * 6;
-    let b = a + 6;
+    let a = i * GRAIN;
+    let b = a + GRAIN;
     read_grain(&t[a..b])
 }
 
 pub fn put_grain(t: &mut [f64], i: usize, p: Particle)
-    requires { ⌜ (i < 256) × (i * 6 + 6 ≤ length (now t)) ⌝ }
+    requires { ⌜ (i < 256) × (i * grainWide + grainWide ≤ length (now t)) ⌝ }
     ensures { λ _. ⌜ ((z : Counts) (gs : List Grain) → Grained z (now (t .entry)) gs → Grained z (now (t .exit)) (set gs i p)) ⌝ }
 {
-    let a = i * 6;
-    let b = a + 6;
+    let a = i * GRAIN;
+    let b = a + GRAIN;
     write_grain(&mut t[a..b], p);
 }

@@ -1,5 +1,6 @@
-// The lent tables: how many grains, cells and event places they hold, and the leaves that read and write them: grains, rows of numbers, event places.
+// The lent tables: how many grains, cells and event places they hold, how long they must be, and the leaves that read and write them: grains, rows of numbers, event places.
 pub mod grains;
+pub mod lengths;
 pub mod places;
 pub mod rows;
 

@@ -3,10 +3,13 @@ ghost use mathlib.Core.Path.{_≡_};
 ghost use Prim.Native.Nat.{_+_, _-_, _*_, _<_, _≤_};
 ghost use mathlib.Core.List.{List, _∷_, _++_};
 ghost use lib.ListN.{length, replicate, getD, set};
+ghost use Rattle.layout.specs.Widths.{placeNumsWide, placeRealsWide};
 ghost use Rattle.model.specs.Events.{placeOf, eventOf, names, insertBy, keepBy, goneBy, zeroP, finePlace};
 ghost use Rattle.model.specs.declared.Place.{Place as PlaceV};
 ghost use Rattle.tables.specs.Holds.{Run};
 ghost use Rattle.tables.specs.Places.{Passed, Keeping};
+use layout::PLACE_NUMS;
+use layout::PLACE_REALS;
 use model::Event;
 use model::Pending;
 use model::Place;
@@ -140,7 +143,7 @@ pub fn names_grain(s: Place, g: u64) -> bool
 
 // The first of a run of places.
 pub fn get_head(nums: &[u64], reals: &[f64]) -> Place
-    requires { ⌜ (4 ≤ length (now nums)) × (10 ≤ length (now reals)) ⌝ }
+    requires { ⌜ (placeNumsWide ≤ length (now nums)) × (placeRealsWide ≤ length (now reals)) ⌝ }
     ensures { λ r. ⌜ ((s : PlaceV) (ps : List PlaceV) → Run (now (nums .entry)) (now (reals .entry)) (s ∷ ps) → r ≡ s) ⌝ }
 {
     Place {
@@ -170,7 +173,7 @@ pub fn get_head(nums: &[u64], reals: &[f64]) -> Place
 }
 
 pub fn put_head(nums: &mut [u64], reals: &mut [f64], s: Place)
-    requires { ⌜ (4 ≤ length (now nums)) × (10 ≤ length (now reals)) ⌝ }
+    requires { ⌜ (placeNumsWide ≤ length (now nums)) × (placeRealsWide ≤ length (now reals)) ⌝ }
     ensures { λ _. ⌜ ((x : PlaceV) (ps : List PlaceV) → Run (now (nums .entry)) (now (reals .entry)) (x ∷ ps)
         → Run (now (nums .exit)) (now (reals .exit)) (s ∷ ps)) ⌝ }
 {
@@ -192,30 +195,30 @@ pub fn put_head(nums: &mut [u64], reals: &mut [f64], s: Place)
 
 // Place i of a run.
 fn get_place(nums: &[u64], reals: &[f64], i: usize) -> Place
-    requires { ⌜ (i < 256) × (i * 4 + 4 ≤ length (now nums)) × (i * 10 + 10 ≤ length (now reals)) ⌝ }
+    requires { ⌜ (i < 256) × (i * placeNumsWide + placeNumsWide ≤ length (now nums)) × (i * placeRealsWide + placeRealsWide ≤ length (now reals)) ⌝ }
     ensures { λ r. ⌜ ((ps : List PlaceV) → Run (now (nums .entry)) (now (reals .entry)) ps → r ≡ getD ps i zeroP) ⌝ }
 {
-    let a = i * 4;
-    let b = a + 4;
-    let c = i * 10;
-    let d = c + 10;
+    let a = i * PLACE_NUMS;
+    let b = a + PLACE_NUMS;
+    let c = i * PLACE_REALS;
+    let d = c + PLACE_REALS;
     get_head(&nums[a..b], &reals[c..d])
 }
 
 fn put_place(nums: &mut [u64], reals: &mut [f64], i: usize, s: Place)
-    requires { ⌜ (i < 256) × (i * 4 + 4 ≤ length (now nums)) × (i * 10 + 10 ≤ length (now reals)) ⌝ }
+    requires { ⌜ (i < 256) × (i * placeNumsWide + placeNumsWide ≤ length (now nums)) × (i * placeRealsWide + placeRealsWide ≤ length (now reals)) ⌝ }
     ensures { λ _. ⌜ ((ps : List PlaceV) → Run (now (nums .entry)) (now (reals .entry)) ps → Run (now (nums .exit)) (now (reals .exit)) (set ps i s)) ⌝ }
 {
-    let a = i * 4;
-    let b = a + 4;
-    let c = i * 10;
-    let d = c + 10;
+    let a = i * PLACE_NUMS;
+    let b = a + PLACE_NUMS;
+    let c = i * PLACE_REALS;
+    let d = c + PLACE_REALS;
     put_head(&mut nums[a..b], &mut reals[c..d], s);
 }
 
 // In front of n places, one more: each moves up by one, the last first, over the first place beyond them.
 fn push(nums: &mut [u64], reals: &mut [f64], n: usize, s: Place)
-    requires { ⌜ (n < 256) × (4 * (n + 1) ≤ length (now nums)) × (10 * (n + 1) ≤ length (now reals)) ⌝ }
+    requires { ⌜ (n < 256) × (placeNumsWide * (n + 1) ≤ length (now nums)) × (placeRealsWide * (n + 1) ≤ length (now reals)) ⌝ }
     ensures { λ _. ⌜ ((live rest : List PlaceV) (x : PlaceV) → n ≡ length live
         → Run (now (nums .entry)) (now (reals .entry)) (live ++ x ∷ rest)
         → Run (now (nums .exit)) (now (reals .exit)) (s ∷ live ++ rest)) ⌝ }
@@ -231,7 +234,7 @@ fn push(nums: &mut [u64], reals: &mut [f64], n: usize, s: Place)
 
 // How many of n places, from the first on, are not later than s.
 fn passed(nums: &[u64], reals: &[f64], n: usize, s: Place) -> usize
-    requires { ⌜ (n < 256) × (4 * n ≤ length (now nums)) × (10 * n ≤ length (now reals)) ⌝ }
+    requires { ⌜ (n < 256) × (placeNumsWide * n ≤ length (now nums)) × (placeRealsWide * n ≤ length (now reals)) ⌝ }
     ensures { λ r. ⌜ (r ≤ n) × ((live rest : List PlaceV) → n ≡ length live → Run (now (nums .entry)) (now (reals .entry)) (live ++ rest) → Passed s live r) ⌝ }
 {
     let mut i = 0usize;
@@ -248,20 +251,20 @@ fn passed(nums: &[u64], reals: &[f64], n: usize, s: Place) -> usize
 
 // Among n places in time order, one more: after every one that is not later.
 pub fn insert(nums: &mut [u64], reals: &mut [f64], n: usize, s: Place)
-    requires { ⌜ (n < 256) × (4 * (n + 1) ≤ length (now nums)) × (10 * (n + 1) ≤ length (now reals)) ⌝ }
+    requires { ⌜ (n < 256) × (placeNumsWide * (n + 1) ≤ length (now nums)) × (placeRealsWide * (n + 1) ≤ length (now reals)) ⌝ }
     ensures { λ _. ⌜ ((live rest : List PlaceV) (x : PlaceV) → n ≡ length live
         → Run (now (nums .entry)) (now (reals .entry)) (live ++ x ∷ rest)
         → Run (now (nums .exit)) (now (reals .exit)) (insertBy s live ++ rest)) ⌝ }
 {
     let i = passed(nums, reals, n, s);
-    let a = i * 4;
-    let b = i * 10;
+    let a = i * PLACE_NUMS;
+    let b = i * PLACE_REALS;
     push(&mut nums[a..], &mut reals[b..], n - i, s);
 }
 
 // The first place goes: n more move down by one, and the place given up is cleared.
 pub fn pull(nums: &mut [u64], reals: &mut [f64], n: usize)
-    requires { ⌜ (n < 256) × (4 * (n + 1) ≤ length (now nums)) × (10 * (n + 1) ≤ length (now reals)) ⌝ }
+    requires { ⌜ (n < 256) × (placeNumsWide * (n + 1) ≤ length (now nums)) × (placeRealsWide * (n + 1) ≤ length (now reals)) ⌝ }
     ensures { λ _. ⌜ ((live rest : List PlaceV) (x : PlaceV) → n ≡ length live
         → Run (now (nums .entry)) (now (reals .entry)) (x ∷ live ++ rest)
         → Run (now (nums .exit)) (now (reals .exit)) (live ++ zeroP ∷ rest)) ⌝ }
@@ -277,7 +280,7 @@ pub fn pull(nums: &mut [u64], reals: &mut [f64], n: usize)
 
 // Of i places `kept` are kept already: the next one moves down behind them, unless it names g. How many are kept then.
 fn keep_one(nums: &mut [u64], reals: &mut [f64], i: usize, kept: usize, g: u64) -> usize
-    requires { ⌜ (kept ≤ i) × (i < 256) × (i * 4 + 4 ≤ length (now nums)) × (i * 10 + 10 ≤ length (now reals)) ⌝ }
+    requires { ⌜ (kept ≤ i) × (i < 256) × (i * placeNumsWide + placeNumsWide ≤ length (now nums)) × (i * placeRealsWide + placeRealsWide ≤ length (now reals)) ⌝ }
     ensures { λ r. ⌜ (r ≤ kept + 1) × ((live rest : List PlaceV) → i < length live
         → Keeping g live rest i kept (now (nums .entry)) (now (reals .entry)) → Keeping g live rest (i + 1) r (now (nums .exit)) (now (reals .exit))) ⌝ }
 {
@@ -291,7 +294,7 @@ fn keep_one(nums: &mut [u64], reals: &mut [f64], i: usize, kept: usize, g: u64) 
 
 // Of n places those that do not name g move down, in order, over those that do: how many they are.
 fn keep(nums: &mut [u64], reals: &mut [f64], n: usize, g: u64) -> usize
-    requires { ⌜ (n ≤ 256) × (4 * n ≤ length (now nums)) × (10 * n ≤ length (now reals)) ⌝ }
+    requires { ⌜ (n ≤ 256) × (placeNumsWide * n ≤ length (now nums)) × (placeRealsWide * n ≤ length (now reals)) ⌝ }
     ensures { λ r. ⌜ (r ≤ n) × ((live rest : List PlaceV) → n ≡ length live
         → Run (now (nums .entry)) (now (reals .entry)) (live ++ rest) → Keeping g live rest n r (now (nums .exit)) (now (reals .exit))) ⌝ }
 {
@@ -306,7 +309,7 @@ fn keep(nums: &mut [u64], reals: &mut [f64], n: usize, g: u64) -> usize
 
 // The places from one on to before n are cleared.
 fn clear(nums: &mut [u64], reals: &mut [f64], from: usize, n: usize)
-    requires { ⌜ (from ≤ n) × (n ≤ 256) × (4 * n ≤ length (now nums)) × (10 * n ≤ length (now reals)) ⌝ }
+    requires { ⌜ (from ≤ n) × (n ≤ 256) × (placeNumsWide * n ≤ length (now nums)) × (placeRealsWide * n ≤ length (now reals)) ⌝ }
     ensures { λ _. ⌜ ((kept given rest : List PlaceV) → from ≡ length kept → n ≡ length kept + length given
         → Run (now (nums .entry)) (now (reals .entry)) (kept ++ (given ++ rest))
         → Run (now (nums .exit)) (now (reals .exit)) (kept ++ (replicate (n - from) zeroP ++ rest))) ⌝ }
@@ -320,7 +323,7 @@ fn clear(nums: &mut [u64], reals: &mut [f64], from: usize, n: usize)
 
 // Of n places those that do not name g, in order; the places given up are cleared. How many are left.
 pub fn cancel(nums: &mut [u64], reals: &mut [f64], n: usize, g: u64) -> usize
-    requires { ⌜ (n ≤ 256) × (4 * n ≤ length (now nums)) × (10 * n ≤ length (now reals)) ⌝ }
+    requires { ⌜ (n ≤ 256) × (placeNumsWide * n ≤ length (now nums)) × (placeRealsWide * n ≤ length (now reals)) ⌝ }
     ensures { λ r. ⌜ (r ≤ n) × ((live rest : List PlaceV) → n ≡ length live
         → Run (now (nums .entry)) (now (reals .entry)) (live ++ rest)
         → (r ≡ length (keepBy g live)) × Run (now (nums .exit)) (now (reals .exit)) (keepBy g live ++ (replicate (goneBy g live) zeroP ++ rest))) ⌝ }

@@ -2,7 +2,7 @@
 use mathlib.Core.Path.{sym, _∙_}
 use borrow.Author.Tests.{not-true, not-false}
 use Rattle.checks.proofs.Stages.{sized-means, check-2, check-mark, check-3, check-10, check-0}
-use Rattle.checks.specs.Decode.{tables}
+use Rattle.tables.specs.Decode.{tables}
 use native.Mathlib.Omega.{arith}
 use borrow.Author.Needs.{needs}
 use Rattle.checks.proofs.check.Statement.{statement}

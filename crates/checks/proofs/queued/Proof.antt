@@ -4,7 +4,7 @@ use borrow.Author.Tests.{not-true, not-false}
 use Rattle.chunks.proofs.Laws.{tail-long, tail-is}
 use Rattle.checks.proofs.Cut.{rowed-first}
 use Rattle.checks.proofs.Tests.{queued-no, queued-more}
-use Rattle.checks.specs.Decode.{rowsOf, placesOf}
+use Rattle.tables.specs.Decode.{rowsOf, placesOf}
 use Prim.Native.Nat.{ℕ}
 use native.Mathlib.Nat.{mul-le-mul-right}
 use mathlib.Core.List.{List}

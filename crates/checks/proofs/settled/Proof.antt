@@ -6,7 +6,7 @@ use mathlib.Core.List.{List}
 use lib.ListN.{getD}
 use lib.Ieee.{Float, nan}
 use Rattle.model.specs.Check.{all}
-use Rattle.checks.specs.Decode.{grainsOf}
+use Rattle.tables.specs.Decode.{grainsOf}
 use Rattle.checks.specs.Parts.{grainOk, settled}
 use native.Mathlib.Omega.{arith}
 use borrow.Author.Needs.{needs}

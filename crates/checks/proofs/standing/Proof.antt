@@ -3,7 +3,7 @@ use mathlib.Core.Path.{sym, _∙_}
 use borrow.Author.Tests.{not-true, not-false}
 use Rattle.checks.proofs.Stages.{homes-rowed, members-rowed, queue-rowed, part-1, part-2, part-3, part-4, part-5, linked-lent, queued-lent}
 use Rattle.checks.proofs.Same.{parts-are, legible-means}
-use Rattle.checks.specs.Decode.{tables}
+use Rattle.tables.specs.Decode.{tables}
 use native.Mathlib.Omega.{arith}
 use borrow.Author.Needs.{needs}
 use Rattle.checks.proofs.standing.Statement.{statement}

@@ -5,7 +5,7 @@ use native.Mathlib.Omega.{arith}
 use lib.ListN.{length-set}
 use lib.Seq.{length-take-le}
 use borrow.Rule.Slice.PartMut.{putMid, same-len-mid}
-use Rattle.checks.specs.Decode.{tables, decoded}
+use Rattle.tables.specs.Decode.{tables, decoded}
 use Rattle.running.proofs.PutBack.{long, ends, lent, placed, rate-in, worked}
 use borrow.Author.Needs.{needs}
 use Rattle.running.proofs.work.Statement.{statement}

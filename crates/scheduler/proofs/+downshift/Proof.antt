@@ -1,5 +1,6 @@
 use Rattle.scheduler.proofs.Laws.{child-in, child-after, downshifted-out, downshifted-stays, downshifted-goes}
-use Rattle.scheduler.specs.Heap.{headIn, childOf, swapAt, downshifted, made}
+use Rattle.scheduler.specs.Heap.{childOf, swapAt, downshifted}
+use Rattle.scheduler.specs.Inside.{headIn, made}
 use Rattle.scheduler.specs.declared.Scheduler.{Scheduler}
 use mathlib.Core.Path.{_≡_, sym, ap, _∙_}
 use native.Mathlib.Omega.{arith}

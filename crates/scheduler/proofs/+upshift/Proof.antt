@@ -1,5 +1,6 @@
 use Rattle.scheduler.proofs.Laws.{parent-before, upshifted-stays, upshifted-goes}
-use Rattle.scheduler.specs.Heap.{headIn, parentOf, swapAt, upshifted, made}
+use Rattle.scheduler.specs.Heap.{parentOf, swapAt, upshifted}
+use Rattle.scheduler.specs.Inside.{headIn, made}
 use Rattle.scheduler.specs.declared.Scheduler.{Scheduler}
 use mathlib.Core.Path.{_≡_, sym, ap, _∙_}
 use native.Mathlib.Omega.{arith}

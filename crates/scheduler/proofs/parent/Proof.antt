@@ -1,5 +1,6 @@
 use Rattle.scheduler.proofs.Laws.{parent-out, parent-root, parent-early, parent-late}
-use Rattle.scheduler.specs.Heap.{headIn, timeIn, parent}
+use Rattle.scheduler.specs.Heap.{timeIn, parent}
+use Rattle.scheduler.specs.Inside.{headIn}
 use lib.Ieee.{lt}
 use mathlib.Core.Bool.{true, false}
 use mathlib.Core.Path.{_≡_, sym}

@@ -5,7 +5,7 @@ use native.Mathlib.Omega.{arith}
 use lib.ListN.{length-set}
 use borrow.Rule.Slice.PartMut.{putMid, same-len-mid}
 use Rattle.model.specs.Start.{begin}
-use Rattle.checks.specs.Decode.{tables}
+use Rattle.tables.specs.Decode.{tables}
 use Rattle.starting.specs.Inputs.{inputsOf}
 use Rattle.starting.proofs.BeginLaws.{few-cells, ends, begin-filling, begun}
 use borrow.Author.Needs.{needs}

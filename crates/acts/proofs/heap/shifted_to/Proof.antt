@@ -1,5 +1,5 @@
 use Rattle.acts.specs.Queues.{shiftedTo}
-use Rattle.scheduler.specs.Heap.{headIn}
+use Rattle.scheduler.specs.Inside.{headIn}
 use mathlib.Core.Bool.{Bool}
 use mathlib.Core.Path.{sym, ap, _∙_}
 use borrow.Author.Needs.{needs}

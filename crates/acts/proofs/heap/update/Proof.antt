@@ -1,7 +1,8 @@
 use Rattle.acts.proofs.Loaded.{front-is, front-long, update-same}
 use Rattle.acts.specs.Queues.{loaded}
 use Rattle.tables.specs.Layout.{orderBytes}
-use Rattle.scheduler.specs.Heap.{headIn, updated, Fit}
+use Rattle.scheduler.specs.Heap.{updated}
+use Rattle.scheduler.specs.Inside.{headIn, Fit}
 use Rattle.scheduler.specs.declared.Scheduler.{Scheduler}
 use lib.Ieee.{Float}
 use lib.ListN.{length}

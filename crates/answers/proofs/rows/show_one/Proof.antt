@@ -1,6 +1,6 @@
 -- `show_one`: five places are written. Assumes nothing.
 use lib.ListN.{length-set}
-use Rattle.checks.specs.Decode.{grainAt}
+use Rattle.tables.specs.Decode.{grainAt}
 use Rattle.answers.specs.Answer.{shown}
 use Rattle.answers.proofs.RowLaws.{five-set}
 use native.Mathlib.Omega.{arith}

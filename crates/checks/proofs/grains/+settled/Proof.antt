@@ -4,7 +4,7 @@ use borrow.Author.Tests.{not-true, not-false}
 use lib.ListN.{length}
 use lib.Seq.{length-take-le}
 use lib.Ieee.{nan}
-use Rattle.checks.specs.Decode.{grainAt}
+use Rattle.tables.specs.Decode.{grainAt}
 use Rattle.checks.specs.Parts.{grainOk}
 use Rattle.checks.proofs.Cut.{take-tab, less-rows, rest-long, cut-none, cut-step}
 use Rattle.checks.proofs.Lists.{all-none, all-no, all-more}

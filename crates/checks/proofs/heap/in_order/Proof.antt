@@ -1,6 +1,6 @@
 -- `heap::in_order` meets its contract. Assumes nothing.
 use Prim.Native.Nat.{_-_, _/_}
-use Rattle.scheduler.specs.Heap.{headIn}
+use Rattle.scheduler.specs.Inside.{headIn}
 use Rattle.checks.proofs.Order.{order-first, order-no, order-yes}
 use native.Mathlib.Omega.{arith}
 use borrow.Author.Needs.{needs}

@@ -6,7 +6,7 @@ use native.Mathlib.Nat.{sub-zero}
 use Rattle.halting.specs.Every.{every}
 use Rattle.halting.proofs.Tests.{passed, failed, ended}
 use Rattle.checks.specs.Walk.{inOrder}
-use Rattle.scheduler.specs.Heap.{headIn}
+use Rattle.scheduler.specs.Inside.{headIn}
 use native.Mathlib.Omega.{arith}
 use borrow.Author.Needs.{needs}
 use Rattle.checks.proofs.heap.ordered.Statement.{statement}

@@ -2,7 +2,7 @@
 use mathlib.Core.Path.{sym, ap, _∙_}
 use Rattle.checks.proofs.Cut.{less-rows, rest-long, both-none, both-step, both-long}
 use Rattle.checks.proofs.OnePlace.{syncs-none, syncs-step, syncs-most, one-sync, one-past, one-other}
-use Rattle.checks.specs.Decode.{placeAt, placesOf}
+use Rattle.tables.specs.Decode.{placeAt, placesOf}
 use Prim.Native.Nat.{_+_, _-_, ℕ, _<_}
 use native.Mathlib.Nat.{zero-add}
 use lib.ListN.{length, getD}

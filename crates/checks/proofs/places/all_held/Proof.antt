@@ -4,7 +4,7 @@ use borrow.Author.Tests.{not-true, not-false}
 use Prim.Native.Nat.{_*_, _≤_, _-_}
 use lib.ListN.{length, take}
 use Rattle.model.specs.Check.{all, held}
-use Rattle.checks.specs.Decode.{placeAt, placesOf}
+use Rattle.tables.specs.Decode.{placeAt, placesOf}
 use Rattle.chunks.proofs.Laws.{some}
 use Rattle.checks.proofs.Cut.{less-rows, rest-long, both-none, both-step}
 use Rattle.checks.proofs.Lists.{all-none, all-no, all-more}

@@ -3,7 +3,7 @@ use mathlib.Core.Path.{sym, ap, _∙_}
 use mathlib.Core.List.{[]}
 use borrow.Author.Tests.{le-leb, lt-leb, not-true, not-false}
 use Rattle.model.specs.Events.{finePlace}
-use Rattle.checks.specs.Decode.{placeAt}
+use Rattle.tables.specs.Decode.{placeAt}
 use Rattle.checks.proofs.OnePlace.{place-run}
 use borrow.Author.Needs.{needs}
 use Rattle.checks.proofs.places.held.Statement.{statement}

@@ -2,7 +2,7 @@
 use mathlib.Core.Path.{sym, _∙_}
 use borrow.Author.Tests.{not-true, not-false}
 use Rattle.checks.proofs.OnePlace.{named-sync, named-past, named-no, named-hit-no, named-hit, named-to, named-out, named-wall}
-use Rattle.checks.specs.Decode.{placeAt}
+use Rattle.tables.specs.Decode.{placeAt}
 use lib.ListN.{getD, take}
 use borrow.Author.Needs.{needs}
 use Rattle.checks.proofs.places.named.Statement.{statement}

@@ -3,7 +3,7 @@ use borrow.Author.Tests.{not-true, not-false}
 use Rattle.chunks.proofs.Laws.{tail-long}
 use Rattle.checks.proofs.OnePlace.{queue-no, queue-more}
 use Rattle.checks.proofs.OneRow.{live-is}
-use Rattle.checks.specs.Decode.{rowAt}
+use Rattle.tables.specs.Decode.{rowAt}
 use Prim.Native.Nat.{_-_}
 use native.Mathlib.Nat.{mul-le-mul-right}
 use lib.ListN.{length}

@@ -5,7 +5,7 @@ use Prim.Native.Nat.{ℕ, _+_, _*_, _≤_, _<_, _-_}
 use lib.ListN.{length}
 use Rattle.model.specs.State.{Row, liveAt}
 use Rattle.model.specs.Check.{queueOk}
-use Rattle.checks.specs.Decode.{rowsOf, queueAt, queuesOf}
+use Rattle.tables.specs.Decode.{rowsOf, queueAt, queuesOf}
 use Rattle.checks.specs.Walk.{Rowed, walk}
 use Rattle.chunks.proofs.Laws.{some}
 use Rattle.checks.proofs.Cut.{less-rows, rest-long, rowed-first, rowed-rest, first-at, rowed-in, both-none, both-step}

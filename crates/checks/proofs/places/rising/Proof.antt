@@ -5,7 +5,7 @@ use mathlib.Core.List.{List}
 use lib.ListN.{length}
 use borrow.Rule.Slice.PartMut.{midOf}
 use Rattle.model.specs.Check.{rising}
-use Rattle.checks.specs.Decode.{placeAt, placesOf}
+use Rattle.tables.specs.Decode.{placeAt, placesOf}
 use Rattle.chunks.proofs.Laws.{some}
 use Rattle.checks.proofs.Cut.{less-rows, rest-long, both-none, both-step}
 use Rattle.checks.proofs.OnePlace.{rising-none, rising-no, rising-more}

@@ -4,7 +4,7 @@ use borrow.Author.Tests.{not-true, not-false}
 use Prim.Native.Nat.{_+_, _≤_, _-_}
 use Rattle.model.specs.State.{has, liveAt}
 use Rattle.model.specs.Check.{all}
-use Rattle.checks.specs.Decode.{rowAt, rowsOf}
+use Rattle.tables.specs.Decode.{rowAt, rowsOf}
 use Rattle.checks.specs.Walk.{Rowed, walk, backRow}
 use Rattle.chunks.proofs.Laws.{some, tail-long}
 use Rattle.checks.proofs.Cut.{cut-none, cut-step, rowed-first, rowed-rest}

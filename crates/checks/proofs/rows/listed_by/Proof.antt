@@ -5,7 +5,7 @@ use Prim.Native.Nat.{_≤_, _-_}
 use lib.ListN.{length, take}
 use Rattle.model.specs.State.{has, liveAt}
 use Rattle.model.specs.Check.{all}
-use Rattle.checks.specs.Decode.{rowsOf}
+use Rattle.tables.specs.Decode.{rowsOf}
 use Rattle.chunks.proofs.Laws.{some, tail-long, take-none, take-step}
 use Rattle.checks.proofs.Lists.{all-none, all-no, all-more}
 use native.Mathlib.Omega.{arith}

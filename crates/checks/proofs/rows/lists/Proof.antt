@@ -1,7 +1,7 @@
 -- `rows::lists` meets its contract. Assumes nothing.
 use lib.ListN.{getD}
 use Rattle.model.specs.State.{none}
-use Rattle.checks.specs.Decode.{rowsOf}
+use Rattle.tables.specs.Decode.{rowsOf}
 use Rattle.checks.proofs.Cut.{rowed-in}
 use Rattle.checks.proofs.OneRow.{row-part, lists-out}
 use native.Mathlib.Omega.{arith}

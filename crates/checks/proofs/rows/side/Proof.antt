@@ -5,7 +5,7 @@ use Prim.Native.Nat.{_+_, _-_}
 use Rattle.chunks.proofs.Laws.{some}
 use Rattle.checks.proofs.Cut.{cut-none, cut-step, rowed-first, rowed-rest, first-of}
 use Rattle.checks.proofs.Lists.{all-none, all-no, all-more}
-use Rattle.checks.specs.Decode.{rowAt, rowsOf}
+use Rattle.tables.specs.Decode.{rowAt, rowsOf}
 use Rattle.checks.specs.Walk.{Rowed}
 use Rattle.model.specs.Check.{all, numbers}
 use native.Mathlib.Omega.{arith}

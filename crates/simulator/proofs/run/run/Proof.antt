@@ -1,6 +1,6 @@
 -- `run`: the check's number, or what the steps leave. Assumes nothing.
 use borrow.Author.Needs.{needs}
-use Rattle.checks.specs.Decode.{tables}
+use Rattle.tables.specs.Decode.{tables}
 use Rattle.simulator.proofs.RunLaws.{run-refused, run-done}
 use Rattle.simulator.proofs.run.run.Statement.{statement}
 use Rattle.simulator.proofs.run.run.Tie as tie

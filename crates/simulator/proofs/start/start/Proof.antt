@@ -5,7 +5,7 @@ use lib.ListN.{length}
 use borrow.Author.Tests.{not-true, not-false}
 use Rattle.model.specs.Check.{Fits}
 use Rattle.model.proofs.Grid.{cells-max}
-use Rattle.checks.specs.Decode.{tables}
+use Rattle.tables.specs.Decode.{tables}
 use Rattle.starting.proofs.GoLaws.{grid-few}
 use Rattle.simulator.proofs.StartLaws.{startable, sized-as, cells-counted, start-1, start-2, start-4, start-accepted, start-halted}
 use borrow.Author.Needs.{needs}

@@ -3,7 +3,7 @@ use mathlib.Core.Path.{ap, _∙_}
 use lib.ListN.{length, replicate, length-set, length-replicate}
 use lib.Seq.{sets}
 use Rattle.checks.proofs.Over.{over-sets}
-use Rattle.checks.specs.Encode.{grainsHead}
+use Rattle.tables.specs.Encode.{grainsHead}
 use Rattle.order.specs.Numbers.{fzero}
 use native.Mathlib.Omega.{arith}
 use borrow.Author.Needs.{needs}

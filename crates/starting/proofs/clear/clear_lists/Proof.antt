@@ -4,7 +4,7 @@ use mathlib.Core.List.{[], _∷_}
 use lib.ListN.{length, replicate, length-set, length-replicate}
 use lib.Seq.{sets}
 use Rattle.checks.proofs.Over.{over-sets}
-use Rattle.checks.specs.Encode.{listsHead}
+use Rattle.tables.specs.Encode.{listsHead}
 -- `clear_lists`: all places 0, and then the header, place by place. Assumes nothing.
 use lib.ListN.{length-set}
 use native.Mathlib.Omega.{arith}

@@ -7,7 +7,7 @@ use borrow.Rule.Slice.PartMut.{putMid}
 use Rattle.tables.specs.Layout.{orderBytes}
 use Rattle.starting.proofs.Zeros.{start-long}
 use Rattle.checks.proofs.Over.{over-put}
-use Rattle.checks.specs.Encode.{over}
+use Rattle.tables.specs.Encode.{over}
 use borrow.Author.Needs.{needs}
 use Rattle.starting.proofs.clear.clear_order.Statement.{statement}
 use Rattle.starting.proofs.clear.clear_order.Tie as tie

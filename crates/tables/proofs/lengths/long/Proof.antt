@@ -1,8 +1,8 @@
 -- `long` meets its contract. Assumes nothing.
 use borrow.Author.Tests.{le-leb, lt-leb}
 use borrow.Author.Needs.{needs}
-use Rattle.checks.proofs.long.Statement.{statement}
-use Rattle.checks.proofs.long.Tie as tie
+use Rattle.tables.proofs.lengths.long.Statement.{statement}
+use Rattle.tables.proofs.lengths.long.Tie as tie
 
 needed-requires : tie.Need-needed-requires
 needed-requires c κs = search needs

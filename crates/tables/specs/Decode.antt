@@ -1,11 +1,12 @@
 -- The five lent tables read as a state, whatever they hold. Headers: lists has the mark, the counts of grains, cells and event places, and two flags;
 -- grains has the box's lengths and the clock. Assumes nothing: these are definitions.
-use Prim.Native.Nat.{ℕ, zero, suc, _+_, _*_}
+use Prim.Native.Nat.{ℕ, zero, suc, _+_}
 use mathlib.Core.List.{List, [], _∷_}
-use mathlib.Core.Bool.{Bool}
-use lib.Dec.{eqb}
+use mathlib.Core.Bool.{Bool, _&&_}
+use lib.Dec.{eqb, leb}
 use lib.ListN.{getD, take, drop}
 use lib.Ieee.{Float, nan}
+use Rattle.layout.specs.Widths.{listsHeadWide, grainsHeadWide, grainWide, rowWide, homeFrom, placeNumsWide, placeRealsWide, queueWide, eventsWide, heapWide}
 use Rattle.myvec.specs.Vec.{vec}
 use Rattle.scheduler.specs.declared.Scheduler.{Scheduler}
 use Rattle.model.specs.declared.Domain.{Domain}
@@ -40,6 +41,13 @@ flag n = eqb n 1
 abbrev pub boxIn : List ℕ → List Float → Domain
 boxIn l g = boxOf (vec (getD g 0 nan) (getD g 1 nan)) (flag (getD l 4 0)) (flag (getD l 5 0))
 
+abbrev pub clockIn : List Float → Float
+clockIn g = getD g 2 nan
+
+-- a flag is 0 or 1
+abbrev pub flagsFine : List ℕ → Bool
+flagsFine l = leb (getD l 4 0) 1 && leb (getD l 5 0) 1
+
 -- ---- n records, one after another, each w places wide; and each in two tables, w places in one and v in the other
 unfoldable pub cut : {A B : Type 0} → (List B → A) → ℕ → ℕ → List B → List A
 cut read w zero l = []
@@ -58,16 +66,16 @@ abbrev pub grainAt : List Float → Particle
 grainAt g = grainOf (vec (getD g 0 nan) (getD g 1 nan)) (vec (getD g 2 nan) (getD g 3 nan)) (getD g 4 nan) (getD g 5 nan)
 
 abbrev pub grainsOf : ℕ → List Float → List Particle
-grainsOf n g = cut grainAt 6 n g
+grainsOf n g = cut grainAt grainWide n g
 
 -- ---- rows of numbers: a count, then v places
 abbrev pub rowAt : ℕ → List ℕ → Row ℕ
 rowAt v l = rowOf (getD l 0 0) (take v (drop 1 l))
 
 abbrev pub rowsOf : ℕ → ℕ → List ℕ → List (Row ℕ)
-rowsOf v n l = cut (rowAt v) (v + 1) n l
+rowsOf v n l = cut (rowAt v) (rowWide v) n l
 
--- ---- rows of events: a count, then `room` places of four numbers; and ten floats a place
+-- ---- rows of events: a count, then `room` places' numbers; and their floats
 abbrev pub placeAt : List ℕ → List Float → Place
 placeAt q e = record {
   kind = getD q 0 0;
@@ -83,33 +91,33 @@ placeAt q e = record {
 }
 
 abbrev pub placesOf : ℕ → List ℕ → List Float → List Place
-placesOf n q e = cutBoth placeAt 4 10 n q e
+placesOf n q e = cutBoth placeAt placeNumsWide placeRealsWide n q e
 
 abbrev pub queueAt : ℕ → List ℕ → List Float → Row Place
 queueAt room q e = rowOf (getD q 0 0) (placesOf room (drop 1 q) e)
 
 abbrev pub queuesOf : ℕ → ℕ → List ℕ → List Float → List (Row Place)
-queuesOf room n q e = cutBoth (queueAt room) (room * 4 + 1) (room * 10) n q e
+queuesOf room n q e = cutBoth (queueAt room) (queueWide room) (eventsWide room) n q e
 
 -- ---- the heap and its lookups
 abbrev pub schedulerOf : ℕ → List ℕ → Scheduler
-schedulerOf n o = record { heap = take 256 o; lookups = take 256 (drop 256 o); cells = n }
+schedulerOf n o = record { heap = take heapWide o; lookups = take heapWide (drop heapWide o); cells = n }
 
 -- ---- where each part begins
 abbrev pub homesPart : List ℕ → List ℕ
-homesPart l = drop 6 l
+homesPart l = drop listsHeadWide l
 
 abbrev pub membersPart : ℕ → List ℕ → List ℕ
-membersPart grains l = drop (6 + grains * 9) l
+membersPart grains l = drop (listsHeadWide + homeFrom grains) l
 
 abbrev pub grainsPart : List Float → List Float
-grainsPart g = drop 3 g
+grainsPart g = drop grainsHeadWide g
 
 -- ---- all
 abbrev pub decodedBy : Sizes → Tables → State
 decodedBy z t = record {
   box = boxIn (t .lists) (t .grains);
-  clock = getD (t .grains) 2 nan;
+  clock = clockIn (t .grains);
   mark = mark (t .lists);
   room = z .room;
   grains = grainsOf (z .grains) (grainsPart (t .grains));

@@ -7,9 +7,9 @@ use lib.Ieee.{Float}
 use Rattle.chunks.specs.Flat.{flat}
 use Rattle.model.specs.declared.Domain.{Domain}
 use Rattle.model.specs.State.{State}
 use Rattle.tables.specs.declared.Sizes.{Sizes}
 use Rattle.tables.specs.Layout.{grainReals, rowNums, queueNums, queueReals, orderBytes}
-use Rattle.checks.specs.Decode.{Tables, tables}
+use Rattle.tables.specs.Decode.{Tables, tables}
 
 -- ---- headers
 abbrev pub flagged : Bool → ℕ

@@ -1,0 +1,2 @@
+-- The widths of the lent tables.
+pub mod Widths
