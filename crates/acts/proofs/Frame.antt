@@ -15,7 +15,7 @@ use Rattle.model.specs.State.{Row, none, State, queue, withQueues, requeued}
 use Rattle.model.specs.Acts.{insert, inserted, put, cancel, cancelled, taken}
 use Rattle.tables.specs.declared.Sizes.{Sizes}
 use Rattle.tables.specs.Holds.{Queued, Holds}
-use Rattle.acts.specs.Queues.{without}
+use Rattle.tables.specs.Queues.{without}
 use Rattle.acts.proofs.Touch.{touch-of}
 
 -- u is s but for queues and scheduler

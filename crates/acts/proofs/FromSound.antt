@@ -8,7 +8,7 @@ use lib.Ieee.{Float}
 use Rattle.chunks.specs.Flat.{flat}
 use Rattle.model.specs.State.{none, State, listed}
 use Rattle.model.specs.Grid.{cells}
-use Rattle.model.specs.Sound.{Sound}
+use Rattle.model.proofs.Sound.{Sound}
 use Rattle.halting.proofs.All.{all-of}
 use Rattle.tables.specs.declared.Sizes.{Sizes}
 use Rattle.tables.specs.Layout.{queueNums, queueReals, orderBytes}

@@ -13,7 +13,7 @@ use borrow.Rule.Slice.PartMut.{midOf}
 use Rattle.halting.specs.Every.{All}
 use Rattle.chunks.proofs.Laws.{mid-tail}
 use Rattle.halting.specs.Out.{Out, next, then, each, eachOf}
-use Rattle.model.specs.Doing.{others}
+use Rattle.model.specs.Rows.{others}
 
 -- a list's first number is p, or is another
 others-first : (p : ℕ) (l : List ℕ) → (length l ≡ 0 → ⊥) → getD l 0 0 ≡ p → others p l ≡ others p (midOf 1 (length l - 1) l)

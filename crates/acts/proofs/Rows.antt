@@ -1,45 +1,22 @@
--- One cell's row of events: what the acts make of its places, and that it stays a good one. Assumes nothing.
-use mathlib.Core.Path.{_≡_, refl, ap}
-use Prim.Native.Nat.{ℕ, suc, _+_, _<_}
+-- One cell's row of events stays a good one under the acts. Assumes nothing.
+use mathlib.Core.Path.{_≡_, ap}
+use Prim.Native.Nat.{ℕ, _+_, _<_}
 use native.Mathlib.Nat.{not-suc-le-zero}
 use native.Mathlib.Omega.{arith}
 use mathlib.Core.List.{List, [], _∷_, _++_, append-nil}
 use mathlib.Core.Bool.{true, false}
 use lib.ListN.{length, replicate, length-append, length-replicate}
-use lib.Ieee.{Float, lt}
-use Rattle.order.specs.Numbers.{last}
+use lib.Ieee.{lt}
+use Rattle.order.specs.Numbers.{f64Max}
 use Rattle.model.specs.declared.Place.{Place}
-use Rattle.model.specs.Events.{insertBy, keepBy, goneBy, zeroP, headPlace, finePlace}
+use Rattle.model.specs.Events.{insertBy, keepBy, goneBy, zeroP, finePlace}
 use Rattle.model.specs.State.{Row, row}
 use Rattle.model.proofs.Queue.{fine-low, all-insert, all-keep, length-insert, length-keep}
-use Rattle.tables.specs.Layout.{places}
-use Rattle.tables.specs.Holds.{Run, Good}
-use Rattle.acts.specs.Queues.{placed, without, headless}
-
--- ---- what the leaves make of its places
-
-module _ {nums ns : List ℕ} {reals rs : List Float} where
-  pub placed-run : (e : Place) (live spare : List Place) → length live < length (live ++ spare)
-      → ((rest : List Place) (x : Place) → Run nums reals (live ++ x ∷ rest) → Run ns rs (insertBy e live ++ rest))
-      → Run nums reals (live ++ spare) → Run ns rs (places (placed e (row live spare)))
-  placed-run e live [] l done u = let k = ap length (append-nil live) in absurd (omega arith)
-  placed-run e live (x ∷ rest) l done u = done rest x u
-
-  pub headless-run : (live spare : List Place) → 0 < length live
-      → ((rest : List Place) (x : Place) → length live ≡ suc (length rest) → Run nums reals (x ∷ rest ++ spare) → Run ns rs (rest ++ zeroP ∷ spare))
-      → Run nums reals (live ++ spare) → Run ns rs (places (headless (row live spare)))
-  headless-run [] spare l pulled u = absurd (not-suc-le-zero l)
-  headless-run (x ∷ rest) spare l pulled u = pulled rest x refl u
-
-pub head-run : {nums : List ℕ} {reals : List Float} (live spare : List Place) {y : Place} → 0 < length live → ((x : Place) (ps : List Place) → Run nums reals (x ∷ ps) → y ≡ x)
-    → Run nums reals (live ++ spare) → y ≡ headPlace live
-head-run [] spare l got u = absurd (not-suc-le-zero l)
-head-run (x ∷ rest) spare l got u = got x (rest ++ spare) u
-
--- ---- good rows
+use Rattle.tables.specs.Holds.{Good}
+use Rattle.tables.specs.Queues.{placed, without, headless}
 
 abbrev pub Top : Place → Type 0
-Top p = lt last (p .time) ≡ false
+Top p = lt f64Max (p .time) ≡ false
 
 pub good-placed : {room : ℕ} (e : Place) (live spare : List Place) → Good room (row live spare) → finePlace e ≡ true → length live < room → Good room (placed e (row live spare))
 good-placed e live [] g f l = let k = ap length (append-nil live) in let m = g .full in absurd (omega arith)

@@ -1,4 +1,4 @@
--- What an act makes of one cell's row of events, and the scheduler that a table holds (Queues).
+-- Where one cell's row of events stands, and where a heap index goes first (Queues).
 pub mod Queues
 -- What the acts ask of the tables, and what they answer and leave.
 pub mod Tell

@@ -1,6 +1,6 @@
 // The acts on the cells' queues, each with its heap update.
 ghost use mathlib.Core.Path.{_≡_};
-ghost use Prim.Native.Nat.{ℕ, _+_, _*_, _<_};
+ghost use Prim.Native.Nat.{ℕ, _<_};
 ghost use lib.ListN.{length, getD};
 ghost use Rattle.halting.specs.Out.{eachOf};
 ghost use Rattle.halting.specs.Every.{All};
@@ -10,17 +10,17 @@ ghost use Rattle.model.specs.Acts.{insert as insertAct, put as putAct, cancel a
 ghost use Rattle.tables.specs.Holds.{Ranged, Queued, Ready, Told};
 ghost use Rattle.acts.specs.Queues.{RowOf};
 use crate::heap;
-use layout::PLACE_NUMS;
-use layout::PLACE_REALS;
 use model::Place;
 use model::Plan;
 use tables::Sizes;
+use tables::parts;
+use tables::parts::Part;
 use tables::places;
+use tables::queues;
+use tables::rows;
 
-// A cell's row before an act: its count `n` stands at `at`, its places' numbers from `a` to before `b`, their floats from `p` to before `q`; `head` is its head time.
+// Where a cell's row stands: its numbers from `a` to before `b`, their floats from `p` to before `q`; and its head time.
 pub struct CellRow {
-    pub at: usize,
-    pub n: usize,
     pub a: usize,
     pub b: usize,
     pub p: usize,
@@ -32,17 +32,13 @@ fn row_of(queue: &[u64], events: &[f64], z: Sizes, cell: usize) -> CellRow
     requires { ⌜ Ranged z × (cell < z .cells) × (length (now queue) ≡ queueFrom (z .room) (z .cells)) × (length (now events) ≡ eventsFrom (z .room) (z .cells)) ⌝ }
     ensures { λ k. ⌜ RowOf z (now (queue .entry)) (now (events .entry)) cell k ⌝ }
 {
-    let w = z.room * PLACE_NUMS + 1;
-    let v = z.room * PLACE_REALS;
-    let at = cell * w;
-    let p = cell * v;
+    let Part { from: a, to: b } = parts::queue_part(z, cell);
+    let Part { from: p, to: q } = parts::events_part(z, cell);
     CellRow {
-        at,
-        n: queue[at] as usize,
-        a: at + 1,
-        b: at + w,
+        a,
+        b,
         p,
-        q: p + v,
+        q,
         head: scheduler::head_time(events, queue, z.room, cell),
     }
 }
@@ -63,20 +59,11 @@ pub fn insert(
     if !places::fine_place(e) {
         return 5;
     }
-    let CellRow {
-        at,
-        n,
-        a,
-        b,
-        p,
-        q,
-        head,
-    } = row_of(queue, events, z, cell);
-    if z.room <= n {
+    let CellRow { a, b, p, q, head } = row_of(queue, events, z, cell);
+    if z.room <= rows::count_of(&queue[a..b]) {
         return 6;
     }
-    places::insert(&mut queue[a..b], &mut events[p..q], n, e);
-    queue[at] = (n + 1) as u64;
+    queues::insert(&mut queue[a..b], &mut events[p..q], e);
     heap::update(order, queue, events, z, cell, head);
     0
 }
@@ -114,17 +101,8 @@ pub fn cancel(
     ensures { λ r. ⌜ ((s : State) → Queued z (now (queue .entry)) (now (events .entry)) (now (order .entry)) s
         → Told z (now (queue .exit)) (now (events .exit)) (now (order .exit)) r (cancelAct g cell s)) ⌝ }
 {
-    let CellRow {
-        at,
-        n,
-        a,
-        b,
-        p,
-        q,
-        head,
-    } = row_of(queue, events, z, cell);
-    let kept = places::cancel(&mut queue[a..b], &mut events[p..q], n, g);
-    queue[at] = kept as u64;
+    let CellRow { a, b, p, q, head } = row_of(queue, events, z, cell);
+    queues::cancel(&mut queue[a..b], &mut events[p..q], g);
     heap::update(order, queue, events, z, cell, head);
     0
 }
@@ -158,18 +136,8 @@ pub fn take(queue: &mut [u64], events: &mut [f64], order: &mut [u8], z: Sizes, c
     ensures { λ r. ⌜ ((s : State) → Queued z (now (queue .entry)) (now (events .entry)) (now (order .entry)) s → cell ≡ first s
         → (r ≡ head s) × Queued z (now (queue .exit)) (now (events .exit)) (now (order .exit)) (taken s)) ⌝ }
 {
-    let CellRow {
-        at,
-        n,
-        a,
-        b,
-        p,
-        q,
-        head,
-    } = row_of(queue, events, z, cell);
-    let first = places::get_head(&queue[a..b], &events[p..q]);
-    places::pull(&mut queue[a..b], &mut events[p..q], n - 1);
-    queue[at] = (n - 1) as u64;
+    let CellRow { a, b, p, q, head } = row_of(queue, events, z, cell);
+    let first = queues::take(&mut queue[a..b], &mut events[p..q]);
     heap::update(order, queue, events, z, cell, head);
     first
 }

@@ -14,7 +14,7 @@ use Rattle.model.specs.declared.Domain.{Domain}
 use Rattle.model.specs.declared.Particle.{Particle}
 use Rattle.model.specs.Sizes.{boxOk, countsOk, firstBad, rated}
 use Rattle.model.specs.State.{State}
-use Rattle.model.specs.Sound.{Stands}
+use Rattle.model.proofs.Sound.{Stands}
 use Rattle.model.specs.Start.{Begun, refused, started, start}
 use Rattle.model.specs.Start as begin
 use Rattle.model.specs.Run.{How, synchronised, spent, refused as refusedBy, Ran, runFrom}

@@ -5,6 +5,7 @@ use mathlib.Core.List.{List, [], _∷_, _++_, map, append-nil}
 use native.Mathlib.Nat.{not-suc-le-zero, le-of-suc-le-suc}
 use native.Mathlib.Numerals.{add-one}
 use native.Mathlib.Omega.{arith}
+use lib.Dec.{lit<}
 use lib.ListN.{length, getD, set, take, drop, replicate, length-drop, drop-of-length-le, take-append-drop}
 use lib.Seq.{take-all, drop-at, drop-drop, getD-drop, length-take-le}
 use lib.Ieee.{Float, nan}
@@ -18,7 +19,7 @@ use Rattle.model.specs.Stepping.{grainOf}
 use Rattle.tables.specs.Decode.{cut, grainAt, grainsOf, grainsPart}
 use Rattle.checks.proofs.Cut.{cut-none, cut-step, drop-next}
 use Rattle.listing_text.specs.Grammar.{Grain}
-use Rattle.starting.specs.Inputs.{inputsOf}
+use Rattle.tables.specs.Inputs.{inputsOf}
 use Rattle.listing_text.specs.Rows.{fiveOf, rowsOf, grainsFrom}
 use Rattle.listing_text.proofs.Rows.{rows-flat, rows-back}
 use Rattle.listing_text.proofs.Rows as text
@@ -90,7 +91,8 @@ inputs-from zero i l h = refl
 inputs-from (suc k) i l h =
     let z : i * 5 + 0 ≡ i * 5 = omega arith in
     let e : drop 5 (map float (drop (i * 5) l)) ≡ map float (drop (suc i * 5) l) = drop-map float 5 (drop (i * 5) l) ∙ ap (map float) (drop-drop 5 (i * 5) l ∙ ap (λ (m : ℕ). drop m l) (let w : i * 5 + 5 ≡ suc i * 5 = omega arith in w)) in
-    λ t. grainOf (vec ((number-at l (i * 5) 0 (omega (arith, h)) ∙ ap (λ (m : ℕ). float (getD l m 0)) z) t) (number-at l (i * 5) 1 (omega (arith, h)) t)) (vec (number-at l (i * 5) 2 (omega (arith, h)) t) (number-at l (i * 5) 3 (omega (arith, h)) t)) fzero (number-at l (i * 5) 4 (omega (arith, h)) t)
+    let at : (j : ℕ) → j < 5 → getD (map float (drop (i * 5) l)) j nan ≡ float (getD l (i * 5 + j) 0) = λ (j : ℕ) (w : j < 5). number-at l (i * 5) j (omega (arith, h, w)) in
+    λ t. grainOf (vec ((at 0 (lit< tt) ∙ ap (λ (m : ℕ). float (getD l m 0)) z) t) (at 1 (lit< tt) t)) (vec (at 2 (lit< tt) t) (at 3 (lit< tt) t)) fzero (at 4 (lit< tt) t)
     ∷ (ap (inputsOf k) e ∙ inputs-from k (suc i) l (omega (arith, h))) t
 
 pub inputs-are : (n : ℕ) (l : List ℕ) → n * 5 ≤ length l → inputsOf n (map float l) ≡ map grainIn (grainsFrom l 0 n)

@@ -18,10 +18,11 @@ use Rattle.running.specs.Ran.{RanTables, toldTables}
 use Rattle.simulator.specs.Start.{with, startAll}
 use Rattle.simulator.specs.Run.{runTables}
 use Rattle.listing_text.specs.declared.writer.Answer.the-variants as answer
-use Rattle.listing_text.specs.Rows.{fiveOf}
+use Rattle.text.specs.Put.{Put}
+use Rattle.listing_text.specs.Rows.{fiveOf, listed}
 use Rattle.listing_text.specs.Size.{longLength, tooLarge}
-use Rattle.listing_text.specs.Answers.{Put, listed, answerOf}
-use Rattle.listing_text.proofs.Putting.{put-as}
+use Rattle.listing_text.specs.Answers.{answerOf}
+use Rattle.text.proofs.Putting.{put-as}
 use Rattle.answers.specs.Answer.{float, shown, room, budget}
 use Rattle.answers.specs.Runs.{byAnswer, begun, goOn, simulated, reportOf, blank, spelt, boxed, spelling, served, judged}
 

@@ -25,7 +25,7 @@ use Rattle.model.proofs.Reached.{Well, runAll-well, reached-well}
 use Rattle.tables.specs.declared.Sizes.{Sizes}
 use Rattle.tables.specs.Decode.{Tables, grainsOf, grainsPart}
 use Rattle.tables.specs.Lengths.{listsNeed, grainsNeed, queueNeed, eventsNeed}
-use Rattle.starting.specs.Inputs.{inputsOf}
+use Rattle.tables.specs.Inputs.{inputsOf}
 use Rattle.tables.specs.Encode.{sizesIn, encoded}
 use Rattle.starting.specs.Cleared.{sizesFor, cleared}
 use Rattle.simulator.specs.Start.{fits, StartedWith, with, leaving, startAll}
@@ -42,7 +42,8 @@ use Rattle.listing_text.specs.Rows.{fiveOf, grainsFrom}
 use Rattle.listing_text.specs.Reading.{closedOf, fineOf}
 use Rattle.listing_text.specs.Answers.{listingOf, answerOf}
 use Rattle.listing_text.specs.Size.{longLength, tooLarge}
-use Rattle.answers.specs.Answer.{float, shown, grainIn, room, budget, byHow, listing, toNext, byMark, afterStart, answerTo, inputFrom, inputOf, answered}
+use Rattle.answers.specs.Answer.{float, shown, grainIn, room, budget, byHow, listing, toNext, byMark, afterStart, answerTo}
+use Rattle.answers.specs.Read.{inputFrom, inputOf, answered}
 use Rattle.answers.specs.Runs.{begun, goOn, simulated, blank, spelt, boxed, rows, spelling, served, judged}
 use Rattle.answers.specs.Runs as runs
 use Rattle.answers.proofs.RowLaws.{inputs-are, shown-back}
@@ -224,7 +225,10 @@ module _ (numbers grains : List ℕ) (n : ℕ) (long : length grains ≡ 160) wh
 
   pub judged-is : judged numbers grains n ≡ answerTo (inputFrom numbers grains n)
   unfolding judged answerTo
-  judged-is = by (tooLarge n (float (getD numbers 0 0)) (float (getD numbers 1 0))) refl ∙ ap (λ (k : ℕ). cond (tooLarge k (float (getD numbers 0 0)) (float (getD numbers 1 0))) (answerOf TooLarge) (afterStart rate (start (boxed numbers) room (map grainIn (grainsFrom grains 0 n))))) (sym (counted n 0 grains))
+  judged-is =
+      by (tooLarge n (float (getD numbers 0 0)) (float (getD numbers 1 0))) refl
+      ∙ ap (λ (k : ℕ). cond (tooLarge k (float (getD numbers 0 0)) (float (getD numbers 1 0))) (answerOf TooLarge) (afterStart rate (start (boxed numbers) room (map grainIn (grainsFrom grains 0 n)))))
+      (sym (counted n 0 grains))
     where
       by : (x : Bool) → tooLarge n (float (getD numbers 0 0)) (float (getD numbers 1 0)) ≡ x
           → cond (tooLarge n (float (getD numbers 0 0)) (float (getD numbers 1 0))) (answerOf TooLarge) (served (boxed numbers) rate grains n)
@@ -233,10 +237,10 @@ module _ (numbers grains : List ℕ) (n : ℕ) (long : length grains ≡ 160) wh
       by false e = let k = split (ltb 32 n) (longLength (float (getD numbers 0 0))) (longLength (float (getD numbers 1 0))) e in rw e (small-is (k .0) (k .1) (k .2))
 
 -- ---- the whole answer
-pub fine-is : (r w : Reader) (x : Bool) → w ≡ closedOf r → x ≡ fineOf w → x ≡ true → length (w .grains) ≡ 160 → judged (w .numbers) (w .grains) (w .n) ≡ answered r
+pub fine-is : (r w : Reader) (x : Bool) → w ≡ closedOf r → x ≡ fineOf w → x ≡ true → length (w .grains) ≡ 160 → judged (w .text .numbers) (w .grains) (w .text .n) ≡ answered r
 unfolding answered
 fine-is r w x e f h k =
-    judged-is (w .numbers) (w .grains) (w .n) k
+    judged-is (w .text .numbers) (w .grains) (w .text .n) k
     ∙ sym (ap (λ (y : Bool). cond y (answerTo (inputOf (closedOf r))) (answerOf Malformed)) (sym (ap fineOf e) ∙ sym f ∙ h) ∙ ap (λ (y : Reader). answerTo (inputOf y)) (sym e))
 
 pub malformed-is : (r w : Reader) (x : Bool) → w ≡ closedOf r → x ≡ fineOf w → x ≡ false → answerOf Malformed ≡ answered r

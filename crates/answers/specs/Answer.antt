@@ -1,9 +1,9 @@
--- 01, "The listing program": the answer to a text, as a function of its bytes. Assumes nothing: these are definitions.
+-- 01, "The listing program": the answer to a text, by the text's grammar. Assumes nothing: these are definitions.
 use Prim.Native.Nat.{ℕ, zero, suc}
+use mathlib.Core.Path.{_≡_}
 use mathlib.Core.List.{List, map}
-use mathlib.Core.Bool.{Bool, cond}
-use lib.Dec.{eqb}
-use lib.ListN.{length, getD}
+use mathlib.Core.Bool.{cond}
+use lib.ListN.{length}
 use lib.Ieee.{Float, binary64, ofBits, toBits}
 use Rattle.order.specs.Numbers.{fzero}
 use Rattle.myvec.specs.Vec.{vec}
@@ -14,11 +14,9 @@ use Rattle.model.specs.Stepping.{grainOf}
 use Rattle.model.specs.Start.{Begun, refused, started, start}
 use Rattle.model.specs.Run.{How, synchronised, spent, refused as refusedBy, Ran}
 use Rattle.model.specs.Check.{runAll}
-use Rattle.listing_text.specs.declared.reader.Reader.{Reader}
+use Rattle.text.specs.Numerals.{Word}
 use Rattle.listing_text.specs.declared.writer.Answer.the-variants.{Malformed, TooLarge, Refused, Spent}
-use Rattle.listing_text.specs.Grammar.{Grain, Input}
-use Rattle.listing_text.specs.Rows.{grainsFrom}
-use Rattle.listing_text.specs.Reading.{startOf, feedAll, closedOf, fineOf}
+use Rattle.listing_text.specs.Grammar.{Grain, Input, Words, Text}
 use Rattle.listing_text.specs.Answers.{listingOf, answerOf}
 use Rattle.listing_text.specs.Size.{tooLarge}
 
@@ -71,26 +69,13 @@ answerTo i =
     cond (tooLarge (length (i .grains)) (float (i .l0)) (float (i .l1))) (answerOf TooLarge)
     (afterStart (float (i .rate)) (start (boxIn i) room (map grainIn (i .grains))))
 
--- ---- the answer to a text: `malformed` unless the reader finds it to be of the form, "then" the above
-abbrev pub flag : ℕ → Bool
-flag n = eqb n 1
+-- ---- s is the text of the input, whose numbers, n among them, are of 64 bits
+pub record Formed (s : List ℕ) (i : Input) : Type 0 where
+  pub is-text : Text s i
+  pub words : Words i
+  pub countable : Word (length (i .grains))
 
-abbrev pub inputFrom : List ℕ → List ℕ → ℕ → Input
-inputFrom numbers grains n = record {
-  l0 = getD numbers 0 0;
-  l1 = getD numbers 1 0;
-  p0 = flag (getD numbers 2 0);
-  p1 = flag (getD numbers 3 0);
-  rate = getD numbers 4 0;
-  grains = grainsFrom grains 0 n;
-}
-
-abbrev pub inputOf : Reader → Input
-inputOf r = inputFrom (r .numbers) (r .grains) (r .n)
-
--- once the reader has been fed the whole text, and so of its bytes (Texts has what this means for the grammar)
-unfoldable pub answered : Reader → List ℕ
-answered r = cond (fineOf (closedOf r)) (answerTo (inputOf (closedOf r))) (answerOf Malformed)
-
-abbrev pub answer : List ℕ → List ℕ
-answer s = answered (feedAll startOf s)
+-- ---- a is the answer to the text s: that to its input, or `malformed` where it is not of this form. Every text has one, and only one (Texts)
+pub record Answers (s a : List ℕ) : Type 0 where
+  pub formed : (i : Input) → Formed s i → a ≡ answerTo i
+  pub malformed : ((i : Input) → Formed s i → ⊥) → a ≡ answerOf Malformed

@@ -19,10 +19,11 @@ use Rattle.simulator.specs.Start.{StartedWith, startAll}
 use Rattle.running.specs.Ran.{RanTables, toldTables}
 use Rattle.simulator.specs.Run.{runTables}
 use Rattle.listing_text.specs.declared.writer.Answer.the-variants as answer
-use Rattle.listing_text.specs.Rows.{fiveOf}
-use Rattle.listing_text.specs.Answers.{listed, answerOf}
+use Rattle.listing_text.specs.Rows.{fiveOf, listed}
+use Rattle.listing_text.specs.Answers.{answerOf}
 use Rattle.listing_text.specs.Size.{tooLarge}
-use Rattle.answers.specs.Answer.{float, shown, flag, room, budget}
+use Rattle.answers.specs.Answer.{float, shown, room, budget}
+use Rattle.answers.specs.Read.{flag}
 
 -- ---- a start's answer as the report of a run: one that is accepted stands where a run can begin, at the clock 0
 abbrev pub byAnswer : Started → Report

@@ -1,21 +1,21 @@
 // The answer, in the order of document 01: malformed, too large, refused or spent, or the listing.
 ghost use mathlib.Core.Path.{_≡_};
 ghost use Prim.Native.Nat.{_≤_};
-ghost use Rattle.listing_text.specs.Answers.{Put};
-ghost use Rattle.answers.specs.Answer.{answered};
+ghost use Rattle.text.specs.Put.{Put};
+ghost use Rattle.answers.specs.Read.{OfAnswer, answered};
 ghost use Rattle.answers.specs.Runs.{boxed, spelt, served, judged};
 use crate::rows;
 use crate::runs;
 use listing_text::Answer;
 use listing_text::Reader;
-use listing_text::bits_of_float;
-use listing_text::float_of_bits;
 use listing_text::put_answer;
 use listing_text::put_listing;
 use listing_text::too_large;
 use model::Domain;
 use model::Report;
 use myvec::MyVec;
+use text::bits_of_float;
+use text::float_of_bits;
 
 // The box that was read.
 fn box_of(numbers: &[u64; 10]) -> Domain
@@ -77,15 +77,17 @@ fn put_judged(out: &mut [u8; 4096], numbers: &[u64; 10], grains: &[u64; 160], n:
     put_served(out, domain, float_of_bits(numbers[4]), grains, n as usize)
 }
 
-// The answer to the text that the reader was fed, written to the start of `out`; how many bytes it has.
+// The answer to the text that the reader was fed, written to the start of `out`; how many bytes it has. (The second promise is of any reader, fed or not.)
 pub fn answer(reader: Reader, out: &mut [u8; 4096]) -> usize
+    ensures { λ r. ⌜ OfAnswer reader (λ a. Put 0 a (now (out .entry)) (now (out .exit)) r) ⌝ }
     ensures { λ r. ⌜ Put 0 (answered reader) (now (out .entry)) (now (out .exit)) r ⌝ }
 {
     let whole = reader.closed();
     if !whole.fine() {
         return put_answer(out, Answer::Malformed);
     }
-    let numbers = whole.numbers;
+    let text = whole.text;
+    let numbers = text.numbers;
     let grains = whole.grains;
-    put_judged(out, &numbers, &grains, whole.n)
+    put_judged(out, &numbers, &grains, text.n)
 }

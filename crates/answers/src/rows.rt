@@ -7,8 +7,8 @@ ghost use Rattle.chunks.specs.Flat.{flat};
 ghost use Rattle.tables.specs.Decode.{grainAt, grainsOf, grainsPart};
 ghost use Rattle.listing_text.specs.Rows.{fiveOf};
 ghost use Rattle.answers.specs.Answer.{float, shown};
-use listing_text::bits_of_float;
-use listing_text::float_of_bits;
+use text::bits_of_float;
+use text::float_of_bits;
 
 // The floats of some bits.
 pub(crate) fn floats(bits: &[u64], out: &mut [f64])

@@ -10,7 +10,7 @@ use Rattle.model.specs.declared.Domain.{Domain}
 use Rattle.model.specs.declared.CellPosition.{CellPosition}
 use Rattle.model.specs.declared.CellPosition.the-variants.{NegativeEdge, Centre, PositiveEdge}
 use Rattle.model.specs.Sizes.{boxOk}
-use Rattle.model.specs.Grid.{across, cells, low, high, below, above, position}
+use Rattle.model.specs.Grid.{across, low, high, below, above, position}
 use Rattle.cell.specs.declared.Grid.{Grid}
 use Rattle.cell.specs.declared.CellAlong.{CellAlong}
 use Rattle.cell.specs.declared.Cell.{Cell}

@@ -4,7 +4,7 @@ ghost use Prim.Native.Nat.{_+_, _-_, _*_, _%_, _≤_, _<_};
 ghost use lib.IntN.{pos};
 ghost use lib.Ieee as Ieee;
 ghost use lib.Ieee.{binary64};
-ghost use Rattle.model.specs.Sizes.{boxOk};
+ghost use Rattle.model.specs.Sizes.{lengthOk, boxOk};
 ghost use Rattle.model.specs.Sizes as sizes;
 ghost use Rattle.model.specs.Grid.{cellsOf};
 ghost use Rattle.model.specs.Grid as model-grid;
@@ -46,11 +46,23 @@ pub fn within(low: f64, high: f64, x: f64) -> bool
     low <= x && x <= high
 }
 
+// The shortest and the longest box length, both accepted.
+const SHORTEST: f64 = 9.0;
+
+const LONGEST: f64 = 48.0;
+
+// Whether a box length is in range.
+pub fn length_ok(length: f64) -> bool
+    ensures { λ r. ⌜ r ≡ lengthOk length ⌝ }
+{
+    within(SHORTEST, LONGEST, length)
+}
+
 // Whether both lengths are in range: refusal 1 where not.
 pub fn box_ok(domain: Domain) -> bool
     ensures { λ r. ⌜ r ≡ boxOk domain ⌝ }
 {
-    within(9.0, 48.0, domain.lengths.x) && within(9.0, 48.0, domain.lengths.y)
+    length_ok(domain.lengths.x) && length_ok(domain.lengths.y)
 }
 
 // Whether a box is periodic in a direction.
@@ -66,12 +78,15 @@ pub fn periodic(domain: Domain, dim: usize) -> bool
 
 // ---- the grid
 
-// Cells in a direction of this length, at least three.
+// The fewest cells in a direction.
+const FEWEST_ACROSS: usize = 3;
+
+// Cells in a direction of this length.
 pub fn cells(length: f64) -> usize
     ensures { λ r. ⌜ r ≡ cellsOf length ⌝ }
 {
     let n = cut(length / Domain::CELL_SIZE);
-    if n < 3 { 3 } else { n }
+    if n < FEWEST_ACROSS { FEWEST_ACROSS } else { n }
 }
 
 // How many cells a box has in each direction.

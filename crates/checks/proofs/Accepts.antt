@@ -18,29 +18,31 @@ use Rattle.model.specs.Check.{halt, Fitted}
 use Rattle.model.specs.Check as model
 use Rattle.halting.proofs.Bools.{and-l, and-r}
 use Rattle.model.proofs.Halts.{halt-range}
-use Rattle.model.proofs.Stands.{stands}
-use Rattle.model.proofs.Reflect.{says-standing}
+use Rattle.model.proofs.Sound.{Stands}
+use Rattle.model.proofs.Reflect.{says-stands}
 use Rattle.tables.specs.Decode.{Tables, mark, sizesOf, decoded, cutBoth, grainAt, grainsPart, placesOf, queuesOf}
 use Rattle.checks.specs.Check.{sized, legible, standing, checked}
-use Rattle.checks.specs.Held.{Fits, Floats, Answered, Accepted}
+use Rattle.checks.specs.Answered.{AllFit, Floats, Answered}
+use Rattle.checks.specs.Inside.{Sized}
 use Rattle.checks.proofs.Cut.{cut-long}
+use Rattle.checks.proofs.Hold.{Hold}
 use Rattle.checks.proofs.Same.{legible-means}
 use Rattle.checks.proofs.Stages.{sized-means}
 use Rattle.checks.proofs.Holding.{held}
 
 -- ---- times that are read are 64-bit floats
-fits-drop : (k : ℕ) (l : List Float) → Fits l → Fits (drop k l)
+fits-drop : (k : ℕ) (l : List Float) → AllFit l → AllFit (drop k l)
 fits-drop k l f i = subst (λ (x : Float). T (fits binary64 x)) (sym (getD-drop k l i nan)) (f (k + i))
 
 abbrev Timed : Place → Type 0
 Timed p = T (fits binary64 (p .time))
 
-places-timed : (n : ℕ) (q : List ℕ) (e : List Float) → Fits e → All Timed (placesOf n q e)
+places-timed : (n : ℕ) (q : List ℕ) (e : List Float) → AllFit e → All Timed (placesOf n q e)
 unfolding cutBoth
 places-timed zero q e f = tt
 places-timed (suc n) q e f = (f 0, places-timed n (drop 4 q) (drop 10 e) (fits-drop 10 e f))
 
-queues-timed : (room n : ℕ) (q : List ℕ) (e : List Float) (c : ℕ) → Fits e → All Timed ((getD (queuesOf room n q e) c none) .live)
+queues-timed : (room n : ℕ) (q : List ℕ) (e : List Float) (c : ℕ) → AllFit e → All Timed ((getD (queuesOf room n q e) c none) .live)
 unfolding cutBoth
 queues-timed room zero q e c f = tt
 queues-timed room (suc n) q e zero f = all-take Timed (placesOf room (drop 1 q) e) (getD q 0 0) (places-timed room (drop 1 q) e f)
@@ -71,6 +73,12 @@ both : (t : Tables) → standing t ≡ true → (legible t ≡ true) × (model.s
 unfolding standing
 both t s = (and-l (legible t) (model.standing (decoded t)) s, and-r (legible t) (model.standing (decoded t)) s)
 
+-- nothing refuses the run: the tables hold a state whose facts stand
+pub record Accepted (t : Tables) : Type 0 where
+  pub sized : Sized (sizesOf (t .lists)) t
+  pub hold : Hold (sizesOf (t .lists)) t (decoded t)
+  pub stands : Stands (decoded t)
+
 -- A PASSED CHECK MEANS THAT THE TABLES HOLD A STATE WHOSE FACTS STAND
 pub accepted : (rate : Float) (t : Tables) (r : ℕ) → Answered rate t r → r ≡ 0 → Accepted t
 accepted rate t r A e = from (checked-means rate t (sym (A .is) ∙ e))
@@ -82,7 +90,7 @@ accepted rate t r A e = from (checked-means rate t (sym (A .is) ∙ e))
         let b = both t (p .stands) in
         let L = legible-means z (t .lists) (t .queue) (b .0) in
         let f = fitted t (A .floats) in
-        let F = stands (decoded t) f (says-standing (decoded t) f .means (b .1)) in
+        let F = says-stands (decoded t) f .means (b .1) in
         record { sized = S; hold = record { sizes = refl; mark-is = refl; flags = (L .flag0, L .flag1); box-is = refl; clock-is = refl; body = held z t S L F }; stands = F }
 
 -- tables that pass check 2 pass it as a state

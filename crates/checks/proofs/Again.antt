@@ -19,7 +19,7 @@ use Rattle.tables.proofs.RowLaws.{live-most}
 use Rattle.tables.specs.Decode.{Tables}
 use Rattle.checks.specs.Check.{counted, legibleBy}
 use Rattle.tables.specs.Lengths.{queueNeed}
-use Rattle.checks.specs.Held.{Hold}
+use Rattle.checks.proofs.Hold.{Hold}
 use Rattle.tables.proofs.Runs.{row-nums-long}
 use Rattle.checks.proofs.Back.{row-wide, lists-cut, members-cut, queue-cut}
 

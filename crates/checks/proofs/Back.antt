@@ -23,7 +23,7 @@ use Rattle.tables.proofs.ListLaws.{rows-long}
 use Rattle.tables.proofs.Runs.{row-nums-long, row-reals-long}
 use Rattle.tables.specs.Decode.{Tables, decoded, decodedBy, cut, cutBoth, rowOf, grainAt, grainsOf, rowAt, rowsOf, placeAt, placesOf, queueAt, queuesOf, schedulerOf}
 use Rattle.tables.specs.Lengths.{listsNeed, grainsNeed, queueNeed, eventsNeed}
-use Rattle.checks.specs.Held.{Hold}
+use Rattle.checks.proofs.Hold.{Hold}
 
 -- ---- records that are written are read back, whatever follows them
 module _ {A B : Type 0} (read : List B → A) (enc : A → List B) (w : ℕ) (again : (x : A) (y : List B) → length (enc x) ≡ w → read (enc x ++ y) ≡ x) where

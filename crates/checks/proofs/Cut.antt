@@ -14,7 +14,7 @@ use Rattle.halting.proofs.Bools.{and-l, and-r}
 use Rattle.chunks.proofs.Laws.{tail-is, tail-long}
 use Rattle.tables.specs.Decode.{cut, cutBoth}
 use Rattle.checks.specs.Check.{counted}
-use Rattle.checks.specs.Walk.{Rowed, First}
+use Rattle.checks.specs.Inside.{Rowed, First}
 
 -- ---- some places of a list, one by one
 abbrev tab : {A : Type 0} → List A → A → ℕ → ℕ → List A

@@ -15,14 +15,15 @@ use Rattle.chunks.specs.Flat.{flat}
 use Rattle.model.specs.declared.Place.{Place}
 use Rattle.model.specs.Grid.{cells}
 use Rattle.model.specs.State.{Row, none, listed}
-use Rattle.model.specs.Sound.{Numbers, Side, Stands}
+use Rattle.model.proofs.Sound.{Numbers, Side, Stands}
 use Rattle.model.proofs.Lists.{has-all}
 use Rattle.tables.specs.declared.Sizes.{Sizes}
 use Rattle.tables.specs.Layout.{places, grainReals, rowNums, placeNums, placeReals, queueNums, queueReals}
 use Rattle.tables.specs.Holds.{Grained, Rows, Listed, Good, Tabled, Heaped, Holds}
 use Rattle.tables.proofs.Runs.{good-of}
 use Rattle.tables.specs.Decode.{Tables, decodedBy, cut, cutBoth, grainsPart, grainAt, rowAt, rowsOf, placeAt, placesOf, queueAt}
-use Rattle.checks.specs.Check.{Legible, Sized, counted}
+use Rattle.checks.specs.Check.{counted}
+use Rattle.checks.specs.Inside.{Legible, Sized}
 use Rattle.tables.specs.Lengths.{listsNeed, grainsNeed}
 use Rattle.tables.specs.Bodies.{listsBody, grainsBody, queueBody, eventsBody, orderBody}
 use Rattle.checks.proofs.Cut.{take-tab, drop-next, cut-long, both-long, counted-at}

@@ -5,13 +5,12 @@ pub mod OneRow
 pub mod OnePlace
 pub mod Order
 pub mod Tests
-pub mod Turns
 pub mod Heads
 pub mod Same
 pub mod Stages
+pub mod Hold
 pub mod Holding
 pub mod Back
-pub mod Over
 pub mod Accepts
 pub mod Again
 pub mod Needs

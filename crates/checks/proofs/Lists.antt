@@ -4,8 +4,7 @@ use Prim.Native.Nat.{ℕ, _+_}
 use mathlib.Core.List.{List, [], _∷_}
 use mathlib.Core.Bool.{Bool, true, false}
 use Rattle.model.specs.State.{has}
-use Rattle.model.specs.Check.{all, once}
-use Rattle.checks.specs.Walk.{walk}
+use Rattle.model.specs.Check.{all, walk, once}
 
 module _ {A : Type 0} (p : A → Bool) {xs : List A} where
   pub all-none : xs ≡ [] → true ≡ all p xs

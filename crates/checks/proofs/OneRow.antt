@@ -11,10 +11,10 @@ use lib.Seq.{take-take, length-take-le}
 use borrow.Author.Tests.{le-leb, eq-eqb}
 use borrow.Rule.Slice.PartMut.{midOf}
 use Rattle.model.specs.State.{Row, has, liveAt, none}
-use Rattle.model.specs.Check.{all, once, numbers}
+use Rattle.model.specs.Check.{all, once, numbers, housed}
 use Rattle.tables.specs.Layout.{rowNums}
 use Rattle.tables.specs.Decode.{rowAt, rowsOf}
-use Rattle.checks.specs.Walk.{First, Rowed, housed}
+use Rattle.checks.specs.Inside.{First, Rowed}
 use Rattle.chunks.proofs.Laws.{tail-is}
 use Rattle.checks.proofs.Cut.{cut-at, cut-long, counted-at, rowed-in}
 

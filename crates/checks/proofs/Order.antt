@@ -7,14 +7,14 @@ use mathlib.Core.Bool.{Bool, true, false, not, _||_, cond}
 use lib.ListN.{getD}
 use lib.Ieee.{Float, lt}
 use borrow.Author.Tests.{lt-ltb, eq-eqb, ne-eqb}
-use Rattle.order.specs.Numbers.{last}
+use Rattle.order.specs.Numbers.{f64Max}
 use Rattle.scheduler.specs.Heap.{timeIn, parent}
-use Rattle.checks.specs.Walk.{inOrder}
+use Rattle.model.specs.Check.{inOrder}
 
 module _ (h : ℕ → Float) (heap : List ℕ) (n i : ℕ) where
   pub time-in : i < n → timeIn h heap n i ≡ h (getD heap i 0)
   unfolding timeIn
-  time-in l = ap (λ (b : Bool). cond b (h (getD heap i 0)) last) (lt-ltb i n l)
+  time-in l = ap (λ (b : Bool). cond b (h (getD heap i 0)) f64Max) (lt-ltb i n l)
 
 module _ (h : ℕ → Float) (heap : List ℕ) (n i : ℕ) where
   pub order-first : i ≡ 0 → true ≡ inOrder h heap n i

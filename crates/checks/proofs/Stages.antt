@@ -1,48 +1,67 @@
 -- The stages of check 10 and of the whole check, as the code answers them; what a passed check 2 says; rows as they are lent. Assumes nothing.
 use mathlib.Core.Path.{_≡_, refl, sym, ap, _∙_, subst}
-use Prim.Native.Nat.{ℕ, _+_, _-_, _*_}
+use Prim.Native.Nat.{ℕ, _+_, _-_, _*_, _≤_}
 use native.Mathlib.Omega.{arith}
 use mathlib.Core.List.{List}
 use mathlib.Core.Bool.{Bool, true, false, _&&_}
 use lib.Dec.{leb}
-use lib.ListN.{length, getD, length-drop}
-use lib.Ieee.{Float, nan}
+use lib.ListN.{length, length-drop}
+use lib.Ieee.{Float}
 use borrow.Author.Tests.{leb-true, le-leb}
 use borrow.Rule.Slice.PartMut.{midOf}
 use Rattle.model.specs.Sizes.{rated}
-use Rattle.model.specs.Check.{halt}
+use Rattle.model.specs.State.{Row}
+use Rattle.model.specs.Check.{linked, queued, halt}
 use Rattle.halting.proofs.Bools.{and-l, and-r}
 use Rattle.tables.specs.declared.Sizes.{Sizes}
-use Rattle.tables.specs.Decode.{Tables, mark, sizesOf, rowsOf}
-use Rattle.checks.specs.Check.{Legible, ranged, sizedBy, sized, Sized, legibleBy, standing, checked}
+use Rattle.tables.specs.Decode.{Tables, mark, sizesOf, clockIn, rowsOf, queuesOf}
+use Rattle.checks.specs.Check.{ranged, sizedBy, sized, legibleBy, standing, checked}
+use Rattle.checks.specs.Inside.{Sized, Legible, Rowed}
 use Rattle.tables.specs.Lengths.{listsNeed, grainsNeed, queueNeed, eventsNeed, long}
-use Rattle.checks.specs.Walk.{Rowed, linked}
-use Rattle.checks.specs.Parts.{settled, queued, heaped, parts}
 use Rattle.chunks.proofs.Laws.{tail-is}
-use Rattle.checks.proofs.Same.{homesIn, membersIn}
+use Rattle.checks.proofs.Same.{homesIn, settledIn, linkedIn, queuedIn, heapedIn, parts-are}
 
 -- ---- 2
+pub ranged-means : (z : Sizes) → ranged z ≡ true → (z .grains ≤ 256) × (9 ≤ z .cells) × (z .cells ≤ 256) × (16 ≤ z .room) × (z .room ≤ 256)
+ranged-means z a =
+    let a2 = and-r (leb (z .grains) 256) ((leb 9 (z .cells) && leb (z .cells) 256) && (leb 16 (z .room) && leb (z .room) 256)) a in
+    let ac = and-l (leb 9 (z .cells) && leb (z .cells) 256) (leb 16 (z .room) && leb (z .room) 256) a2 in
+    let ar = and-r (leb 9 (z .cells) && leb (z .cells) 256) (leb 16 (z .room) && leb (z .room) 256) a2 in (
+      leb-true _ _ (and-l (leb (z .grains) 256) ((leb 9 (z .cells) && leb (z .cells) 256) && (leb 16 (z .room) && leb (z .room) 256)) a),
+      leb-true _ _ (and-l (leb 9 (z .cells)) (leb (z .cells) 256) ac),
+      leb-true _ _ (and-r (leb 9 (z .cells)) (leb (z .cells) 256) ac),
+      leb-true _ _ (and-l (leb 16 (z .room)) (leb (z .room) 256) ar),
+      leb-true _ _ (and-r (leb 16 (z .room)) (leb (z .room) 256) ar),
+    )
+
+-- with the counts as they are read
+module _ (l : List ℕ) (g q e o : ℕ) {z : Sizes} (h : 6 ≤ length l) (s : z ≡ sizesOf l) where
+  pub sized-no : ranged z ≡ false → false ≡ sizedBy l g q e o
+  unfolding sizedBy
+  sized-no f = rw (le-leb _ _ h, sym (ap ranged s) ∙ f)
+
+  pub sized-more : {r : Bool} → ranged z ≡ true → r ≡ long z (length l) g q e o → r ≡ sizedBy l g q e o
+  unfolding sizedBy
+  sized-more f k = rw (le-leb _ _ h, sym (ap ranged s) ∙ f) (k ∙ ap (λ (y : Sizes). long y (length l) g q e o) s)
+
 pub sized-means : (t : Tables) → sized t ≡ true → Sized (sizesOf (t .lists)) t
 unfolding sizedBy
 sized-means t e =
     let z = sizesOf (t .lists) in
     let l = length (t .lists) in
     let r = and-r (leb 6 l) (ranged z && long z l (length (t .grains)) (length (t .queue)) (length (t .events)) (length (t .order))) e in
-    let a = and-l (ranged z) (long z l (length (t .grains)) (length (t .queue)) (length (t .events)) (length (t .order))) r in
+    let a = ranged-means z (and-l (ranged z) (long z l (length (t .grains)) (length (t .queue)) (length (t .events)) (length (t .order))) r) in
     let b = and-r (ranged z) (long z l (length (t .grains)) (length (t .queue)) (length (t .events)) (length (t .order))) r in
-    let a2 = and-r (leb (z .grains) 256) ((leb 9 (z .cells) && leb (z .cells) 256) && (leb 16 (z .room) && leb (z .room) 256)) a in
-    let ac = and-l (leb 9 (z .cells) && leb (z .cells) 256) (leb 16 (z .room) && leb (z .room) 256) a2 in
-    let ar = and-r (leb 9 (z .cells) && leb (z .cells) 256) (leb 16 (z .room) && leb (z .room) 256) a2 in
     let lg = and-l (leb (listsNeed z) l && leb (grainsNeed z) (length (t .grains))) ((leb (queueNeed z) (length (t .queue)) && leb (eventsNeed z) (length (t .events))) && leb 512 (length (t .order))) b in
     let qo = and-r (leb (listsNeed z) l && leb (grainsNeed z) (length (t .grains))) ((leb (queueNeed z) (length (t .queue)) && leb (eventsNeed z) (length (t .events))) && leb 512 (length (t .order))) b in
     let qe = and-l (leb (queueNeed z) (length (t .queue)) && leb (eventsNeed z) (length (t .events))) (leb 512 (length (t .order))) qo in
     record {
       sizes = refl;
-      grains-most = leb-true _ _ (and-l (leb (z .grains) 256) ((leb 9 (z .cells) && leb (z .cells) 256) && (leb 16 (z .room) && leb (z .room) 256)) a);
-      cells-least = leb-true _ _ (and-l (leb 9 (z .cells)) (leb (z .cells) 256) ac);
-      cells-most = leb-true _ _ (and-r (leb 9 (z .cells)) (leb (z .cells) 256) ac);
-      room-least = leb-true _ _ (and-l (leb 16 (z .room)) (leb (z .room) 256) ar);
-      room-most = leb-true _ _ (and-r (leb 16 (z .room)) (leb (z .room) 256) ar);
+      grains-most = a .0;
+      cells-least = a .1;
+      cells-most = a .2;
+      room-least = a .3;
+      room-most = a .4;
       lists-long = leb-true _ _ (and-l (leb (listsNeed z) l) (leb (grainsNeed z) (length (t .grains))) lg);
       grains-long = leb-true _ _ (and-r (leb (listsNeed z) l) (leb (grainsNeed z) (length (t .grains))) lg);
       queue-long = leb-true _ _ (and-l (leb (queueNeed z) (length (t .queue))) (leb (eventsNeed z) (length (t .events))) qe);
@@ -81,50 +100,42 @@ module _ (z : Sizes) (t : Tables) (S : Sized z t) (L : Legible z (t .lists) (t .
   queue-rowed = record { counts = L .events; long = S .queue-long }
 
 -- ---- 10, up to the first test that fails
-module _ (z : Sizes) (t : Tables) where
+module _ (z : Sizes) (t : Tables) (S : Sized z t) where
   abbrev a : Bool
   a = legibleBy z (t .lists) (t .queue)
 
-  abbrev b : Bool
-  b = settled z (t .lists) (t .grains)
+  pub part-1 : a ≡ false → false ≡ standing t
+  part-1 e = rw (sym (parts-are z t S), e)
 
-  abbrev c : Bool
-  c = linked (z .grains) (z .cells) (homesIn z t) (membersIn z t)
+  pub part-2 : a ≡ true → settledIn z t ≡ false → false ≡ standing t
+  part-2 e f = rw (sym (parts-are z t S), e, f)
 
-  abbrev d : Bool
-  d = queued z (getD (t .grains) 2 nan) (t .queue) (t .events) (membersIn z t)
+  pub part-3 : a ≡ true → settledIn z t ≡ true → linkedIn z t ≡ false → false ≡ standing t
+  part-3 e f g = rw (sym (parts-are z t S), e, f, g)
 
-  pub part-1 : a ≡ false → false ≡ parts z t
-  unfolding parts
-  part-1 e = rw e
+  pub part-4 : a ≡ true → settledIn z t ≡ true → linkedIn z t ≡ true → queuedIn z t ≡ false → false ≡ standing t
+  part-4 e f g h = rw (sym (parts-are z t S), e, f, g, h)
 
-  pub part-2 : a ≡ true → b ≡ false → false ≡ parts z t
-  unfolding parts
-  part-2 e f = rw (e, f)
+  pub part-5 : {r : Bool} → a ≡ true → settledIn z t ≡ true → linkedIn z t ≡ true → queuedIn z t ≡ true → r ≡ heapedIn z t → r ≡ standing t
+  part-5 e f g h i = rw (sym (parts-are z t S), e, f, g, h) i
 
-  pub part-3 : a ≡ true → b ≡ true → c ≡ false → false ≡ parts z t
-  unfolding parts
-  part-3 e f g = rw (e, f, g)
+-- with the rows as they are lent
+module _ (z : Sizes) (t : Tables) where
+  abbrev lent : ℕ → List ℕ
+  lent k = midOf k (length (t .lists) - k) (t .lists)
 
-  pub part-4 : a ≡ true → b ≡ true → c ≡ true → d ≡ false → false ≡ parts z t
-  unfolding parts
-  part-4 e f g h = rw (e, f, g, h)
-
-  pub part-5 : {r : Bool} → a ≡ true → b ≡ true → c ≡ true → d ≡ true → r ≡ heaped z (t .order) (t .queue) (t .events) → r ≡ parts z t
-  unfolding parts
-  part-5 e f g h i = rw (e, f, g, h) i
-
-  -- with the rows as they are lent
-  pub linked-lent : {r : Bool} → r ≡ linked (z .grains) (z .cells) (rowsOf 8 (z .grains) (midOf 6 (length (t .lists) - 6) (t .lists)))
-      (rowsOf 32 (z .cells) (midOf (6 + z .grains * 9) (length (t .lists) - (6 + z .grains * 9)) (t .lists))) → c ≡ r
+  pub linked-lent : {r : Bool} → r ≡ linked (z .grains) (z .cells) (rowsOf 8 (z .grains) (lent 6)) (rowsOf 32 (z .cells) (lent (6 + z .grains * 9))) → linkedIn z t ≡ r
   linked-lent e =
-      sym (e
-      ∙ ap (λ (l : List ℕ). linked (z .grains) (z .cells) (rowsOf 8 (z .grains) l) (rowsOf 32 (z .cells) (midOf (6 + z .grains * 9) (length (t .lists) - (6 + z .grains * 9)) (t .lists)))) (tail-is 6 (t .lists))
+      sym (e ∙ ap (λ (l : List ℕ). linked (z .grains) (z .cells) (rowsOf 8 (z .grains) l) (rowsOf 32 (z .cells) (lent (6 + z .grains * 9)))) (tail-is 6 (t .lists))
       ∙ ap (λ (l : List ℕ). linked (z .grains) (z .cells) (homesIn z t) (rowsOf 32 (z .cells) l)) (tail-is (6 + z .grains * 9) (t .lists)))
 
-  pub queued-lent : {r : Bool}
-      → r ≡ queued z (getD (t .grains) 2 nan) (t .queue) (t .events) (rowsOf 32 (z .cells) (midOf (6 + z .grains * 9) (length (t .lists) - (6 + z .grains * 9)) (t .lists))) → d ≡ r
-  queued-lent e = sym (e ∙ ap (λ (l : List ℕ). queued z (getD (t .grains) 2 nan) (t .queue) (t .events) (rowsOf 32 (z .cells) l)) (tail-is (6 + z .grains * 9) (t .lists)))
+  abbrev queuedBy : Float → List (Row ℕ) → Bool
+  queuedBy c ms = queued c (z .room) (z .cells) ms (queuesOf (z .room) (z .cells) (t .queue) (t .events))
+
+  pub queued-lent : {r : Bool} {c : Float} → c ≡ clockIn (t .grains) → r ≡ queuedBy c (rowsOf 32 (z .cells) (lent (6 + z .grains * 9))) → queuedIn z t ≡ r
+  queued-lent h e =
+      sym (e ∙ ap (λ (x : Float). queuedBy x (rowsOf 32 (z .cells) (lent (6 + z .grains * 9)))) h
+      ∙ ap (λ (l : List ℕ). queuedBy (clockIn (t .grains)) (rowsOf 32 (z .cells) l)) (tail-is (6 + z .grains * 9) (t .lists)))
 
 -- ---- 2, the mark, 3, 10
 module _ (rate : Float) (t : Tables) where

@@ -1,64 +1,95 @@
 -- The tests that join others, as the code answers them. Assumes nothing.
-use mathlib.Core.Path.{_≡_, sym, ap, _∙_}
-use Prim.Native.Nat.{ℕ, _*_, _≤_}
-use native.Mathlib.Nat.{mul-le-mul}
+use mathlib.Core.Path.{_≡_, sym, ap, subst, _∙_}
+use Prim.Native.Nat.{ℕ, _+_, _*_, _≤_, _<_}
+use native.Mathlib.Nat.{zero-mul}
 use native.Mathlib.Omega.{arith}
 use mathlib.Core.List.{List, [], _∷_}
-use mathlib.Core.Bool.{Bool, true, false, _&&_}
+use mathlib.Core.Bool.{Bool, true, false}
 use lib.Dec.{eqb}
-use lib.ListN.{length, getD, take, drop}
-use lib.Ieee.{Float, le, fits}
+use lib.ListN.{length, getD, drop}
+use lib.Ieee.{Float, fits}
+use lib.Ieee.Scale.{finite}
+use borrow.Author.Tests.{eq-eqb, ne-eqb}
 use Rattle.halting.specs.Every.{every}
-use Rattle.order.specs.Numbers.{nine, fortyeight}
-use Rattle.scheduler.specs.Inside.{headIn}
-use Rattle.model.specs.Grid.{cellsOf}
-use Rattle.model.specs.Sizes.{within}
-use Rattle.model.specs.State.{Row}
+use Rattle.chunks.proofs.Laws.{tail-is}
+use Rattle.model.specs.declared.Domain.{Domain}
+use Rattle.model.specs.declared.Particle.{Particle}
+use Rattle.model.specs.declared.Place.{Place}
+use Rattle.model.specs.State.{Row, none, liveAt}
 use Rattle.model.specs.Standing.{syncs}
-use Rattle.model.specs.Check.{inverse}
-use Rattle.halting.proofs.Bools.{and-l, and-r}
-use Rattle.model.proofs.Queue.{T-of}
-use Rattle.model.proofs.Grid.{cells-range}
+use Rattle.model.specs.Check.{all, walk, boxWith, timely, settled, queueOk, queued, inverse, inOrder, heaped}
 use Rattle.tables.specs.declared.Sizes.{Sizes}
-use Rattle.tables.specs.Decode.{placesOf, queuesOf}
-use Rattle.checks.specs.Walk.{walk, inOrder}
-use Rattle.checks.specs.Held.{Fits}
-use Rattle.checks.specs.Parts.{queueIn, queued, heaped}
+use Rattle.tables.specs.Decode.{mark, boxIn, clockIn, grainsPart, grainsOf, placesOf, queueAt, queuesOf}
+use Rattle.checks.specs.Check.{counted}
+use Rattle.checks.specs.Answered.{AllFit}
+use Rattle.checks.proofs.Cut.{both-at, counted-at}
+use Rattle.checks.proofs.OnePlace.{queue-live}
 
-pub cells-fit : (x y : Float) → within nine fortyeight x ≡ true → within nine fortyeight y ≡ true → cellsOf x * cellsOf y ≤ 256
-cells-fit x y a b = mul-le-mul {m₁ = cellsOf y} {n₂ = 16} {m₂ = 16} (most x a) (most y b)
-  where
-    most : (l : Float) → within nine fortyeight l ≡ true → cellsOf l ≤ 16
-    most l e = cells-range l (T-of (le nine l) (and-l (le nine l) (le l fortyeight) e)) (T-of (le l fortyeight) (and-r (le nine l) (le l fortyeight) e)) .1
+-- the headers and the grains, up to the first test that fails, with the mark, the clock and the box as they are read
+module _ (z : Sizes) (l : List ℕ) (g : List Float) {m : ℕ} (e : m ≡ mark l) where
+  abbrev gs : List Particle
+  gs = grainsOf (z .grains) (grainsPart g)
 
-pub fits-mul : {a b x y : ℕ} → a ≡ x → b ≡ y → x * y ≤ 256 → a * b ≤ 256
-fits-mul e f h = rw (e, f) h
+  abbrev settledBy : Bool
+  settledBy = settled (mark l) (clockIn g) (boxIn l g) (z .cells) gs
 
-module _ (z : Sizes) (t : Float) (q : List ℕ) (e : List Float) (ms : List (Row ℕ)) where
-  pub queued-no : walk (queueIn t (z .room) (z .cells) ms) 0 (queuesOf (z .room) (z .cells) q e) ≡ false → false ≡ queued z t q e ms
+  pub settled-no : (m ≡ 0 → ⊥) → false ≡ settledBy
+  unfolding settled
+  settled-no f = rw (ne-eqb _ _ (λ k. f (e ∙ k)))
+
+  module _ {t : Float} (f : m ≡ 0) (h : t ≡ clockIn g) where
+    pub settled-no-2 : finite t ≡ false → false ≡ settledBy
+    unfolding settled
+    settled-no-2 q = rw (eq-eqb _ _ (sym e ∙ f), sym (ap finite h) ∙ q)
+
+    module _ {b : Domain} (q : finite t ≡ true) (i : b ≡ boxIn l g) where
+      pub settled-no-3 : boxWith b (z .cells) ≡ false → false ≡ settledBy
+      unfolding settled
+      settled-no-3 k = rw (eq-eqb _ _ (sym e ∙ f), sym (ap finite h) ∙ q, sym (ap (λ (x : Domain). boxWith x (z .cells)) i) ∙ k)
+
+      pub settled-more : {r : Bool} → boxWith b (z .cells) ≡ true → r ≡ all (timely t) gs → r ≡ settledBy
+      unfolding settled
+      settled-more k j =
+          rw (eq-eqb _ _ (sym e ∙ f), sym (ap finite h) ∙ q, sym (ap (λ (x : Domain). boxWith x (z .cells)) i) ∙ k) (j ∙ ap (λ (x : Float). all (timely x) gs) h)
+
+-- the synchronisations in cell 0's places
+module _ (t : Float) (room n : ℕ) (ms : List (Row ℕ)) (q : List ℕ) (e : List Float) where
+  abbrev each : Bool
+  each = walk (λ c r. queueOk t room n c (liveAt ms c) r) 0 (queuesOf room n q e)
+
+  pub queued-no : each ≡ false → false ≡ queued t room n ms (queuesOf room n q e)
   unfolding queued
-  queued-no h = sym (ap (λ (b : Bool). b && eqb (syncs (placesOf (getD q 0 0) (drop 1 q) e)) 1) h)
+  queued-no h = rw h
 
-  pub queued-more : {k : ℕ} → walk (queueIn t (z .room) (z .cells) ms) 0 (queuesOf (z .room) (z .cells) q e) ≡ true → k ≡ syncs (placesOf (getD q 0 0) (drop 1 q) e) → eqb k 1 ≡ queued z t q e ms
+  pub queued-more : {k : ℕ} → 0 < n → counted room (room * 4 + 1) n q ≡ true → each ≡ true → k ≡ syncs (placesOf (getD q 0 0) (drop 1 q) e) → eqb k 1 ≡ queued t room n ms (queuesOf room n q e)
   unfolding queued
-  queued-more h s = ap (λ (j : ℕ). eqb j 1) s ∙ sym (ap (λ (b : Bool). b && eqb (syncs (placesOf (getD q 0 0) (drop 1 q) e)) 1) h)
+  queued-more {k} some c h s = rw h (ap (λ (j : ℕ). eqb j 1) (s ∙ ap syncs (sym first)))
+    where
+      few : getD q 0 0 ≤ room
+      few = subst (λ (k : ℕ). getD (drop k q) 0 0 ≤ room) (zero-mul (room * 4 + 1)) (counted-at room (room * 4 + 1) n q 0 c some)
 
-module _ (z : Sizes) (o q : List ℕ) (e : List Float) where
-  pub heaped-no : inverse (z .cells) (take 256 o) (take 256 (drop 256 o)) ≡ false → false ≡ heaped z o q e
-  unfolding heaped
-  heaped-no h = rw h
+      first : liveAt (queuesOf room n q e) 0 ≡ placesOf (getD q 0 0) (drop 1 q) e
+      first =
+          ap (λ (r : Row Place). r .live) (both-at (queueAt room) (room * 4 + 1) (room * 10) n q e 0 none some)
+          ∙ ap (λ (k : ℕ). (queueAt room (drop k q) (drop (0 * (room * 10)) e)) .live) (zero-mul (room * 4 + 1))
+          ∙ ap (λ (k : ℕ). (queueAt room q (drop k e)) .live) (zero-mul (room * 10))
+          ∙ queue-live room q e few ∙ ap (λ (l : List ℕ). placesOf (getD q 0 0) l e) (tail-is 1 q)
 
-  pub heaped-no-2 : inverse (z .cells) (take 256 o) (take 256 (drop 256 o)) ≡ true → inverse (z .cells) (take 256 (drop 256 o)) (take 256 o) ≡ false → false ≡ heaped z o q e
+module _ (h : ℕ → Float) (n : ℕ) (a b : List ℕ) where
+  pub heaped-no : inverse n a b ≡ false → false ≡ heaped h n a b
   unfolding heaped
-  heaped-no-2 h k = rw (h, k)
+  heaped-no f = rw f
 
-  pub heaped-more : {r : Bool} → inverse (z .cells) (take 256 o) (take 256 (drop 256 o)) ≡ true → inverse (z .cells) (take 256 (drop 256 o)) (take 256 o) ≡ true
-      → r ≡ every (inOrder (headIn e q (z .room)) (take 256 o) (z .cells)) (z .cells) 0 → r ≡ heaped z o q e
+  pub heaped-no-2 : inverse n a b ≡ true → inverse n b a ≡ false → false ≡ heaped h n a b
   unfolding heaped
-  heaped-more h k i = rw (h, k) i
+  heaped-no-2 e f = rw (e, f)
+
+  pub heaped-more : {r : Bool} → inverse n a b ≡ true → inverse n b a ≡ true → r ≡ every (inOrder h a n) n 0 → r ≡ heaped h n a b
+  unfolding heaped
+  heaped-more e f g = rw (e, f) g
 
 -- a table with no place
-pub none-fits : (l : List Float) → length l ≤ 0 → Fits l
+pub none-fits : (l : List Float) → length l ≤ 0 → AllFit l
 unfolding fits
 none-fits [] h i = tt
 none-fits (x ∷ l) h i = absurd (omega arith)

@@ -1,17 +1,16 @@
--- 01: "A run checks 2, then the halt mark, then 3, then 10", over the lent tables. Assumes nothing: these are definitions.
-use Prim.Native.Nat.{ℕ, zero, suc, _≤_}
-use mathlib.Core.Path.{_≡_}
+-- 01: "A run checks 2, then the halt mark, then 3, then 10", over the lent tables; check 10 is the model's test of the state that they are read as. Assumes nothing: these are definitions.
+use Prim.Native.Nat.{ℕ, zero, suc}
 use mathlib.Core.List.{List}
-use mathlib.Core.Bool.{Bool, true, _&&_, cond}
+use mathlib.Core.Bool.{Bool, true, _&&_}
 use lib.Dec.{leb}
 use lib.ListN.{length, getD, drop}
 use lib.Ieee.{Float}
 use Rattle.layout.specs.Widths.{listsHeadWide, homeWide, membersWide, queueWide}
 use Rattle.model.specs.Sizes.{memberRoom, homeRoom, rated}
-use Rattle.model.specs.Check.{halt}
+use Rattle.model.specs.Check.{runChecks}
 use Rattle.model.specs.Check as model
 use Rattle.tables.specs.declared.Sizes.{Sizes}
-use Rattle.tables.specs.Lengths.{listsNeed, grainsNeed, queueNeed, eventsNeed, orderNeed, long}
+use Rattle.tables.specs.Lengths.{long}
 use Rattle.tables.specs.Decode.{Tables, mark, sizesOf, flagsFine, homesPart, membersPart, decoded}
 
 -- ---- 2: a count is out of range, or a lent table is shorter than the counts need
@@ -24,19 +23,6 @@ sizedBy l g q e o = leb listsHeadWide (length l) && (ranged (sizesOf l) && long 
 
 abbrev pub sized : Tables → Bool
 sized t = sizedBy (t .lists) (length (t .grains)) (length (t .queue)) (length (t .events)) (length (t .order))
-
-pub record Sized (z : Sizes) (t : Tables) : Type 0 where
-  pub sizes : z ≡ sizesOf (t .lists)
-  pub grains-most : z .grains ≤ 256
-  pub cells-least : 9 ≤ z .cells
-  pub cells-most : z .cells ≤ 256
-  pub room-least : 16 ≤ z .room
-  pub room-most : z .room ≤ 256
-  pub lists-long : listsNeed z ≤ length (t .lists)
-  pub grains-long : grainsNeed z ≤ length (t .grains)
-  pub queue-long : queueNeed z ≤ length (t .queue)
-  pub events-long : eventsNeed z ≤ length (t .events)
-  pub order-long : orderNeed ≤ length (t .order)
 
 -- ---- 10: the standing facts. What a state cannot show: each list count is within its room, and a flag is 0 or 1
 unfoldable pub counted : ℕ → ℕ → ℕ → List ℕ → Bool
@@ -52,16 +38,9 @@ legibleBy z l q =
 abbrev pub legible : Tables → Bool
 legible t = legibleBy (sizesOf (t .lists)) (t .lists) (t .queue)
 
-pub record Legible (z : Sizes) (l q : List ℕ) : Type 0 where
-  pub flag0 : getD l 4 0 ≤ 1
-  pub flag1 : getD l 5 0 ≤ 1
-  pub homes : counted homeRoom homeWide (z .grains) (homesPart l) ≡ true
-  pub members : counted memberRoom membersWide (z .cells) (membersPart (z .grains) l) ≡ true
-  pub events : counted (z .room) (queueWide (z .room)) (z .cells) q ≡ true
-
 unfoldable pub standing : Tables → Bool
 standing t = legible t && model.standing (decoded t)
 
 -- ---- 2, the mark, 3, 10: the number that refuses the run, 0 for none
 unfoldable pub checked : Float → Tables → ℕ
-checked rate t = cond (sized t) (cond (halt (mark (t .lists))) (mark (t .lists)) (cond (rated rate) (cond (standing t) 0 10) 3)) 2
+checked rate t = runChecks (sized t) (mark (t .lists)) (rated rate) (standing t) (λ r. r) 0

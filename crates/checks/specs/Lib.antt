@@ -1,5 +1,4 @@
--- What a run tests before it does anything (Check), the same as the code goes through the tables (Walk, Parts), and what tables hold (Held).
+-- What a run tests before it does anything (Check), what it answers (Answered), and what the inner functions ask (Inside).
 pub mod Check
-pub mod Walk
-pub mod Parts
-pub mod Held
+pub mod Answered
+pub mod Inside

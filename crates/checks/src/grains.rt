@@ -3,15 +3,14 @@ ghost use mathlib.Core.Path.{_≡_};
 ghost use Prim.Native.Nat.{_*_, _≤_};
 ghost use lib.ListN.{length};
 ghost use Rattle.layout.specs.Widths.{grainWide};
-ghost use Rattle.model.specs.Check.{all};
+ghost use Rattle.model.specs.Check.{all, timely};
 ghost use Rattle.tables.specs.Decode.{grainsOf};
-ghost use Rattle.checks.specs.Parts.{grainOk};
 use layout::GRAIN;
 
 // Are the numbers of n grains finite, and their times at most t?
 pub fn settled(reals: &[f64], n: usize, t: f64) -> bool
     requires { ⌜ n * grainWide ≤ length (now reals) ⌝ }
-    ensures { λ r. ⌜ r ≡ all (grainOk t) (grainsOf n (now (reals .entry))) ⌝ }
+    ensures { λ r. ⌜ r ≡ all (timely t) (grainsOf n (now (reals .entry))) ⌝ }
 {
     if n == 0 {
         return true;

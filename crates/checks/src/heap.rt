@@ -4,8 +4,7 @@ ghost use Prim.Native.Nat.{_≤_, _<_};
 ghost use lib.ListN.{length};
 ghost use Rattle.halting.specs.Every.{every};
 ghost use Rattle.scheduler.specs.Inside.{headIn};
-ghost use Rattle.model.specs.Check.{inverse};
-ghost use Rattle.checks.specs.Walk.{leadsBack, inOrder};
+ghost use Rattle.model.specs.Check.{leadsBack, inverse, inOrder};
 
 // Is each of the first n of `a` below n, and does `b` lead back from it?
 pub fn inverse(a: &[u8], b: &[u8], n: usize) -> bool

@@ -1,16 +1,16 @@
 // What a run tests before it does anything, over the lent tables: 2, the halt mark, 3, 10.
 ghost use mathlib.Core.Path.{_≡_};
 ghost use Prim.Native.Nat.{_≤_};
-ghost use lib.ListN.{length};
-ghost use Rattle.layout.specs.Widths.{listsHeadWide, membersWide, queueWide, eventsFrom, orderWide};
+ghost use lib.ListN.{length, take, drop};
+ghost use Rattle.layout.specs.Widths.{listsHeadWide, membersWide, queueWide, eventsFrom, heapWide, orderWide};
 ghost use Rattle.model.specs.Sizes.{memberRoom, countsOk, rated};
-ghost use Rattle.model.specs.Check.{halt};
-ghost use Rattle.tables.specs.Decode.{tables, sizesOf, rowsOf};
-ghost use Rattle.checks.specs.Check.{sizedBy, Sized, legibleBy, standing};
-ghost use Rattle.tables.specs.Lengths.{lengthsFor, long, listsNeed, grainsNeed, queueNeed};
-ghost use Rattle.checks.specs.Held.{Answered};
-ghost use Rattle.checks.specs.Walk.{Rowed};
-ghost use Rattle.checks.specs.Parts.{settled, queued, heaped};
+ghost use Rattle.scheduler.specs.Inside.{headIn};
+ghost use Rattle.model.specs.Check.{settled, queued, heaped, halt};
+ghost use Rattle.tables.specs.Decode.{tables, mark, boxIn, clockIn, grainsPart, grainsOf, rowsOf, queuesOf};
+ghost use Rattle.checks.specs.Check.{ranged, sizedBy, legibleBy, standing};
+ghost use Rattle.tables.specs.Lengths.{listsNeed, grainsNeed, queueNeed};
+ghost use Rattle.checks.specs.Answered.{Answered};
+ghost use Rattle.checks.specs.Inside.{Sized, Rowed};
 use layout::GRAINS_HEAD;
 use layout::HEAP;
 use layout::HOME;
@@ -21,6 +21,7 @@ use layout::MEMBERS;
 use layout::ORDER;
 use layout::PLACE_NUMS;
 use tables::Sizes;
+use tables::headers;
 
 mod domain;
 mod floats;
@@ -28,18 +29,6 @@ mod grains;
 mod heap;
 mod places;
 mod rows;
-
-// The counts that a table of lists begins with, behind the mark.
-pub fn sizes_of(lists: &[u64]) -> Sizes
-    requires { ⌜ 4 ≤ length (now lists) ⌝ }
-    ensures { λ r. ⌜ r ≡ sizesOf (now (lists .entry)) ⌝ }
-{
-    Sizes {
-        grains: lists[1] as usize,
-        cells: lists[2] as usize,
-        room: lists[3] as usize,
-    }
-}
 
 // Are a start's counts of grains and of events a cell in range?
 pub fn counts_ok(grains: u64, room: u64) -> bool
@@ -54,6 +43,25 @@ pub fn counts_ok(grains: u64, room: u64) -> bool
     room <= 256
 }
 
+// Are the counts of some tables in range?
+fn ranged(z: Sizes) -> bool
+    ensures { λ r. ⌜ r ≡ ranged z ⌝ }
+{
+    if 256 < z.grains {
+        return false;
+    }
+    if z.cells < 9 {
+        return false;
+    }
+    if 256 < z.cells {
+        return false;
+    }
+    if z.room < 16 {
+        return false;
+    }
+    z.room <= 256
+}
+
 // Check 2: are the counts in range, and the tables as long as they need?
 pub fn sized(lists: &[u64], grains: usize, queue: usize, events: usize, order: usize) -> bool
     ensures { λ r. ⌜ r ≡ sizedBy (now (lists .entry)) grains queue events order ⌝ }
@@ -61,22 +69,10 @@ pub fn sized(lists: &[u64], grains: usize, queue: usize, events: usize, order: u
     if lists.len() < LISTS_HEAD {
         return false;
     }
-    if 256 < lists[1] {
+    let z = headers::sizes_of(lists);
+    if !ranged(z) {
         return false;
     }
-    if lists[2] < 9 {
-        return false;
-    }
-    if 256 < lists[2] {
-        return false;
-    }
-    if lists[3] < 16 {
-        return false;
-    }
-    if 256 < lists[3] {
-        return false;
-    }
-    let z = sizes_of(lists);
     tables::lengths::long(z, lists.len(), grains, queue, events, order)
 }
 
@@ -102,10 +98,7 @@ fn legible(lists: &[u64], queue: &[u64], z: Sizes) -> bool
     requires { ⌜ (listsNeed z ≤ length (now lists)) × (queueNeed z ≤ length (now queue)) × (z .grains ≤ 256) × (z .cells ≤ 256) × (z .room ≤ 256) ⌝ }
     ensures { λ r. ⌜ r ≡ legibleBy z (now (lists .entry)) (now (queue .entry)) ⌝ }
 {
-    if 1 < lists[4] {
-        return false;
-    }
-    if 1 < lists[5] {
+    if !headers::flags_fine(lists) {
         return false;
     }
     let g = z.grains;
@@ -125,16 +118,16 @@ fn legible(lists: &[u64], queue: &[u64], z: Sizes) -> bool
 // The headers and the grains: no mark, a finite clock, a box in range with these cells, and grains that are finite and not past the clock.
 fn settled(lists: &[u64], grains: &[f64], z: Sizes) -> bool
     requires { ⌜ (listsHeadWide ≤ length (now lists)) × (grainsNeed z ≤ length (now grains)) ⌝ }
-    ensures { λ r. ⌜ r ≡ settled z (now (lists .entry)) (now (grains .entry)) ⌝ }
+    ensures { λ r. ⌜ r ≡ settled (mark (now (lists .entry))) (clockIn (now (grains .entry))) (boxIn (now (lists .entry)) (now (grains .entry))) (z .cells) (grainsOf (z .grains) (grainsPart (now (grains .entry)))) ⌝ }
 {
-    if lists[0] != 0 {
+    if headers::mark(lists) != 0 {
         return false;
     }
-    let clock = grains[2];
+    let clock = headers::clock(grains);
     if !particle::is_finite(clock) {
         return false;
     }
-    if !domain::boxed(grains[0], grains[1], z.cells) {
+    if !domain::boxed(headers::domain_of(lists, grains), z.cells) {
         return false;
     }
     grains::settled(&grains[GRAINS_HEAD..], z.grains, clock)
@@ -143,7 +136,7 @@ fn settled(lists: &[u64], grains: &[f64], z: Sizes) -> bool
 // The queues: each as it should be, and one synchronisation in cell 0's.
 fn queued(queue: &[u64], events: &[f64], members: &[u64], z: Sizes, clock: f64) -> bool
     requires { ⌜ Rowed (z .room) (queueWide (z .room)) (z .cells) (now queue) × (eventsFrom (z .room) (z .cells) ≤ length (now events)) × (z .room ≤ 256) × Rowed memberRoom membersWide (z .cells) (now members) × (z .cells ≤ 256) × (9 ≤ z .cells) ⌝ }
-    ensures { λ r. ⌜ r ≡ queued z clock (now (queue .entry)) (now (events .entry)) (rowsOf memberRoom (z .cells) (now (members .entry))) ⌝ }
+    ensures { λ r. ⌜ r ≡ queued clock (z .room) (z .cells) (rowsOf memberRoom (z .cells) (now (members .entry))) (queuesOf (z .room) (z .cells) (now (queue .entry)) (now (events .entry))) ⌝ }
 {
     let n = z.cells;
     let room = z.room;
@@ -157,7 +150,7 @@ fn queued(queue: &[u64], events: &[f64], members: &[u64], z: Sizes, clock: f64) 
 // The heap: inverse to its lookups on the cells, and in order.
 fn heaped(order: &[u8], queue: &[u64], events: &[f64], z: Sizes) -> bool
     requires { ⌜ (orderWide ≤ length (now order)) × (z .room ≤ 256) × (z .cells ≤ 256) ⌝ }
-    ensures { λ r. ⌜ r ≡ heaped z (now (order .entry)) (now (queue .entry)) (now (events .entry)) ⌝ }
+    ensures { λ r. ⌜ r ≡ heaped (headIn (now (events .entry)) (now (queue .entry)) (z .room)) (z .cells) (take heapWide (now (order .entry))) (take heapWide (drop heapWide (now (order .entry)))) ⌝ }
 {
     let n = z.cells;
     if !heap::inverse(&order[..HEAP], &order[HEAP..ORDER], n) {
@@ -191,7 +184,7 @@ pub fn standing(
     if !rows::linked(&lists[LISTS_HEAD..], &lists[a..], z.grains, z.cells) {
         return false;
     }
-    if !queued(queue, events, &lists[a..], z, grains[2]) {
+    if !queued(queue, events, &lists[a..], z, headers::clock(grains)) {
         return false;
     }
     heaped(order, queue, events, z)
@@ -213,14 +206,14 @@ pub fn check(
     if !sized(lists, grains.len(), queue.len(), events.len(), order.len()) {
         return 2;
     }
-    let mark = lists[0];
+    let mark = headers::mark(lists);
     if halt(mark) {
         return mark;
     }
     if !rated(rate) {
         return 3;
     }
-    let z = sizes_of(lists);
+    let z = headers::sizes_of(lists);
     if !standing(lists, grains, queue, events, order, z) {
         return 10;
     }

@@ -6,10 +6,10 @@ ghost use lib.ListN.{length, take};
 ghost use Rattle.layout.specs.Widths.{homeWide, membersWide};
 ghost use Rattle.model.specs.Sizes.{homeRoom, memberRoom};
 ghost use Rattle.model.specs.State.{has, liveAt};
-ghost use Rattle.model.specs.Check.{all, once, numbers};
+ghost use Rattle.model.specs.Check.{all, walk, once, numbers, backRow, housed, linked};
 ghost use Rattle.tables.specs.Decode.{rowAt, rowsOf};
 ghost use Rattle.checks.specs.Check.{counted};
-ghost use Rattle.checks.specs.Walk.{First, Rowed, walk, backRow, housed, linked};
+ghost use Rattle.checks.specs.Inside.{First, Rowed};
 use layout::HOME_ROOM;
 use layout::MEMBER_ROOM;
 

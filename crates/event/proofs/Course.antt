@@ -3,12 +3,13 @@ use Prim.Native.Nat.{ℕ}
 use mathlib.Core.Path.{_≡_, refl, ap, _∙_}
 use mathlib.Core.Bool.{Bool, true, false, not, cond}
 use lib.Ieee.{Float, binary64, div, lt}
-use Rattle.order.specs.Numbers.{fzero, half}
+use Rattle.order.specs.Numbers.{fzero}
 use Rattle.halting.proofs.Bools.{itself, either}
 use Rattle.myvec.specs.Vec.{along}
 use Rattle.model.specs.declared.Domain.{Domain}
 use Rattle.model.specs.declared.Particle.{Particle}
 use Rattle.model.specs.declared.CellPosition.the-variants.{NegativeEdge, Centre, PositiveEdge}
+use Rattle.model.specs.Constants.{radiusOf}
 use Rattle.model.specs.Grid.{lengthOf, periodic}
 use Rattle.model.specs.Moves.{shut, moveDt, aside, gap}
 use Rattle.model.specs.Walls.{noWall, wallVal}
@@ -20,13 +21,13 @@ use Rattle.event.specs.declared.util.Course.{Course}
 use Rattle.event.specs.Course.{courseOf, lowIn, stillIn, edgeIn, shutIn, gapIn, dtIn, asideIn, noWallIn, wallValIn}
 
 -- ---- a course, from what is read of the box, the cell and the grain
-pub course-by : (b : Domain) (k : Cell) (d : ℕ) (p : Particle) (per : Bool) (l x v : Float) (a : CellAlong) → IsCell b k
-    → per ≡ periodic d b → l ≡ lengthOf d b → x ≡ along d (p .pos) → v ≡ along d (p .vel) → a ≡ alongIn k d
-    → record { periodic = per; length = l; pos = x; vel = v; cell = a } ≡ courseOf d b (k .index) p
+pub course-by : (b : Domain) (k : Cell) (d : ℕ) (p : Particle) (per : Bool) (l x v rad : Float) (a : CellAlong) → IsCell b k
+    → per ≡ periodic d b → l ≡ lengthOf d b → x ≡ along d (p .pos) → v ≡ along d (p .vel) → rad ≡ radiusOf p → a ≡ alongIn k d
+    → record { periodic = per; length = l; pos = x; vel = v; rad = rad; cell = a } ≡ courseOf d b (k .index) p
 unfolding courseOf
-course-by b k d p per l x v a h e f g i j =
+course-by b k d p per l x v rad a h e f g i r j =
     let w : a ≡ cellAlong d b (k .index) = j ∙ along-cell b k d h in
-    λ t. record { periodic = e t; length = f t; pos = g t; vel = i t; cell = w t }
+    λ t. record { periodic = e t; length = f t; pos = g t; vel = i t; rad = r t; cell = w t }
 
 -- ---- its answers
 module _ (m : Course) where
@@ -67,9 +68,10 @@ module _ (d : ℕ) (b : Domain) (c : ℕ) (p : Particle) (m : Course) (M : m ≡
   unfolding courseOf cellAlong
   shut-is = ap shutIn M
 
-  pub dt-is : (rad : Float) → dtIn m rad ≡ moveDt d b c rad p
+  -- to the neighbour with the radius, out of the cell with its sign flipped
+  pub dt-is : (f : Float → Float) → dtIn m (f (m .rad)) ≡ moveDt d b c (f (radiusOf p)) p
   unfolding courseOf cellAlong
-  dt-is rad = ap (λ (m : Course). dtIn m rad) M
+  dt-is f = ap (λ (m : Course). dtIn m (f (m .rad))) M
 
   pub aside-is : asideIn m ≡ aside d b c p
   unfolding courseOf cellAlong
@@ -83,10 +85,10 @@ module _ (d : ℕ) (b : Domain) (c : ℕ) (p : Particle) (m : Course) (M : m ≡
   unfolding courseOf
   vel-is = ap (λ (m : Course). m .vel) M
 
-  pub wall-dt-is : div binary64 (gapIn m half) (m .vel) ≡ div binary64 (gap d b c half p) (along d (p .vel))
+  pub wall-dt-is : div binary64 (gapIn m (m .rad)) (m .vel) ≡ div binary64 (gap d b c (radiusOf p) p) (along d (p .vel))
   unfolding courseOf cellAlong
-  wall-dt-is = ap (λ (m : Course). div binary64 (gapIn m half) (m .vel)) M
+  wall-dt-is = ap (λ (m : Course). div binary64 (gapIn m (m .rad)) (m .vel)) M
 
-  pub wall-val-is : wallValIn m (p .val) ≡ wallVal d p
+  pub wall-val-is : wallValIn b d m (p .val) ≡ wallVal d b p
   unfolding courseOf
-  wall-val-is = ap (λ (m : Course). wallValIn m (p .val)) M
+  wall-val-is = ap (λ (m : Course). wallValIn b d m (p .val)) M

@@ -3,17 +3,19 @@
 use Prim.Native.Nat.{ℕ}
 use mathlib.Core.Bool.{Bool, not, _&&_, _||_, cond}
 use lib.Ieee.{Float, binary64, add, sub, mul, div, lt, eq}
-use Rattle.order.specs.Numbers.{fzero, one, half}
+use Rattle.order.specs.Numbers.{fzero}
 use Rattle.myvec.specs.Vec.{along}
 use Rattle.model.specs.declared.Domain.{Domain}
 use Rattle.model.specs.declared.Particle.{Particle}
+use Rattle.model.specs.Constants.{radiusOf, wallOf, wallFactor}
 use Rattle.model.specs.Grid.{lengthOf, periodic, isLow, isHigh}
 use Rattle.model.specs.Periodic.{corrected}
 use Rattle.cell.specs.Cell.{cellAlong}
 use Rattle.event.specs.declared.util.Course.{Course}
 
 unfoldable pub courseOf : ℕ → Domain → ℕ → Particle → Course
-courseOf d b c p = record { periodic = periodic d b; length = lengthOf d b; pos = along d (p .pos); vel = along d (p .vel); cell = cellAlong d b c }
+courseOf d b c p =
+    record { periodic = periodic d b; length = lengthOf d b; pos = along d (p .pos); vel = along d (p .vel); rad = radiusOf p; cell = cellAlong d b c }
 
 abbrev pub lowIn : Course → Bool
 lowIn m = lt (m .vel) fzero
@@ -39,8 +41,5 @@ asideIn m = cond (lowIn m) (m .cell .below) (m .cell .above)
 abbrev pub noWallIn : Course → Bool
 noWallIn m = m .periodic || (stillIn m || not (edgeIn m))
 
-abbrev pub wallIn : Course → Float
-wallIn m = cond (lowIn m) fzero one
-
-abbrev pub wallValIn : Course → Float → Float
-wallValIn m val = mul binary64 half (add binary64 (wallIn m) val)
+abbrev pub wallValIn : Domain → ℕ → Course → Float → Float
+wallValIn b d m val = mul binary64 wallFactor (add binary64 (wallOf b d (lowIn m)) val)

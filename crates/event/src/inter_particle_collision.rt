@@ -33,17 +33,26 @@ fn time_of(d: f64, a: f64, b: f64) -> Contact
     }
 }
 
+// How far apart two grains are that touch.
+fn reach(p: Particle, q: Particle) -> f64
+    ensures { λ r. ⌜ r ≡ collision.reach p q ⌝ }
+{
+    p.radius() + q.radius()
+}
+
+// The least a that gives an event: f64::EPSILON.
+const LEAST_A: f64 = 2.220446049250313e-16;
+
 // When two grains touch that are dpos apart and whose velocities differ by dvel: a dt² + 2 b dt + c = 0.
-fn contact(dpos: MyVec, dvel: MyVec) -> Contact
-    ensures { λ r. ⌜ contactTold r ≡ contactTold (collision.collide dpos dvel) ⌝ }
+fn contact(reach: f64, dpos: MyVec, dvel: MyVec) -> Contact
+    ensures { λ r. ⌜ contactTold r ≡ contactTold (collision.collide reach dpos dvel) ⌝ }
 {
     let a = dvel.dot(dvel);
     let b = dvel.dot(dpos);
-    let reach = Particle::RADIUS + Particle::RADIUS;
     let c = dpos.dot(dpos) - reach * reach;
     let d = b * b - a * c;
     // their velocities are nearly equal
-    if a < 2.220446049250313e-16 {
+    if a < LEAST_A {
         return Contact::Never;
     }
     // they move apart
@@ -61,12 +70,20 @@ fn contact(dpos: MyVec, dvel: MyVec) -> Contact
     time_of(d, a, b)
 }
 
+// The size of gravity in a wall-bounded direction, and the mean value that does not feel it.
+const GRAVITY: f64 = 0.5;
+
+const NEUTRAL_VAL: f64 = 0.5;
+
 // Gravity in a direction, by whether it is periodic.
 fn pull(periodic: bool) -> f64
     ensures { λ r. ⌜ r ≡ collision.pull periodic ⌝ }
 {
-    if periodic { 0.0 } else { -0.5 }
+    if periodic { 0.0 } else { -GRAVITY }
 }
+
+// What each of two velocities counts in that of the centre, and how much of their difference each grain has besides.
+const CENTRE_FACTOR: f64 = 0.5;
 
 // The velocity of the two together, with the gravity that their mean value feels.
 fn centre(domain: Domain, p: Particle, q: Particle) -> MyVec
@@ -74,15 +91,18 @@ fn centre(domain: Domain, p: Particle, q: Particle) -> MyVec
 {
     let gravity = MyVec::new(pull(domain.periodic0), pull(domain.periodic1));
     p.vel
-        .times(0.5)
-        .add(q.vel.times(0.5))
-        .add(gravity.times(mean(p, q) - 0.5))
+        .times(CENTRE_FACTOR)
+        .add(q.vel.times(CENTRE_FACTOR))
+        .add(gravity.times(mean(p, q) - NEUTRAL_VAL))
 }
+
+// What each of two values counts in their mean.
+const MEAN_FACTOR: f64 = 0.5;
 
 fn mean(p: Particle, q: Particle) -> f64
     ensures { λ r. ⌜ r ≡ collision.mean p q ⌝ }
 {
-    0.5 * p.val + 0.5 * q.val
+    MEAN_FACTOR * p.val + MEAN_FACTOR * q.val
 }
 
 // The difference of their velocities afterwards, n being the unit vector from the one to the other.
@@ -93,12 +113,11 @@ fn bounced(dvel: MyVec, n: MyVec) -> MyVec
 }
 
 // The unit vector from the one to the other at their new positions.
-fn normal(domain: Domain, cell: Cell, x: MyVec, y: MyVec) -> MyVec
+fn normal(domain: Domain, cell: Cell, reach: f64, x: MyVec, y: MyVec) -> MyVec
     requires { ⌜ IsCell domain cell ⌝ }
-    ensures { λ r. ⌜ r ≡ collision.normal domain (cell .index) x y ⌝ }
+    ensures { λ r. ⌜ r ≡ collision.normal domain (cell .index) reach x y ⌝ }
 {
-    cell.apart(domain, y.sub(x))
-        .over(Particle::RADIUS + Particle::RADIUS)
+    cell.apart(domain, y.sub(x)).over(reach)
 }
 
 // What is stored of the two after dt.
@@ -109,7 +128,8 @@ fn struck(domain: Domain, cell: Cell, i: u64, j: u64, p: Particle, q: Particle, 
     let p_pos = particle::get_new_pos(domain, p.pos, p.vel, dt);
     let q_pos = particle::get_new_pos(domain, q.pos, q.vel, dt);
     let gvel = centre(domain, p, q);
-    let dvel = bounced(q.vel.sub(p.vel), normal(domain, cell, p_pos, q_pos)).times(0.5);
+    let n = normal(domain, cell, reach(p, q), p_pos, q_pos);
+    let dvel = bounced(q.vel.sub(p.vel), n).times(CENTRE_FACTOR);
     Event::InterParticleCollision {
         p: i,
         q: j,
@@ -135,7 +155,7 @@ pub fn schedule(
 {
     let dpos = cell.apart(domain, q.pos.sub(p.pos));
     let dvel = q.vel.sub(p.vel);
-    match contact(dpos, dvel) {
+    match contact(reach(p, q), dpos, dvel) {
         Contact::Never => Plan::Nothing,
         Contact::After(dt) => util::due(time, dt, struck(domain, cell, i, j, p, q, dt)),
         Contact::Refused => Plan::Refused,

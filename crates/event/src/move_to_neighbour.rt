@@ -19,7 +19,7 @@ pub fn schedule(domain: Domain, time: f64, cell: Cell, dim: usize, i: u64, p: Pa
     if course.shut() {
         return Plan::Nothing;
     }
-    let dt = course.dt(Particle::RADIUS);
+    let dt = course.dt(course.rad);
     if dt <= 0.0 {
         return Plan::Nothing;
     }

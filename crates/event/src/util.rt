@@ -18,6 +18,7 @@ pub struct Course {
     pub length: f64,
     pub pos: f64,
     pub vel: f64,
+    pub rad: f64,
     pub cell: CellAlong,
 }
 
@@ -31,6 +32,7 @@ impl Course {
             length: domain.lengths.along(dim),
             pos: p.pos.along(dim),
             vel: p.vel.along(dim),
+            rad: p.radius(),
             cell: cell.along(dim),
         }
     }

@@ -1,9 +1,10 @@
 // When a grain reflects at a wall in a direction, and what it then is.
 ghost use mathlib.Core.Path.{_≡_};
+ghost use Rattle.model.specs.Constants.{wallOf};
 ghost use Rattle.model.specs.Walls.{wall};
 ghost use Rattle.model.specs.Reports.{planTold};
 ghost use Rattle.cell.specs.Cell.{IsCell};
-ghost use Rattle.event.specs.Course.{noWallIn, wallIn, wallValIn};
+ghost use Rattle.event.specs.Course.{noWallIn, wallValIn};
 use crate::util;
 use crate::util::Course;
 use cell::Cell;
@@ -25,18 +26,21 @@ fn no_wall(course: Course) -> bool
     !course.at_edge()
 }
 
-// The value of the wall that it moves to.
-fn wall_val(course: Course) -> f64
-    ensures { λ r. ⌜ r ≡ wallIn course ⌝ }
+// The value that the low or the high wall of a direction fixes: the same in every box and direction.
+fn wall_of(domain: Domain, dim: usize, low: bool) -> f64
+    ensures { λ r. ⌜ r ≡ wallOf domain dim low ⌝ }
 {
-    if course.vel < 0.0 { 0.0 } else { 1.0 }
+    if low { 0.0 } else { 1.0 }
 }
 
-// Half of the wall's value plus the grain's.
-fn new_val(course: Course, val: f64) -> f64
-    ensures { λ r. ⌜ r ≡ wallValIn course val ⌝ }
+// The factor of wall plus old.
+const WALL_FACTOR: f64 = 0.5;
+
+// A grain's value after its reflection.
+fn new_val(domain: Domain, dim: usize, course: Course, val: f64) -> f64
+    ensures { λ r. ⌜ r ≡ wallValIn domain dim course val ⌝ }
 {
-    0.5 * (wall_val(course) + val)
+    WALL_FACTOR * (wall_of(domain, dim, course.vel < 0.0) + val)
 }
 
 pub fn schedule(domain: Domain, time: f64, cell: Cell, dim: usize, i: u64, p: Particle) -> Plan
@@ -47,13 +51,13 @@ pub fn schedule(domain: Domain, time: f64, cell: Cell, dim: usize, i: u64, p: Pa
     if no_wall(course) {
         return Plan::Nothing;
     }
-    let dt = course.gap(Particle::RADIUS) / course.vel;
+    let dt = course.gap(course.rad) / course.vel;
     if dt <= 0.0 {
         return Plan::Nothing;
     }
     let pos = particle::get_new_pos(domain, p.pos, p.vel, dt);
     let vel = p.vel.bent(dim, -course.vel);
-    let val = new_val(course, p.val);
+    let val = new_val(domain, dim, course, p.val);
     util::due(
         time,
         dt,

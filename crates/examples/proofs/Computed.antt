@@ -5,22 +5,22 @@ use lib.Count.{leadingZeros}
 use lib.Ieee.{ofBits, toBits, round, add, sub, mul, div, neg, lt, le, eq, ofInt, toUnsigned}
 use Rattle.root.specs.Isqrt.{near, root}
 use Rattle.root.specs.Root.{rootOf, sqrtOf}
-use Rattle.halting.specs.Out.{each, eachOf}
 use Rattle.scheduler.specs.Heap.{timeIn, swapAt, childIn, down, downshifted, parentIn, up, upshifted, updated, numbered, start as startHeap}
 use Rattle.model.specs.Sizes.{firstBad}
 use Rattle.model.specs.Grid.{across, position}
 use Rattle.model.specs.Stepping.{newPos}
 use Rattle.model.specs.Periodic.{apart}
-use Rattle.model.specs.FromPToC.{upFrom, reached, rows, cellsOfGrain}
+use Rattle.model.specs.FromPToC.{upFrom, reached, cellsAt, cellsOfGrain}
 use Rattle.model.specs.Collision.{collision}
 use Rattle.model.specs.Moves.{later, toNeighbour, outOfCell}
 use Rattle.model.specs.Walls.{wall}
 use Rattle.model.specs.Events.{insertBy, keepBy, goneBy, finePlace}
 use Rattle.model.specs.State.{heads, requeued, has, but}
 use Rattle.model.specs.Acts.{fineGrain, store, insert, cancelled, enter, leave, taken}
-use Rattle.model.specs.Doing.{others, stepGrain, boundaries, scheduleWith, scheduleEvents, again, forget, doCollision, doNeighbour, doOut, doWall, doSync, event, step}
-use Rattle.model.specs.Start.{clear, goesIn, pairs, initCell, begin, start}
-use Rattle.model.specs.Check.{all, sound, standing, runAll}
+use Rattle.model.specs.Rows.{others, doing, before, ofEach, inTurn, pairing}
+use Rattle.model.specs.Execute.{event, step}
+use Rattle.model.specs.Start.{clear, begin, start}
+use Rattle.model.specs.Check.{all, walk, settled, queued, heaped, standing, runAll}
 use Rattle.model.specs.Standing.{syncs}
 use Rattle.model.specs.Run.{runFrom}
 use Rattle.halting.specs.Every.{every}
@@ -41,18 +41,18 @@ abbrev traces : List Trace
 traces = correction ∷ empty ∷ fast ∷ oddLengths ∷ periodic ∷ still ∷ touching ∷ walls ∷ wallsInY ∷ []
 
 pub traces-follow : T (all follows traces)
-unfolding correction empty fast oddLengths periodic still touching walls wallsInY round add sub mul div neg lt le eq ofInt toUnsigned ofBits toBits rootOf sqrtOf near root leadingZeros across position newPos apart upFrom reached rows cellsOfGrain collision later toNeighbour outOfCell wall insertBy keepBy goneBy finePlace heads requeued has but fineGrain store insert cancelled enter leave taken others stepGrain boundaries scheduleWith scheduleEvents again forget doCollision doNeighbour doOut doWall doSync event step firstBad clear goesIn pairs initCell begin start each eachOf timeIn swapAt childIn down downshifted parentIn up upshifted updated numbered startHeap
+unfolding correction empty fast oddLengths periodic still touching walls wallsInY round add sub mul div neg lt le eq ofInt toUnsigned ofBits toBits rootOf sqrtOf near root leadingZeros across position newPos apart upFrom reached cellsAt cellsOfGrain collision later toNeighbour outOfCell wall insertBy keepBy goneBy finePlace heads requeued has but fineGrain store insert cancelled enter leave taken others doing before ofEach inTurn pairing event step firstBad clear begin start timeIn swapAt childIn down downshifted parentIn up upshifted updated numbered startHeap
 traces-follow = tt
 
 pub answers-end : T (all ends answers)
-unfolding answers round add sub mul div neg lt le eq ofInt toUnsigned ofBits toBits rootOf sqrtOf near root leadingZeros across position newPos apart upFrom reached rows cellsOfGrain collision later toNeighbour outOfCell wall insertBy keepBy goneBy finePlace heads requeued has but fineGrain store insert cancelled enter leave taken others stepGrain boundaries scheduleWith scheduleEvents again forget doCollision doNeighbour doOut doWall doSync event step firstBad clear goesIn pairs initCell begin start each eachOf timeIn swapAt childIn down downshifted parentIn up upshifted updated numbered startHeap
+unfolding answers round add sub mul div neg lt le eq ofInt toUnsigned ofBits toBits rootOf sqrtOf near root leadingZeros across position newPos apart upFrom reached cellsAt cellsOfGrain collision later toNeighbour outOfCell wall insertBy keepBy goneBy finePlace heads requeued has but fineGrain store insert cancelled enter leave taken others doing before ofEach inTurn pairing event step firstBad clear begin start timeIn swapAt childIn down downshifted parentIn up upshifted updated numbered startHeap
 answers-end = tt
 
 -- runs of the walled box: S NW S CS ONS NNNNNS OOS OO OS WNONS S OW; one whose last budgeted event is a synchronisation has synchronised
 pub walls-run : T (runs walls (synchronises 20 1 ∷ spends 2 2 ∷ synchronises 20 1 ∷ synchronises 2 2 ∷ synchronises 20 3 ∷ synchronises 20 6 ∷ synchronises 20 3 ∷ spends 2 2 ∷ synchronises 20 2 ∷ spends 0 0 ∷ synchronises 20 5 ∷ synchronises 20 1 ∷ spends 2 2 ∷ []))
-unfolding walls round add sub mul div neg lt le eq ofInt toUnsigned ofBits toBits rootOf sqrtOf near root leadingZeros across position newPos apart upFrom reached rows cellsOfGrain collision later toNeighbour outOfCell wall insertBy keepBy goneBy finePlace heads requeued has but fineGrain store insert cancelled enter leave taken others stepGrain boundaries scheduleWith scheduleEvents again forget doCollision doNeighbour doOut doWall doSync event step firstBad clear goesIn pairs initCell begin start each eachOf timeIn swapAt childIn down downshifted parentIn up upshifted updated numbered startHeap every syncs sound standing runFrom runAll
+unfolding walls round add sub mul div neg lt le eq ofInt toUnsigned ofBits toBits rootOf sqrtOf near root leadingZeros across position newPos apart upFrom reached cellsAt cellsOfGrain collision later toNeighbour outOfCell wall insertBy keepBy goneBy finePlace heads requeued has but fineGrain store insert cancelled enter leave taken others doing before ofEach inTurn pairing event step firstBad clear begin start timeIn swapAt childIn down downshifted parentIn up upshifted updated numbered startHeap every syncs walk settled queued heaped standing runFrom runAll
 walls-run = tt
 
 pub walls-refuse : T (refusals walls)
-unfolding walls round add sub mul div neg lt le eq ofInt toUnsigned ofBits toBits rootOf sqrtOf near root leadingZeros across position newPos apart upFrom reached rows cellsOfGrain collision later toNeighbour outOfCell wall insertBy keepBy goneBy finePlace heads requeued has but fineGrain store insert cancelled enter leave taken others stepGrain boundaries scheduleWith scheduleEvents again forget doCollision doNeighbour doOut doWall doSync event step firstBad clear goesIn pairs initCell begin start each eachOf timeIn swapAt childIn down downshifted parentIn up upshifted updated numbered startHeap every syncs sound standing runFrom runAll
+unfolding walls round add sub mul div neg lt le eq ofInt toUnsigned ofBits toBits rootOf sqrtOf near root leadingZeros across position newPos apart upFrom reached cellsAt cellsOfGrain collision later toNeighbour outOfCell wall insertBy keepBy goneBy finePlace heads requeued has but fineGrain store insert cancelled enter leave taken others doing before ofEach inTurn pairing event step firstBad clear begin start timeIn swapAt childIn down downshifted parentIn up upshifted updated numbered startHeap every syncs walk settled queued heaped standing runFrom runAll
 walls-refuse = tt

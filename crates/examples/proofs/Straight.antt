@@ -13,7 +13,6 @@ use lib.ListN.{length}
 use lib.Ieee.{binary64, ofBits, round, add, sub, mul, div, neg, lt, le, eq, ofInt, toUnsigned, fits}
 use Rattle.root.specs.Isqrt.{near, root}
 use Rattle.root.specs.Root.{rootOf, sqrtOf}
-use Rattle.halting.specs.Out.{each, eachOf}
 use Rattle.halting.specs.Every.{every, All}
 use Rattle.halting.proofs.Bools.{clash, and-l, and-r}
 use Rattle.halting.proofs.Tests.{true-every}
@@ -28,21 +27,21 @@ use Rattle.model.specs.Sizes.{firstBad}
 use Rattle.model.specs.Grid.{boxOf, across, cells, position}
 use Rattle.model.specs.Stepping.{grainOf, newPos}
 use Rattle.model.specs.Periodic.{apart}
-use Rattle.model.specs.FromPToC.{upFrom, reached, rows, cellsOfGrain}
+use Rattle.model.specs.FromPToC.{upFrom, reached, cellsAt, cellsOfGrain}
 use Rattle.model.specs.Collision.{collision}
 use Rattle.model.specs.Moves.{later, toNeighbour, outOfCell}
 use Rattle.model.specs.Walls.{wall}
 use Rattle.model.specs.Events.{zeroP, names, eventOf, insertBy, keepBy, goneBy, finePlace}
 use Rattle.model.specs.State.{State, grain, listed, queue, heads, requeued, has, but}
 use Rattle.model.specs.Acts.{fineGrain, store, insert, cancelled, enter, leave, taken}
-use Rattle.model.specs.Doing.{others, stepGrain, boundaries, scheduleWith, scheduleEvents, again, forget, doCollision, doNeighbour, doOut, doWall, doSync, event, step}
+use Rattle.model.specs.Execute.{event, step}
 use Rattle.model.specs.Run.{runFrom}
-use Rattle.model.specs.Start.{clear, goesIn, pairs, initCell, begin, start}
+use Rattle.model.specs.Start.{clear, begin, start}
 use Rattle.model.specs.Standing.{syncs}
-use Rattle.model.specs.Check.{Fits, all, sound, standing, runAll}
+use Rattle.model.specs.Check.{Fits, all, walk, settled, queued, heaped, standing, runAll}
 use Rattle.model.specs.Reached.{Call, after, Reached, steps}
-use Rattle.model.specs.Rows.{pair, before, ofEach, inTurn, pairing}
-use Rattle.model.specs.History.{History, done, stepDone, stepsDone, callsDone, startDone, history, latest, Dated, dated-at, namedBy, insertDated, keepDated, dated}
+use Rattle.model.specs.Rows.{pair, before, ofEach, inTurn, pairing, others, doing}
+use Rattle.model.specs.History.{History, rowDone, stepDone, stepsDone, callsDone, startDone, history, latest, Dated, dated-at, namedBy, insertDated, keepDated, dated}
 use Rattle.model.specs.Missing.{tried, Among}
 
 -- 9 by 9, periodic, rate 1, room 64, value 0.5; two runs of one event each
@@ -93,7 +92,7 @@ abbrev other-is : Bool
 other-is = passes box 64 grazing two older (start box 64 grazing)
 
 computed : T (one-is && other-is)
-unfolding round add sub mul div neg lt le eq ofInt toUnsigned ofBits rootOf sqrtOf near root leadingZeros across position insertBy keepBy goneBy finePlace newPos apart upFrom reached rows cellsOfGrain heads requeued has but fineGrain store insert cancelled enter leave taken later collision toNeighbour outOfCell wall eachOf others stepGrain boundaries scheduleWith scheduleEvents again forget doCollision doNeighbour doOut doWall doSync event step firstBad clear goesIn pairs initCell begin start each timeIn swapAt childIn down downshifted parentIn up upshifted updated numbered startHeap every syncs sound standing runFrom runAll before ofEach inTurn pairing done stepDone stepsDone startDone latest insertDated keepDated dated after callsDone steps
+unfolding round add sub mul div neg lt le eq ofInt toUnsigned ofBits rootOf sqrtOf near root leadingZeros across position insertBy keepBy goneBy finePlace newPos apart upFrom reached cellsAt cellsOfGrain heads requeued has but fineGrain store insert cancelled enter leave taken later collision toNeighbour outOfCell wall others doing event step firstBad clear begin start timeIn swapAt childIn down downshifted parentIn up upshifted updated numbered startHeap every syncs walk settled queued heaped standing runFrom runAll before ofEach inTurn pairing rowDone stepDone stepsDone startDone latest insertDated keepDated dated after callsDone steps
 computed = tt
 
 -- ---- 1. LISTED IS NOT WATCHED

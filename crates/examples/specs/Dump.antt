@@ -15,7 +15,7 @@ use Rattle.model.specs.declared.Place.{Place}
 use Rattle.model.specs.Grid.{boxOf}
 use Rattle.model.specs.Stepping.{grainOf}
 use Rattle.model.specs.State.{Row, State}
-use Rattle.model.specs.Doing.{Stepped, done, synchronised, halted, step}
+use Rattle.model.specs.Execute.{Stepped, done, synchronised, halted, step}
 use Rattle.model.specs.Start.{Begun, refused, started, start}
 
 -- ---- a dump

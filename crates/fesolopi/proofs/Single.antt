@@ -1,4 +1,4 @@
--- ONLY ONE OUTCOME FITS what each exported call promises: the number, what is told beside it and every table afterwards; and a run's 0 and 11 are no refusal's.
+-- ONLY ONE OUTCOME FITS what each exported call promises: the number, what is told beside it and every table afterwards; and a run's 0 and `spentNumber` are no refusal's.
 -- Assumes nothing.
 use Prim.Native.Nat.{ℕ}
 use mathlib.Core.Path.{_≡_, refl, sym, ap, subst, _∙_}
@@ -20,7 +20,7 @@ use Rattle.tables.specs.Decode.{Tables}
 use Rattle.simulator.specs.Start.{startAll}
 use Rattle.simulator.specs.Run.{runTables}
 use Rattle.simulator.proofs.Numbers.{OneOf, Given, run-number}
-use Rattle.fesolopi.specs.Codes.{Begun, begun, begunBy, runNumber, Ended, ended, endedBy}
+use Rattle.fesolopi.specs.Codes.{Begun, begun, begunBy, spentNumber, runNumber, Ended, ended, endedBy}
 use Rattle.fesolopi.specs.Needed.{Needed, needed, neededFor}
 
 -- a start: its number, the grain named, the tables
@@ -53,7 +53,7 @@ one-needed b n room r i l g q e o r′ i′ l′ g′ q′ e′ o′ h k =
 pub one-root : (d : Float) (r q : ℕ) (x y : Float) → r ≡ rootNumber (rootOf d) → x ≡ rootValue (rootOf d) → q ≡ rootNumber (rootOf d) → y ≡ rootValue (rootOf d) → (r ≡ q) × (x ≡ y)
 one-root d r q x y e f g h = (e ∙ sym g, f ∙ sym h)
 
--- ---- a run's number is 0 exactly if it synchronised, and 11 exactly if its budget was spent: no refusal gives either
+-- ---- a run's number is 0 exactly if it synchronised, and `spentNumber` exactly if its budget was spent: no refusal gives either
 or-right : (a b : Bool) → b ≡ true → (a || b) ≡ true
 or-right true b e = refl
 or-right false b e = e
@@ -76,13 +76,13 @@ zero-tells synchronised g = record { only = λ e. refl; so = λ e. refl }
 zero-tells spent g = record { only = λ e. absurd (omega (arith, e)); so = λ e. ap runNumber e }
 zero-tells (refused r) g = record { only = λ e. never r 0 g (unfold has in refl) e; so = λ e. ap runNumber e }
 
-eleven-tells : (h : How) → Given h → Exactly (runNumber h ≡ 11) (h ≡ spent)
-eleven-tells synchronised g = record { only = λ e. absurd (omega (arith, e)); so = λ e. ap runNumber e }
-eleven-tells spent g = record { only = λ e. refl; so = λ e. refl }
-eleven-tells (refused r) g = record { only = λ e. never r 11 g (unfold has in refl) e; so = λ e. ap runNumber e }
+spent-tells : (h : How) → Given h → Exactly (runNumber h ≡ spentNumber) (h ≡ spent)
+spent-tells synchronised g = record { only = λ e. absurd (omega (arith, e)); so = λ e. ap runNumber e }
+spent-tells spent g = record { only = λ e. refl; so = λ e. refl }
+spent-tells (refused r) g = record { only = λ e. never r spentNumber g (unfold has in refl) e; so = λ e. ap runNumber e }
 
 pub run-tells-0 : (rate : Float) (b : ℕ) (t : Tables) → Exactly ((endedBy (runTables rate b t)) .number ≡ 0) ((runTables rate b t) .how ≡ synchronised)
 run-tells-0 rate b t = zero-tells ((runTables rate b t) .how) (run-number rate b t)
 
-pub run-tells-11 : (rate : Float) (b : ℕ) (t : Tables) → Exactly ((endedBy (runTables rate b t)) .number ≡ 11) ((runTables rate b t) .how ≡ spent)
-run-tells-11 rate b t = eleven-tells ((runTables rate b t) .how) (run-number rate b t)
+pub run-tells-spent : (rate : Float) (b : ℕ) (t : Tables) → Exactly ((endedBy (runTables rate b t)) .number ≡ spentNumber) ((runTables rate b t) .how ≡ spent)
+run-tells-spent rate b t = spent-tells ((runTables rate b t) .how) (run-number rate b t)

@@ -28,10 +28,14 @@ begun r g a = record { number = r; grain = g; after = a }
 abbrev pub begunBy : StartedWith → Begun
 begunBy s = begun (s .number) (s .grain) (s .after)
 
--- how a run ended: 0 synchronised, 11 spent, else the number of the refusal or the halt, which is never either
+-- the number of a run that spent its budget: no refusal's
+abbrev pub spentNumber : ℕ
+spentNumber = 100
+
+-- how a run ended: 0 synchronised, `spentNumber` spent, else the number of the refusal or the halt, which is never either
 abbrev pub runNumber : How → ℕ
 runNumber synchronised = 0
-runNumber spent = 11
+runNumber spent = spentNumber
 runNumber (refused r) = r
 
 -- a run's number, clock and events done, and the tables afterwards
@@ -50,7 +54,7 @@ endedBy r = ended (runNumber (r .how)) (r .clock) (r .count) (r .after)
 -- the same of a report
 abbrev pub reportNumber : Report → ℕ
 reportNumber (report.Synchronised t n) = 0
-reportNumber (report.Spent t n) = 11
+reportNumber (report.Spent t n) = spentNumber
 reportNumber (report.Refused r t n) = r
 
 abbrev pub eventsTold : Report → ℕ

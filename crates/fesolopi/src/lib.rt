@@ -20,6 +20,9 @@ use myvec::MyVec;
 use root::Root;
 use tables::Sizes;
 
+// The number of a run that spent its budget: far above those of refusals.
+const SPENT: u64 = 100;
+
 // A start. 0: accepted; 1, 2, 4: refused, and nothing is changed; 5 to 9: accepted and halted. Where it is 4, `grain` is the lowest bad grain.
 #[no_mangle]
 pub extern "C" fn fesolopi_start(
@@ -86,7 +89,7 @@ fn grain_named(answer: Started) -> u64
     }
 }
 
-// A run. 0: synchronised; 11: the budget is spent; 5 to 9: halted; 2, 3, 10: refused, and nothing is changed. `clock` and `done` are the report's.
+// A run. 0: synchronised; `SPENT`: the budget is spent; 5 to 9: halted; 2, 3, 10: refused, and nothing is changed. `clock` and `done` are the report's.
 #[no_mangle]
 pub extern "C" fn fesolopi_run(
     lists: &mut [u64],
@@ -121,7 +124,7 @@ fn run_number(report: Report) -> u64
         Report::Spent {
             clock: _,
             events: _,
-        } => 11,
+        } => SPENT,
         Report::Refused {
             number,
             clock: _,

@@ -22,8 +22,6 @@ use event::move_out_of_cell;
 use event::move_to_neighbour;
 use event::wall_reflection;
 use libc::STDOUT_FILENO;
-use listing_text::bits_of_float;
-use listing_text::float_of_bits;
 use model::Domain;
 use model::Particle;
 use model::Place;
@@ -31,6 +29,8 @@ use model::Plan;
 use myvec::MyVec;
 use particle::Spans;
 use tables::places;
+use text::bits_of_float;
+use text::float_of_bits;
 use words::NONE;
 use words::Word;
 use words::next;
@@ -278,8 +278,18 @@ fn cells_hold() -> bool {
         return false;
     }
     let grid = Grid::new(domain);
-    let x = particle::touched(domain.lengths.x, grid.n0, float_of_bits(w[2]));
-    let y = particle::touched(domain.lengths.y, grid.n1, float_of_bits(w[3]));
+    let x = particle::touched(
+        domain.lengths.x,
+        grid.n0,
+        Particle::RADIUS,
+        float_of_bits(w[2]),
+    );
+    let y = particle::touched(
+        domain.lengths.y,
+        grid.n1,
+        Particle::RADIUS,
+        float_of_bits(w[3]),
+    );
     if !small(x) {
         return false;
     }

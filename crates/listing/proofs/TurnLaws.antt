@@ -11,9 +11,10 @@ use Rattle.pipes.specs.Reads.{Read, readOf, textOf, moreOf, failedOf, overOf, h
 use Rattle.pipes.proofs.ReadLaws.{heard-text, one-read, reads-then, reads-most, text-then, end-then, over-is}
 use Rattle.pipes.specs.Writes.{HandedOut}
 use Rattle.listing_text.specs.declared.reader.Reader.{Reader}
-use Rattle.listing_text.specs.Reading.{startOf, feedAll}
-use Rattle.listing_text.proofs.Turns.{feed-parts}
-use Rattle.answers.specs.Answer.{answered}
+use Rattle.listing_text.specs.Reading.{startOf, feedOf, feedAll}
+use Rattle.text.proofs.Turns.{feed-parts}
+use Rattle.answers.specs.Read.{answered, answer}
+use Rattle.answers.proofs.Texts.{the-answer}
 use Rattle.listing.specs.declared.Turn.{Turn}
 use Rattle.listing.specs.Turns.{turnOf, Turned, most, endedOf, Responded}
 
@@ -34,7 +35,7 @@ turned-once {y} {z} c r buf {t} l m e = (readOf z buf ∷ [], one-read z buf l m
 -- however the text is cut into reads, the reader is fed all of it
 pub turn-then : (r : Reader) (reads next : List Read) → moreOf reads ≡ true → turnOf (turnOf r reads .reader) next ≡ turnOf r (reads ++ next)
 turn-then r reads next e =
-    turn-as r (reads ++ next) (sym (ap (feedAll r) (text-then reads next e) ∙ feed-parts (textOf reads) (textOf next) r)) (sym (end-then true false false reads next e)) (sym (end-then false true false reads next e))
+    turn-as r (reads ++ next) (sym (ap (feedAll r) (text-then reads next e) ∙ feed-parts feedOf (textOf reads) (textOf next) r)) (sym (end-then true false false reads next e)) (sym (end-then false true false reads next e))
 
 pub turned-then : {m n : ℕ} {r : Reader} {t u : Turn} → Turned m r t → t .more ≡ true → Turned n (t .reader) u → Turned (m + n) r u
 turned-then {r = r} {t = t} {u = u} a e b =
@@ -56,7 +57,7 @@ due {r = r} a e f h =
     record {
       reads = a .0;
       made = a .1;
-      answers = λ _. subst (λ (x : Turn). HandedOut (answered (x .reader)) r) (a .2) h;
+      answers = λ _. (answer (textOf (a .0)), the-answer (textOf (a .0)), subst (λ (x : Turn). HandedOut (answered (x .reader)) r) (a .2) h);
       unended = λ n. absurd (true≢false (sym o ∙ n));
     }
 

@@ -7,7 +7,7 @@ use Rattle.pipes.specs.Reads.{Read, Reads, textOf, moreOf, failedOf, overOf}
 use Rattle.pipes.specs.Writes.{HandedOut}
 use Rattle.listing_text.specs.declared.reader.Reader.{Reader}
 use Rattle.listing_text.specs.Reading.{feedAll}
-use Rattle.answers.specs.Answer.{answer}
+use Rattle.answers.specs.Answer.{Answers}
 use Rattle.listing.specs.declared.Turn.{Turn}
 
 -- the reader is fed what reads gave, one after another
@@ -26,9 +26,9 @@ most = 18446744073709551615
 abbrev pub endedOf : Turn → Bool
 endedOf t = cond (t .more) false (not (t .failed))
 
--- where reads reached the end, the answer to what they gave is handed out, and r says whether all of it was taken; otherwise r is false
+-- where reads reached the end, the answer to the text that they gave is handed out, and r says whether all of it was taken; otherwise r is false
 pub record Responded (r : Bool) : Type 0 where
   pub reads : List Read
   pub made : Reads most reads
-  pub answers : overOf reads ≡ true → HandedOut (answer (textOf reads)) r
+  pub answers : overOf reads ≡ true → (a : List ℕ) × Answers (textOf reads) a × HandedOut a r
   pub unended : overOf reads ≡ false → r ≡ false

@@ -4,10 +4,12 @@ use mathlib.Core.List.{List, [], _∷_, _++_}
 use mathlib.Core.Bool.{Bool, true, false}
 use Prim.Native.Nat.{ℕ}
 use Rattle.listing_text.specs.declared.writer.Answer.the-variants.{Refused}
-use Rattle.listing_text.specs.Bytes.{bytes}
-use Rattle.listing_text.specs.Numerals.{decimal}
+use Rattle.text.specs.Bytes.{bytes}
+use Rattle.text.specs.Numerals.{decimal}
+use Rattle.text.specs.Reading.{steppedOf, hexedOf, flaggedOf, matchedOf, countedOf, firstOf, moreOf, wantedOf}
+use Rattle.text.specs.Reading as text
 use Rattle.listing_text.specs.Grammar.{Grain, textOf}
-use Rattle.listing_text.specs.Reading.{plan, startOf, steppedOf, hexedOf, flaggedOf, matchedOf, countedOf, firstOf, moreOf, wantedOf, feedOf, feedAll, closedOf, fineOf}
+use Rattle.listing_text.specs.Reading.{plan, startOf, feedAll, closedOf, fineOf}
 use Rattle.listing_text.specs.Answers.{listingOf, answerOf}
 
 -- a still grain at (4.5, 4.5), value 0.5
@@ -54,5 +56,5 @@ verdicts =
     ∷ []
 
 judged : verdicts ≡ true ∷ true ∷ false ∷ false ∷ false ∷ false ∷ false ∷ false ∷ false ∷ false ∷ []
-unfolding plan steppedOf hexedOf flaggedOf matchedOf countedOf firstOf moreOf wantedOf feedOf accepted
+unfolding plan steppedOf hexedOf flaggedOf matchedOf countedOf firstOf moreOf wantedOf text.feedOf accepted
 judged = refl

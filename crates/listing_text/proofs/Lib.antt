@@ -1,12 +1,7 @@
-pub mod Floats
-pub mod HexDigits
-pub mod DecimalDigits
-pub mod Turns
-pub mod Fields
+pub mod Form
 pub mod Rows
 pub mod Forward
-pub mod FieldsBack
 pub mod Backward
 pub mod Single
-pub mod Putting
 pub mod Examples
+pub mod Putting

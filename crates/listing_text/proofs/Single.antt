@@ -3,56 +3,22 @@
 use mathlib.Core.Path.{_≡_, refl, sym, ap, _∙_, subst}
 use mathlib.Core.Logic.{_⊎_, inl, inr}
 use mathlib.Core.List.{List, [], _∷_, _++_, append-assoc, append-nil, append-cancel-right}
-use mathlib.Core.Bool.{Bool, true, false, cond}
+use mathlib.Core.Bool.{Bool, true, false}
 use Prim.Native.Nat.{ℕ, _+_, _/_, _%_, _^_, _≤_, _<_}
 use native.Mathlib.Omega.{arith}
-use lib.Dec.{ltb, lit<, lit≤}
-use lib.ListN.{length, getD, take, drop, replicate}
-use Rattle.listing_text.specs.declared.reader.Reader.{Reader}
-use Rattle.listing_text.specs.Bytes.{bytes}
-use Rattle.listing_text.specs.Numerals.{glyph, hex, decimal}
-use Rattle.listing_text.specs.Grammar.{Grain, Input, Word, GrainWords, AllWords, Words, flag, boxLine, grainLine, grainLines, textOf, Text}
-use Rattle.listing_text.specs.Reading.{startOf, put, feedAll, closedOf, fineOf}
-use Rattle.listing_text.proofs.DecimalDigits.{shown, shown-is, digits-of}
-use Rattle.listing_text.proofs.Fields.{hex-field}
-use Rattle.listing_text.proofs.Forward.{runs, six-fields}
+use lib.Dec.{lit<}
+use lib.ListN.{length, getD, take, drop}
+use Rattle.text.specs.Bytes.{bytes}
+use Rattle.text.specs.Numerals.{glyph, hex, decimal}
+use Rattle.text.specs.Lines.{line, flag}
+use Rattle.text.proofs.Single.{hex-same, glyph-big, flag-split, decimal-split}
+use Rattle.listing_text.specs.Grammar.{Grain, Input, GrainWords, AllWords, Words, boxLine, grainLine, grainLines, textOf, Text}
+use Rattle.listing_text.specs.Reading.{startOf, feedAll, closedOf, fineOf}
 use Rattle.listing_text.proofs.Backward.{accepted-text}
-
--- ---- fields
-hex-same : (v w : ℕ) → Word v → Word w → hex v ≡ hex w → v ≡ w
-hex-same v w a b e =
-    let r = put startOf 20 0 (replicate 10 0) in
-    let f : (u : ℕ) → Word u → feedAll r (hex u) ≡ put startOf 36 0 (u ∷ replicate 9 0) = λ (u : ℕ) (c : Word u). sym (ap (feedAll r) (append-nil (hex u))) ∙ hex-field r 0 u [] c (lit< tt) refl (runs .l0-run) (lit≤ tt) (inl (lit≤ tt)) in
-    ap (λ (q : Reader). getD (q .numbers) 0 0) (sym (f v a) ∙ ap (feedAll r) e ∙ f w b)
-
-flag-split : (p q : Bool) (s t : List ℕ) → flag p ++ (44 ∷ s) ≡ flag q ++ (44 ∷ t) → (p ≡ q) × (s ≡ t)
-flag-split false false s t e = (refl, ap (drop 2) e)
-flag-split true true s t e = (refl, ap (drop 2) e)
-flag-split false true s t e = absurd (let z : _≡_ {A = ℕ} 48 49 = ap (λ (l : List ℕ). getD l 0 0) e in omega arith)
-flag-split true false s t e = absurd (let z : _≡_ {A = ℕ} 49 48 = ap (λ (l : List ℕ). getD l 0 0) e in omega arith)
-
-shown-split : (ds es s t : List ℕ) → shown ds ++ (13 ∷ s) ≡ shown es ++ (13 ∷ t) → s ≡ t
-shown-split [] [] s t e = ap (drop 1) e
-shown-split [] (x ∷ es) s t e = absurd (let z : 13 ≡ 48 + x = ap (λ (l : List ℕ). getD l 0 0) e in omega arith)
-shown-split (d ∷ ds) [] s t e = absurd (let z : 48 + d ≡ 13 = ap (λ (l : List ℕ). getD l 0 0) e in omega arith)
-shown-split (d ∷ ds) (x ∷ es) s t e = shown-split ds es s t (ap (drop 1) e)
-
-decimal-split : (n m : ℕ) (s t : List ℕ) → decimal n ++ (13 ∷ s) ≡ decimal m ++ (13 ∷ t) → s ≡ t
-decimal-split n m s t e =
-    let (d, ds, u) = digits-of n in
-    let (x, xs, w) = digits-of m in
-    shown-split (d ∷ ds) (x ∷ xs) s t (ap (λ (l : List ℕ). l ++ (13 ∷ s)) (sym (shown-is d ds n u)) ∙ e ∙ ap (λ (l : List ℕ). l ++ (13 ∷ t)) (shown-is x xs m w))
 
 -- ---- the lines of grains, and what follows that is no digit
 abbrev Stop : List ℕ → Type 0
 Stop s = getD s 0 0 < 48
-
-glyph-big : (d : ℕ) → 48 ≤ glyph d
-glyph-big d = go (ltb d 10)
-  where
-    go : (b : Bool) → 48 ≤ cond b (48 + d) (55 + d)
-    go true = omega arith
-    go false = omega arith
 
 no-line : {A : Type 0} (s : List ℕ) (h : Grain) (t : List ℕ) → Stop s → s ≡ grainLine h ++ t → A
 no-line s h t l e =
@@ -89,6 +55,9 @@ input-same i j a b c d e f = λ k. record { l0 = a k; l1 = b k; p0 = c k; p1 = d
 
 abbrev fields : Input → List ℕ → List ℕ
 fields i s = hex (i .l0) ++ (44 ∷ (hex (i .l1) ++ (44 ∷ (flag (i .p0) ++ (44 ∷ (flag (i .p1) ++ (44 ∷ (hex (i .rate) ++ (44 ∷ (decimal (length (i .grains)) ++ (13 ∷ 10 ∷ s)))))))))))
+
+six-fields : (a b c d e f s : List ℕ) → line (a ∷ b ∷ c ∷ d ∷ e ∷ f ∷ []) ++ s ≡ a ++ (44 ∷ (b ++ (44 ∷ (c ++ (44 ∷ (d ++ (44 ∷ (e ++ (44 ∷ (f ++ (13 ∷ 10 ∷ s)))))))))))
+six-fields a b c d e f s = simp append-assoc
 
 text-fields : (i : Input) (s : List ℕ) → textOf i ++ s ≡ bytes "l0,l1,p0,p1,rate,n\r\n" ++ fields i (bytes "x,y,vx,vy,val\r\n" ++ (grainLines (i .grains) ++ s))
 text-fields i s =

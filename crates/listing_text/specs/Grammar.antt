@@ -2,11 +2,12 @@
 use mathlib.Core.Path.{_≡_}
 use mathlib.Core.Logic.{_⊎_}
 use mathlib.Core.List.{List, [], _∷_, _++_}
-use mathlib.Core.Bool.{Bool, true, false}
-use Prim.Native.Nat.{ℕ, _^_, _<_}
+use mathlib.Core.Bool.{Bool}
+use Prim.Native.Nat.{ℕ}
 use lib.ListN.{length}
-use Rattle.listing_text.specs.Bytes.{bytes}
-use Rattle.listing_text.specs.Numerals.{hex, decimal}
+use Rattle.text.specs.Bytes.{bytes}
+use Rattle.text.specs.Numerals.{hex, decimal, Word}
+use Rattle.text.specs.Lines.{line, flag}
 
 pub record Grain : Type 0 where
   pub x : ℕ
@@ -22,16 +23,6 @@ pub record Input : Type 0 where
   pub p1 : Bool
   pub rate : ℕ
   pub grains : List Grain
-
--- fields with commas between them, ended by CR LF
-abbrev pub line : List (List ℕ) → List ℕ
-line [] = bytes "\r\n"
-line (f ∷ []) = f ++ bytes "\r\n"
-line (f ∷ g ∷ fs) = f ++ (bytes "," ++ line (g ∷ fs))
-
-abbrev pub flag : Bool → List ℕ
-flag false = bytes "0"
-flag true = bytes "1"
 
 abbrev pub boxLine : Input → List ℕ
 boxLine i = line (hex (i .l0) ∷ hex (i .l1) ∷ flag (i .p0) ∷ flag (i .p1) ∷ hex (i .rate) ∷ decimal (length (i .grains)) ∷ [])
@@ -51,10 +42,7 @@ textOf i = bytes "l0,l1,p0,p1,rate,n\r\n" ++ (boxLine i ++ (bytes "x,y,vx,vy,val
 abbrev pub Text : List ℕ → Input → Type 0
 Text s i = (s ≡ textOf i) ⊎ (s ++ bytes "\r\n" ≡ textOf i)
 
--- numbers of 64 bits
-abbrev pub Word : ℕ → Type 0
-Word v = v < 2 ^ 64
-
+-- all numbers are of 64 bits
 pub record GrainWords (g : Grain) : Type 0 where
   pub x-word : Word (g .x)
   pub y-word : Word (g .y)

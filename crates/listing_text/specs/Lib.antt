@@ -1,8 +1,7 @@
-pub mod Bytes
-pub mod Numerals
+-- The listing's text (Grammar) and the lines that are written (Answers); what is too large (Size); the reader's turns and what it holds (Reading, Rows, Held).
 pub mod Grammar
-pub mod Rows
-pub mod Held
-pub mod Reading
 pub mod Answers
 pub mod Size
+pub mod Rows
+pub mod Reading
+pub mod Held

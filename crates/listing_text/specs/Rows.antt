@@ -1,8 +1,11 @@
 -- Grains as rows of five numbers each, one row after the other in one list. Assumes nothing.
 use mathlib.Core.List.{List, [], _∷_, _++_}
+use mathlib.Core.Bool.{cond}
 use Prim.Native.Nat.{ℕ, zero, suc, _+_, _*_}
+use lib.Dec.{ltb}
 use lib.ListN.{getD}
 use Rattle.listing_text.specs.Grammar.{Grain}
+use Rattle.listing_text.specs.Answers.{listingOf}
 
 -- a row
 abbrev pub fiveOf : Grain → List ℕ
@@ -25,3 +28,7 @@ grainAt l i = record { x = getD l (i * 5) 0; y = getD l (i * 5 + 1) 0; vx = getD
 abbrev pub grainsFrom : List ℕ → ℕ → ℕ → List Grain
 grainsFrom l i zero = []
 grainsFrom l i (suc k) = grainAt l i ∷ grainsFrom l (suc i) k
+
+-- the listing of the first n rows; nothing for more than 32
+abbrev pub listed : ℕ → ℕ → List ℕ → List ℕ
+listed time n l = cond (ltb 32 n) [] (listingOf time (grainsFrom l 0 n))

@@ -1,12 +1,8 @@
 // The text of the listing program: what it reads, byte by byte, and the lines that it writes.
-mod hex;
 mod reader;
 mod size;
 mod writer;
 
-pub use hex::bits_of_float;
-pub use hex::float_of_bits;
-pub use hex::hex_value;
 pub use reader::Reader;
 pub use reader::feed_all;
 pub use reader::start;

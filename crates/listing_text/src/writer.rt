@@ -1,13 +1,17 @@
 // The lines that the listing program writes, put into a buffer.
 ghost use mathlib.Core.List.{[], _∷_, _++_};
 ghost use Prim.Native.Nat.{_+_, _-_, _*_, _<_, _≤_};
-ghost use lib.ListN.{length, getD, drop};
-ghost use Rattle.listing_text.specs.Numerals.{spell, hex, decimal};
-ghost use Rattle.listing_text.specs.Bytes.{bytes};
-ghost use Rattle.listing_text.specs.Grammar.{line, grainLine};
-ghost use Rattle.listing_text.specs.Answers.{Put, listingLine, listingLines, listed, answerOf};
-ghost use Rattle.listing_text.specs.Rows.{grainAt, grainsFrom};
-use crate::hex::hex_glyph;
+ghost use lib.ListN.{length, getD};
+ghost use Rattle.text.specs.Bytes.{bytes};
+ghost use Rattle.text.specs.Numerals.{hex, decimal};
+ghost use Rattle.text.specs.Lines.{line};
+ghost use Rattle.text.specs.Put.{Put};
+ghost use Rattle.listing_text.specs.Grammar.{grainLine};
+ghost use Rattle.listing_text.specs.Answers.{listingLine, listingLines, answerOf};
+ghost use Rattle.listing_text.specs.Rows.{grainAt, grainsFrom, listed};
+use text::put_bytes;
+use text::put_decimal;
+use text::put_field;
 
 // An answer of one line.
 pub enum Answer {
@@ -15,55 +19,6 @@ pub enum Answer {
     TooLarge,
     Refused(u64),
     Spent,
-}
-
-// The last `left` hexadecimal digits of v.
-fn put_digits(out: &mut [u8], at: usize, left: usize, v: u64) -> usize
-    requires { ⌜ (at + left ≤ length (now out)) × (left ≤ 16) ⌝ }
-    ensures { λ r. ⌜ Put at (spell left v) (now (out .entry)) (now (out .exit)) r ⌝ }
-{
-    if left == 0 {
-        return at;
-    }
-    let k = left - 1;
-    out[at] = hex_glyph((v >> (k * 4)) % 16);
-    put_digits(out, at + 1, k, v)
-}
-
-// The decimal digits of v.
-fn put_decimal(out: &mut [u8], at: usize, v: u64) -> usize
-    requires { ⌜ at + length (decimal v) ≤ length (now out) ⌝ }
-    ensures { λ r. ⌜ Put at (decimal v) (now (out .entry)) (now (out .exit)) r ⌝ }
-{
-    if v < 10 {
-        out[at] = 48 + v as u8;
-        return at + 1;
-    }
-    let next = put_decimal(out, at, v / 10);
-    out[next] = 48 + (v % 10) as u8;
-    next + 1
-}
-
-// The bytes of s from i on.
-fn put_bytes(out: &mut [u8], at: usize, s: &[u8], i: usize) -> usize
-    requires { ⌜ (at + (length (now s) - i) ≤ length (now out)) × (i ≤ length (now s)) ⌝ }
-    ensures { λ r. ⌜ Put at (drop i (now (s .entry))) (now (out .entry)) (now (out .exit)) r ⌝ }
-{
-    if s.len() <= i {
-        return at;
-    }
-    out[at] = s[i];
-    put_bytes(out, at + 1, s, i + 1)
-}
-
-// The sixteen digits of v, and a byte after them.
-fn put_field(out: &mut [u8], at: usize, v: u64, end: u8) -> usize
-    requires { ⌜ at + 17 ≤ length (now out) ⌝ }
-    ensures { λ r. ⌜ Put at (hex v ++ (end ∷ [])) (now (out .entry)) (now (out .exit)) r ⌝ }
-{
-    let next = put_digits(out, at, 16, v);
-    out[next] = end;
-    next + 1
 }
 
 // Two numbers, those from j on, with a comma behind each.

@@ -10,14 +10,13 @@ use borrow.Author.Tests.{leb-true}
 use Rattle.halting.proofs.Bools.{and-l, and-r}
 use native.Mathlib.Omega.{arith}
 use lib.Ieee.{Float}
-use Rattle.halting.specs.Out.{Out}
 use Rattle.model.specs.declared.Domain.{Domain}
 use Rattle.model.specs.declared.Particle.{Particle}
 use Rattle.model.specs.declared.Event.{Event}
 use Rattle.model.specs.State.{State, zeroG, listed, requeued, marked}
 use Rattle.model.specs.Sizes.{boxOk, rated}
 use Rattle.model.specs.Acts.{first, taken}
-use Rattle.model.specs.Doing.{Moved, finish, execute, headEvent, event, step, Whole}
+use Rattle.model.specs.Execute.{Moved, finish, execute, headEvent, event, step}
 use Rattle.model.specs.Run.{How, spent, refused, runFrom}
 use Rattle.model.specs.Start.{start, started, clear, begin}
 use Rattle.model.specs.Check.{Fits, runAll}
@@ -25,15 +24,14 @@ use Rattle.model.proofs.Born.{born}
 use Rattle.model.proofs.Starts.{Reaches, first-good, begin-stands}
 use Rattle.model.specs.Reached.{Call, after, Reached, steps}
 use Rattle.model.specs.Rows.{doing, inTurn, actsOf, goes, initiates, startActs}
-use Rattle.model.specs.History.{took, History, done, dated, places, stepDone, stepsDone, callsDone, startDone, history}
-use Rattle.model.specs.Sound.{Sound, Named, Stands}
+use Rattle.model.specs.History.{took, History, rowDone, dated, places, stepDone, stepsDone, callsDone, startDone, history}
+use Rattle.model.proofs.Sound.{Sound, Named, Stands}
 use Rattle.model.proofs.Counts.{Ended, counts, stepAt}
-use Rattle.model.proofs.Performs.{execute-is, begin-is}
 use Rattle.model.proofs.Told.{Tells, taken-tells, done-tells, then-whole, row-box}
 use Rattle.model.proofs.Cleared.{empty-live}
 use Rattle.model.proofs.Keeps.{first-in, taken-sound}
 use Rattle.model.proofs.Plans.{cells-some}
-use Rattle.model.proofs.Steps.{Ends, first-some, head-ok, event-ends}
+use Rattle.model.proofs.Steps.{Whole, Ends, first-some, head-ok, event-ends}
 use Rattle.model.proofs.Whole.{rated-later}
 use Rattle.model.specs.Standing.{one-if}
 use Rattle.model.specs.Grid.{cells}
@@ -54,8 +52,7 @@ step-whole : (rate : Float) (s : State) → Whole ((step rate s) .how)
 unfolding step event
 step-whole rate s w =
     let z = whole-zero ((event rate s) .num) ((event rate s) .st) (headEvent s) w in
-    let d = execute-is rate (headEvent s) (taken s) in
-    (ap (λ (o : Out State). o .num) d ∙ z .0, z .1 ∙ ap (λ (o : Out State). o .st) (sym d))
+    (z .0, z .1)
 
 -- it leaves the box
 taken-box : (s : State) → (taken s) .box ≡ s .box
@@ -65,7 +62,7 @@ taken-box s = refl
 step-box : (rate : Float) (s : State) → rated rate ≡ true → Stands s → Whole ((step rate s) .how) → ((step rate s) .state) .box ≡ s .box
 step-box rate s R st w =
     let e : Ends (one-if (headEvent s)) (taken s) (execute rate (headEvent s) (taken s)) = unfold event in event-ends rate (rated-later rate R) s st in
-    ap (λ (u : State). u .box) (step-whole rate s w .1 ∙ ap (λ (o : Out State). o .st) (execute-is rate (headEvent s) (taken s))) ∙ e .box ∙ taken-box s
+    ap (λ (u : State). u .box) (step-whole rate s w .1) ∙ e .box ∙ taken-box s
 
 -- its parts: the head is taken out, and the acts of its event are done from there
 pub record Parts (rate : Float) (s : State) (h : History) : Type 0 where
@@ -94,7 +91,7 @@ step-parts rate s h R st t w =
       whole = z .0;
       left = z .1;
       box = step-box rate s R st w;
-      tells = subst (Tells (done row (taken s) (took (first s) ∷ h))) (sym (z .1)) (done-tells row (taken s) (took (first s) ∷ h) t0);
+      tells = subst (Tells (rowDone row (taken s) (took (first s) ∷ h))) (sym (z .1)) (done-tells row (taken s) (took (first s) ∷ h) t0);
     }
 
 -- ---- an accepted start
@@ -130,15 +127,14 @@ begun b room gs s fit e m =
 
 -- by its history the events pending are those of the state that it leaves, whose cells are the box's
 start-tells : (b : Domain) (room : ℕ) (gs : List Particle) → Tells (startDone b room gs) ((begin b room gs) .st)
-unfolding startDone
+unfolding startDone begin
 start-tells b room gs =
     let s = clear b room (length gs) in
-    subst (λ (o : Out State). Tells (startDone b room gs) (o .st)) (begin-is b room gs)
-    (done-tells (startActs b gs s) s [] (record { queues = λ c C. unfold dated clear places in sym (empty-live (cells b) room zeroP c) }))
+    done-tells (startActs b gs s) s [] (record { queues = λ c C. unfold dated clear places in sym (empty-live (cells b) room zeroP c) })
 
 pub begin-box : (b : Domain) (room : ℕ) (gs : List Particle) → ((begin b room gs) .st) .box ≡ b
-unfolding clear
-begin-box b room gs = ap (λ (o : Out State). o .st .box) (sym (begin-is b room gs)) ∙ row-box (startActs b gs (clear b room (length gs))) (clear b room (length gs))
+unfolding clear begin
+begin-box b room gs = row-box (startActs b gs (clear b room (length gs))) (clear b room (length gs))
 
 pub begin-cells : (b : Domain) (room : ℕ) (gs : List Particle) → (c : ℕ) → c < cells (((begin b room gs) .st) .box) → c < 0 + cells b
 begin-cells b room gs c C =
@@ -150,20 +146,19 @@ abbrev pub placed : Domain → ℕ → List Particle → State
 placed b room gs = let s = clear b room (length gs) in (doing (inTurn (goes gs) (length gs) 0 s) s) .st
 
 abbrev pub placing : Domain → ℕ → List Particle → History
-placing b room gs = let s = clear b room (length gs) in done (inTurn (goes gs) (length gs) 0 s) s []
+placing b room gs = let s = clear b room (length gs) in rowDone (inTurn (goes gs) (length gs) 0 s) s []
 
 pub record Opened (b : Domain) (room : ℕ) (gs : List Particle) : Type 0 where
   pub whole : (doing (inTurn initiates (cells b) 0 (placed b room gs)) (placed b room gs)) .num ≡ 0
-  pub told : startDone b room gs ≡ done (inTurn initiates (cells b) 0 (placed b room gs)) (placed b room gs) (placing b room gs)
+  pub told : startDone b room gs ≡ rowDone (inTurn initiates (cells b) 0 (placed b room gs)) (placed b room gs) (placing b room gs)
   pub left : (begin b room gs) .st ≡ (doing (inTurn initiates (cells b) 0 (placed b room gs)) (placed b room gs)) .st
 
 opened : (b : Domain) (room : ℕ) (gs : List Particle) → (begin b room gs) .num ≡ 0 → Opened b room gs
-unfolding startDone
+unfolding startDone begin
 opened b room gs z =
     let s = clear b room (length gs) in
-    let d = begin-is b room gs in
-    let t = then-whole (inTurn (goes gs) (length gs) 0 s) (inTurn initiates (cells b) 0) s [] (ap (λ (o : Out State). o .num) d ∙ z) in
-    record { whole = t .second; told = t .told; left = ap (λ (o : Out State). o .st) (sym d) ∙ t .left }
+    let t = then-whole (inTurn (goes gs) (length gs) 0 s) (inTurn initiates (cells b) 0) s [] z in
+    record { whole = t .second; told = t .told; left = t .left }
 
 module _ (I : History → State → Type 0) (keeps : (rate : Float) (s : State) (h : History) → rated rate ≡ true → Stands s → I h s → Whole ((step rate s) .how) → I (stepDone rate s h) ((step rate s) .state)) where
   -- ---- steps

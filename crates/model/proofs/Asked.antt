@@ -17,9 +17,9 @@ use Rattle.model.specs.Events.{placeOf}
 use Rattle.model.specs.State.{State}
 use Rattle.model.specs.declared.Bound.{Bound}
 use Rattle.model.specs.declared.Bound.the-variants.{ToNeighbour, OutOfCell, Wall}
-use Rattle.model.specs.Rows.{within, Rule, pair, bound, sync, moving, turning, trying, cancelling, entering, leaving}
+use Rattle.model.specs.Rows.{about, Rule, pair, bound, sync, moving, turning, trying, cancelling, entering, leaving}
 use Rattle.model.specs.History.{Deed, did, took, History, latest, lastOf, Dated, dated-at, namedBy, dated}
-use Rattle.model.specs.Missing.{enters, entered, sameBound, sameRule, planOf, asker, asks, asked, Owes, Owed}
+use Rattle.model.specs.Missing.{enters, arrived, sameBound, sameRule, planOf, asker, asks, asked, Owes, Owed}
 use Rattle.model.proofs.True.{all-put}
 use Rattle.model.proofs.Told.{latest-below, all-change}
 use Rattle.model.proofs.Tries.{kindOf, Fits}
@@ -119,7 +119,7 @@ abbrev pub Clean : History → ℕ → Rule → Type 0
 Clean h c r = All (λ d. d .by ≡ asked h c r → ⊥) (dated h c)
 
 -- a deed that does not ask for its rule, and lets none of its grains enter
-mine-same : (d : Deed) (h : History) (s : State) (c : ℕ) (x : Dated) (m : Mine h s c x) → asks c (m .owed .rule) d ≡ false → ((g : ℕ) → within (m .owed .rule) g ≡ true → enters g c d ≡ false) → Mine (d ∷ h) s c x
+mine-same : (d : Deed) (h : History) (s : State) (c : ℕ) (x : Dated) (m : Mine h s c x) → asks c (m .owed .rule) d ≡ false → ((g : ℕ) → about (m .owed .rule) g ≡ true → enters g c d ≡ false) → Mine (d ∷ h) s c x
 unfolding latest lastOf
 mine-same d h s c x m a e =
     let o = m .owed in
@@ -130,7 +130,7 @@ mine-same d h s c x m a e =
         owes = o .owes;
         finds = ap (λ (b : Bool). cond b (planOf d) (lastOf Nothing planOf (asks c (o .rule)) h)) a ∙ o .finds;
         is = o .is ∙ ap (λ (b : Bool). dated-at (placeOf (o .event)) (cond b (suc (length h)) (asked h c (o .rule)))) (sym a);
-        since = λ g i. subst (λ (b : Bool). cond b (suc (length h)) (entered h g c) < x .by) (sym (e g i)) (o .since g i);
+        since = λ g i. subst (λ (b : Bool). cond b (suc (length h)) (arrived h g c) < x .by) (sym (e g i)) (o .since g i);
       };
       fits = m .fits;
     }
@@ -156,12 +156,12 @@ module _ (n : ℕ) (s : State) (h : History) (mine : AllMine n s h) where
           all-to (λ x. Mine h s c x × (namedBy x i ≡ false)) (Mine (did (entering i k) ∷ h) s c) (dated h c)
           (λ x m. mine-same (did (entering i k)) h s c x (m .0) refl (away x (m .0) (m .1))) (all-both (Mine h s c) (λ d. namedBy d i ≡ false) (dated h c) (mine c C) f)
         where
-          away : (x : Dated) (m : Mine h s c x) → namedBy x i ≡ false → (g : ℕ) → within (m .owed .rule) g ≡ true → (eqb i g && eqb k c) ≡ false
+          away : (x : Dated) (m : Mine h s c x) → namedBy x i ≡ false → (g : ℕ) → about (m .owed .rule) g ≡ true → (eqb i g && eqb k c) ≡ false
           away x m f g w = on (eqb i g) refl
             where
               on : (b : Bool) → eqb i g ≡ b → (b && eqb k c) ≡ false
               on false e = refl
-              on true e = differ (ap (λ (d : Dated). namedBy d i) (m .owed .is) ∙ m .fits .1 i ∙ ap (within (m .owed .rule)) (eqb-true i g e) ∙ w) f
+              on true e = differ (ap (λ (d : Dated). namedBy d i) (m .owed .is) ∙ m .fits .1 i ∙ ap (about (m .owed .rule)) (eqb-true i g e) ∙ w) f
 
   -- a try of a rule that the cell owes, and of whose last try there nothing is pending
   pub mine-try : (k : ℕ) (o : Rule) (x : Plan) → Fits o x → Owes s k o → Clean h k o → AllMine n s (did (trying k o x) ∷ h)
@@ -223,18 +223,18 @@ module _ (n : ℕ) (s : State) (h : History) (mine : AllMine n s h) where
       (all-both (Mine h s c) (P c) (dated h c) (mine c C) (p c C))
 
   -- where nothing could be a find of r
-  pub clean-by : (c : ℕ) → c < n → (r : Rule) → All (λ d. d .event .kind ≡ kindOf r → ((g : ℕ) → namedBy d g ≡ within r g) → ⊥) (dated h c) → Clean h c r
+  pub clean-by : (c : ℕ) → c < n → (r : Rule) → All (λ d. d .event .kind ≡ kindOf r → ((g : ℕ) → namedBy d g ≡ about r g) → ⊥) (dated h c) → Clean h c r
   clean-by c C r a =
-      all-to (λ d. Mine h s c d × (d .event .kind ≡ kindOf r → ((g : ℕ) → namedBy d g ≡ within r g) → ⊥)) (λ d. d .by ≡ asked h c r → ⊥) (dated h c)
+      all-to (λ d. Mine h s c d × (d .event .kind ≡ kindOf r → ((g : ℕ) → namedBy d g ≡ about r g) → ⊥)) (λ d. d .by ≡ asked h c r → ⊥) (dated h c)
       (λ d m q.
       let o = m .0 .owed in
       let e : o .rule ≡ r = asked-is h c (o .rule) r (found-some (asks c (o .rule)) h (o .event) (o .finds)) (ap (λ (y : Dated). y .by) (sym (o .is)) ∙ q) in
-      m .1 (ap (λ (y : Dated). y .event .kind) (o .is) ∙ m .0 .fits .0 ∙ ap kindOf e) (λ g. ap (λ (y : Dated). namedBy y g) (o .is) ∙ m .0 .fits .1 g ∙ ap (λ (z : Rule). within z g) e))
+      m .1 (ap (λ (y : Dated). y .event .kind) (o .is) ∙ m .0 .fits .0 ∙ ap kindOf e) (λ g. ap (λ (y : Dated). namedBy y g) (o .is) ∙ m .0 .fits .1 g ∙ ap (λ (z : Rule). about z g) e))
       (all-both (Mine h s c) _ (dated h c) (mine c C) a)
 
   -- where nothing names a grain of r
-  pub clean-free : (c : ℕ) → c < n → (r : Rule) (g : ℕ) → within r g ≡ true → All (λ d. namedBy d g ≡ false) (dated h c) → Clean h c r
-  clean-free c C r g w f = clean-by c C r (all-to (λ d. namedBy d g ≡ false) (λ d. d .event .kind ≡ kindOf r → ((g : ℕ) → namedBy d g ≡ within r g) → ⊥) (dated h c) (λ d e k n′. differ (n′ g ∙ w) e) f)
+  pub clean-free : (c : ℕ) → c < n → (r : Rule) (g : ℕ) → about r g ≡ true → All (λ d. namedBy d g ≡ false) (dated h c) → Clean h c r
+  clean-free c C r g w f = clean-by c C r (all-to (λ d. namedBy d g ≡ false) (λ d. d .event .kind ≡ kindOf r → ((g : ℕ) → namedBy d g ≡ about r g) → ⊥) (dated h c) (λ d e k n′. differ (n′ g ∙ w) e) f)
 
 -- nothing is of a rule's last try as long as it is not asked for again
 pub clean-on : (d : Deed) (h : History) (c : ℕ) (r : Rule) → asks c r d ≡ false → Clean h c r → Clean (d ∷ h) c r

@@ -26,13 +26,12 @@ use Rattle.model.specs.Collision.{collision}
 use Rattle.model.specs.FromPToC.{cellsOfGrain}
 use Rattle.model.specs.State.{Row, none, State, zeroG, grain, home, listed, has, pushed, requeued}
 use Rattle.model.specs.Acts.{store, put, cancelled, enter}
-use Rattle.model.specs.Doing.{others, landed}
 use Rattle.model.specs.Start.{clear}
 use Rattle.model.specs.declared.Bound.{Bound}
 use Rattle.model.specs.declared.Bound.the-variants.{ToNeighbour, OutOfCell, Wall}
-use Rattle.model.specs.Rows.{Rule, pair, bound, sync, finder, moving, trying, cancelling, entering, perform, Acts, ended, act, only, before, _⨟_, ofEach, inTurn, stepping, colliding, finding, bounding, scheduling, reschedules, forgets, actsOf, goes, pairing, firstSync, initiates, startActs}
+use Rattle.model.specs.Rows.{Rule, pair, bound, sync, finder, moving, trying, cancelling, entering, perform, Acts, ended, act, only, before, _⨟_, ofEach, inTurn, stepping, colliding, finding, bounding, scheduling, reschedules, forgets, actsOf, goes, pairing, firstSync, initiates, startActs, others, landed}
 use Rattle.model.specs.History.{AtClock, Honest}
-use Rattle.model.specs.Sound.{Sound, Named}
+use Rattle.model.proofs.Sound.{Sound, Named}
 use Rattle.model.proofs.Cases.{store-case, put-case, enter-case}
 use Rattle.model.proofs.Lists.{set-case, has-snoc}
 use Rattle.model.proofs.Schedule.{has-others}
@@ -230,7 +229,7 @@ module _ (s : State) (all : (g : ℕ) → AtClock s g) where
   goes-honest t gs few i I u k =
       let p = getD gs i zeroG in
       then-honest _ _ u (Carried s) (Carried s) (tt, λ z. carried-on s u _ k (store-carried u i (grainOf (p .pos) (p .vel) fzero (p .val)) (sym (k .clock ∙ t))))
-      (λ v k. each-honest (Carried s) (λ c. only (entering i c)) (cellsOfGrain (v .box) (p .pos)) (λ c w h k. (tt, λ z. carried-on s w _ k (enter-carried w i c (let e = k .few in omega (arith, e))))) v k)
+      (λ v k. each-honest (Carried s) (λ c. only (entering i c)) (cellsOfGrain (v .box) p) (λ c w h k. (tt, λ z. carried-on s w _ k (enter-carried w i c (let e = k .few in omega (arith, e))))) v k)
 
 clear-at : (b : Domain) (room n g : ℕ) → AtClock (clear b room n) g
 unfolding clear

@@ -12,7 +12,7 @@ use lib.Ieee.Scale.{finite}
 use Rattle.scheduler.specs.declared.Scheduler.{Scheduler}
 use Rattle.model.specs.declared.Domain.{Domain}
 use Rattle.halting.specs.Out.{each}
-use Rattle.order.specs.Numbers.{fzero, last}
+use Rattle.order.specs.Numbers.{fzero, f64Max}
 use Rattle.scheduler.specs.Heap.{timeAt, parent, start as startHeap}
 use Rattle.scheduler.specs.Standing.{Ordered}
 use Rattle.order.proofs.Compare.{lt-irrefl}
@@ -24,7 +24,7 @@ use Rattle.model.specs.State.{Row, none, zeroG, heads, liveAt, has}
 use Rattle.model.specs.Acts.{fineGrain}
 use Rattle.model.specs.Sizes.{boxOk}
 use Rattle.model.specs.Start.{empty, clear}
-use Rattle.model.specs.Sound.{Numbers, Side, Sound}
+use Rattle.model.proofs.Sound.{Numbers, Side, Sound}
 use Rattle.halting.proofs.Bools.{clash}
 use Rattle.model.proofs.Grid.{cells-max}
 
@@ -48,19 +48,19 @@ module _ (m : ℕ) {A : Type 0} (k : ℕ) (z : A) where
     | no h ↦ ap (λ (r : Row A). r .live) (getD-replicate m i (empty k z) none (omega arith))
   ]
 
-empty-heads : (m room c : ℕ) → heads (replicate m (empty room zeroP)) c ≡ last
+empty-heads : (m room c : ℕ) → heads (replicate m (empty room zeroP)) c ≡ f64Max
 unfolding heads
 empty-heads m room c = ap headTime (empty-live m room zeroP c)
 
-all-last : (h : ℕ → Float) (s : Scheduler) → ((c : ℕ) → h c ≡ last) → (i : ℕ) → timeAt h s i ≡ last
+all-last : (h : ℕ → Float) (s : Scheduler) → ((c : ℕ) → h c ≡ f64Max) → (i : ℕ) → timeAt h s i ≡ f64Max
 all-last h s f i = elim (decLe (s .cells) i) [
   | yes o ↦ time-out h s i o
   | no n ↦ time-in h s i (omega arith) ∙ f (getD (s .heap) i 0)
 ]
 
-all-ordered : (h : ℕ → Float) (s : Scheduler) → ((c : ℕ) → h c ≡ last) → Ordered h s
+all-ordered : (h : ℕ → Float) (s : Scheduler) → ((c : ℕ) → h c ≡ f64Max) → Ordered h s
 unfolding Ordered
-all-ordered h s f c p q = rw (all-last h s f c, all-last h s f (parent c)) (lt-irrefl last)
+all-ordered h s f c p q = rw (all-last h s f c, all-last h s f (parent c)) (lt-irrefl f64Max)
 
 zero-fine : fineGrain zeroG ≡ true
 unfolding fineGrain ofBits

@@ -6,9 +6,10 @@ use native.Mathlib.Omega.{arith}
 use native.Mathlib.Decide.{ℕ-discrete}
 use lib.Ieee.{Float}
 use Rattle.model.specs.State.{State}
-use Rattle.model.specs.Doing.{Stepped, done, halted, Moved, movedTo, step, Whole}
+use Rattle.model.specs.Execute.{Stepped, done, halted, Moved, movedTo, step}
 use Rattle.model.specs.Run.{How, spent, refused, Ran, onward, runFrom}
 use Rattle.model.specs.Reached.{steps}
+use Rattle.model.proofs.Steps.{Whole}
 
 -- how the step after n steps ends
 abbrev pub stepAt : Float → State → ℕ → Moved

@@ -18,18 +18,17 @@ use Rattle.model.specs.Grid.{cells}
 use Rattle.model.specs.Events.{eventOf, headTime, names}
 use Rattle.model.specs.State.{State, home, listed, queue, has}
 use Rattle.model.specs.Acts.{first, head}
-use Rattle.model.specs.Doing.{Whole}
 use Rattle.model.specs.Run.{How, synchronised, spent, refused}
 use Rattle.halting.specs.Every.{All}
 use Rattle.model.specs.Standing.{Rising, Once, EachCell, EachGrain, EachEvent, Standing}
-use Rattle.model.specs.Sound.{Named, Held, Stands}
+use Rattle.model.proofs.Sound.{Named, Held, Stands}
 use Rattle.model.specs.Check.{runAll}
 use Rattle.model.specs.Reached.{most, Reached, StepOf, steps}
 use Rattle.halting.proofs.Bools.{clash}
 use Rattle.halting.proofs.All.{all-to}
 use Rattle.model.proofs.Keeps.{head-is, root-first}
 use Rattle.model.proofs.Plans.{cells-some}
-use Rattle.model.proofs.Steps.{first-some, step-clock}
+use Rattle.model.proofs.Steps.{Whole, first-some, step-clock}
 use Rattle.model.proofs.Counts.{counts, stepAt}
 use Rattle.model.proofs.Stands.{sound-fitted, standing}
 use Rattle.model.proofs.Whole.{followBy, rated-later, runs, whole}

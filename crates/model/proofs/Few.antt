@@ -13,7 +13,8 @@ use lib.Ieee.Order.{round-mono}
 use lib.Ieee.Positive.{num, den, positive, den-pos, through}
 use Rattle.order.proofs.Order as O
 use Rattle.order.proofs.Cut.{cut-mono}
-use Rattle.order.specs.Numbers.{one, half, two, fortyeight}
+use Rattle.order.specs.Numbers.{one, two}
+use Rattle.model.specs.Constants.{radius, longest}
 use Rattle.model.specs.FromPToC.{width, firstCell, endCell}
 use Rattle.order.proofs.Mono.{plain, positive-plain, le→fr, div-is, add-mono, sub-mono, div-mono, num-pos}
 use Rattle.root.proofs.Cases.{no-nan}
@@ -65,7 +66,7 @@ caps-at (suc m) k t h = go (leb m k) refl (λ (l : k < m). caps-at m k (and-r (c
     go true e again = let q : m ≤ k = leb→le m k (subst T (sym e) tt) in let s : k ≡ m = omega arith in subst (λ (z : ℕ). T (capped z)) (sym s) (and-l (capped m) (caps m) t)
     go false e again = again (nleb→lt m k (subst (λ (b : Bool). T (not b)) (sym e) tt))
 
-twentyfour : cut (div binary64 fortyeight two) ≡ 24
+twentyfour : cut (div binary64 longest two) ≡ 24
 unfolding ofBits div toUnsigned
 twentyfour = refl
 
@@ -74,7 +75,7 @@ unfolding ofBits
 two-wide w p h = le-trans (le→fr two w tt (positive-plain w p) h) (le-of-eq (mul-one (num w)))
 
 -- ---- the kernel's span of two ends that are at most 5/4 apart
-module _ (l : Float) (n : ℕ) (F : Facts l n) (m k : Float) (pm : T (plain m)) (pk : T (plain k)) (m48 : T (le m fortyeight)) (k48 : T (le k fortyeight)) (i : ℕ)
+module _ (l : Float) (n : ℕ) (F : Facts l n) (m k : Float) (pm : T (plain m)) (pk : T (plain k)) (m48 : T (le m longest)) (k48 : T (le k longest)) (i : ℕ)
     (hk : num k * 4 ≤ (i + 5) * den k) (hm : i * den m ≤ num m * 4) where
   abbrev w : Float
   w = width l n
@@ -86,7 +87,7 @@ module _ (l : Float) (n : ℕ) (F : Facts l n) (m k : Float) (pm : T (plain m)) 
   y = div binary64 k w
 
   low : cut z ≤ 24
-  low = le-trans (cut-mono 64 z (div binary64 fortyeight two) (div-mono binary64 m fortyeight w two pm fortyeight-plain (F .wide-positive) two-positive m48 (F .two-up))) (le-of-eq twentyfour)
+  low = le-trans (cut-mono 64 z (div binary64 longest two) (div-mono binary64 m longest w two pm fortyeight-plain (F .wide-positive) two-positive m48 (F .two-up))) (le-of-eq twentyfour)
 
   -- m is below the next cell's edge
   below : num m * den w < suc (cut z) * (num w * den m)
@@ -128,11 +129,11 @@ abbrev ends2 : Float → Float → ℕ → List Bool
 ends2 a b j =
     positive a
     ∷ positive b
-    ∷ le half a
-    ∷ plain (add binary64 b half)
-    ∷ plain (sub binary64 a half)
-    ∷ leb (num (add binary64 b half) * 4) ((j - 2 + 5) * den (add binary64 b half))
-    ∷ leb ((j - 2) * den (sub binary64 a half)) (num (sub binary64 a half) * 4)
+    ∷ le radius a
+    ∷ plain (add binary64 b radius)
+    ∷ plain (sub binary64 a radius)
+    ∷ leb (num (add binary64 b radius) * 4) ((j - 2 + 5) * den (add binary64 b radius))
+    ∷ leb ((j - 2) * den (sub binary64 a radius)) (num (sub binary64 a radius) * 4)
     ∷ []
 
 abbrev row2 : ℕ → Bool
@@ -148,25 +149,25 @@ checked2 = tt
 
 pub record Near (x : Float) : Type 0 where
   pub i : ℕ
-  pub high : num (add binary64 x half) * 4 ≤ (i + 5) * den (add binary64 x half)
-  pub deep : i * den (sub binary64 x half) ≤ num (sub binary64 x half) * 4
+  pub high : num (add binary64 x radius) * 4 ≤ (i + 5) * den (add binary64 x radius)
+  pub deep : i * den (sub binary64 x radius) ≤ num (sub binary64 x radius) * 4
 
-module _ (x : Float) (px : T (plain x)) (hx : T (le half x)) (M : T (plain (add binary64 x half))) (N : T (plain (sub binary64 x half))) (x48 : T (le x (quarter 192))) where
+module _ (x : Float) (px : T (plain x)) (hx : T (le radius x)) (M : T (plain (add binary64 x radius))) (N : T (plain (sub binary64 x radius))) (x48 : T (le x (quarter 192))) where
   at2 : (j : ℕ) → T (row2 j) → T (le (quarter j) x) → T (le x (quarter (suc j))) → Near x
   at2 j r ha hb =
       let a = quarter j in
       let b = quarter (suc j) in
       let e : (k : ℕ) → T (nth (ends2 a b j) k) = passed (ends2 a b j) r in
-      let u = add binary64 b half in
-      let v = sub binary64 a half in
+      let u = add binary64 b radius in
+      let v = sub binary64 a radius in
       record {
         i = j - 2;
-        high = through (num (add binary64 x half)) (num u) (j - 2 + 5) (den (add binary64 x half)) (den u) 4 (den-pos u)
-            (le→fr (add binary64 x half) u M (e 3) (add-mono binary64 x b half px (positive-plain b (e 1)) half-plain hb))
+        high = through (num (add binary64 x radius)) (num u) (j - 2 + 5) (den (add binary64 x radius)) (den u) 4 (den-pos u)
+            (le→fr (add binary64 x radius) u M (e 3) (add-mono binary64 x b radius px (positive-plain b (e 1)) half-plain hb))
             (leb→le (num u * 4) ((j - 2 + 5) * den u) (e 5));
-        deep = through (j - 2) (num v) (num (sub binary64 x half)) 4 (den v) (den (sub binary64 x half)) (den-pos v)
+        deep = through (j - 2) (num v) (num (sub binary64 x radius)) 4 (den v) (den (sub binary64 x radius)) (den-pos v)
             (leb→le ((j - 2) * den v) (num v * 4) (e 6))
-            (le→fr v (sub binary64 x half) (e 4) N (sub-mono binary64 a x half half (positive-plain a (e 0)) px half-plain half-plain (e 2) hx ha half-self));
+            (le→fr v (sub binary64 x radius) (e 4) N (sub-mono binary64 a x radius radius (positive-plain a (e 0)) px half-plain half-plain (e 2) hx ha half-self));
       }
 
   next2 : (j : ℕ) (b : Bool) → le x (quarter (suc j)) ≡ b → T (row2 j) → T (le (quarter j) x) → (T (le (quarter (suc j)) x) → Near x) → Near x
@@ -177,15 +178,15 @@ module _ (x : Float) (px : T (plain x)) (hx : T (le half x)) (M : T (plain (add 
   walk2 zero j e r a = at2 j (and-l (row2 j) true r) a (subst (λ (k : ℕ). T (le x (quarter k))) (sym e ∙ add-suc j 0 ∙ ap suc (add-zero j)) x48)
   walk2 (suc c) j e r a = next2 j (le x (quarter (suc j))) refl (and-l (row2 j) (rows2 (suc c) (suc j)) r) a (walk2 c (suc j) (suc-add j (suc c) ∙ sym (add-suc j (suc c)) ∙ e) (and-r (row2 j) (rows2 (suc c) (suc j)) r))
 
-half-quarter : quarter 2 ≡ half
+half-quarter : quarter 2 ≡ radius
 unfolding round ofBits
 half-quarter = refl
 
-pub near : (x : Float) → T (plain x) → T (le half x) → T (le x fortyeight) → T (plain (add binary64 x half)) → T (plain (sub binary64 x half)) → Near x
+pub near : (x : Float) → T (plain x) → T (le radius x) → T (le x longest) → T (plain (add binary64 x radius)) → T (plain (sub binary64 x radius)) → Near x
 near x px hx x48 M N = walk2 x px hx M N (subst (λ (z : Float). T (le x z)) (sym high-end) x48) 189 2 refl checked2 (subst (λ (z : Float). T (le z x)) (sym half-quarter) hx)
 
 -- inside the box: at most two cells
-pub few-inside : (l : Float) (n : ℕ) (F : Facts l n) (x : Float) → T (plain x) → T (le half x) → T (le x fortyeight) → T (plain (add binary64 x half)) → T (plain (sub binary64 x half))
-    → T (le (sub binary64 x half) fortyeight) → T (le (add binary64 x half) fortyeight)
-    → endCell l n (add binary64 x half) ≤ suc (suc (firstCell l n (sub binary64 x half)))
-few-inside l n F x px hx x48 M N m48 k48 = let q = near x px hx x48 M N in few l n F (sub binary64 x half) (add binary64 x half) N M m48 k48 (q .i) (q .high) (q .deep)
+pub few-inside : (l : Float) (n : ℕ) (F : Facts l n) (x : Float) → T (plain x) → T (le radius x) → T (le x longest) → T (plain (add binary64 x radius)) → T (plain (sub binary64 x radius))
+    → T (le (sub binary64 x radius) longest) → T (le (add binary64 x radius) longest)
+    → endCell l n (add binary64 x radius) ≤ suc (suc (firstCell l n (sub binary64 x radius)))
+few-inside l n F x px hx x48 M N m48 k48 = let q = near x px hx x48 M N in few l n F (sub binary64 x radius) (add binary64 x radius) N M m48 k48 (q .i) (q .high) (q .deep)

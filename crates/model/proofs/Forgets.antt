@@ -19,7 +19,7 @@ use Rattle.model.specs.Events.{keepBy, goneBy, names, eventOf, zeroP}
 use Rattle.model.specs.State.{State, Row, row, home, listed, queue, has, requeued}
 use Rattle.model.specs.Acts.{store, cancelled, cancel, queueRow}
 use Rattle.model.specs.Doing.{forget, again, doCollision, doWall}
-use Rattle.model.specs.Sound.{Sound, Named, Held}
+use Rattle.model.proofs.Sound.{Sound, Named, Held}
 use Rattle.halting.specs.Every.{All}
 use Rattle.halting.proofs.Bools.{clash}
 use Rattle.model.proofs.Lists.{live-same, live-other}

@@ -25,7 +25,7 @@ use Rattle.model.specs.State.{Row, row, none, State, grain, home, listed
 use Rattle.model.specs.Acts.{store, insert, inserted, put, cancelled, enter, entered, leave, gone, queueRow}
 use Rattle.halting.specs.Every.{All}
 use Rattle.model.specs.Standing.{syncs, one-if}
-use Rattle.model.specs.Sound.{Sound}
+use Rattle.model.proofs.Sound.{Sound}
 use Rattle.halting.proofs.Bools.{clash}
 use Rattle.model.proofs.Lists.{live-same, live-other, length-snoc, length-but, has-entered}
 use Rattle.model.proofs.Inserts.{inserted-at}

@@ -23,11 +23,12 @@ use Rattle.model.specs.FromPToC.{cellsOfGrain}
 use Rattle.model.specs.Events.{placeOf}
 use Rattle.model.specs.State.{Row, State, grain, home, listed, liveAt, has, none, pushed}
 use Rattle.model.specs.Acts.{store, insert, put, enter, entered}
-use Rattle.model.specs.Doing.{Finder, scheduleCollision, scheduleBy, boundaries, syncAt}
+use Rattle.model.specs.Doing.{scheduleCollision, scheduleBy, boundaries, syncAt, beginning, goesIn, pairs, syncIn, initCell}
+use Rattle.model.specs.Rows.{Finder}
 use Rattle.model.specs.Sizes.{boxOk, grainOk}
-use Rattle.model.specs.Start.{clear, goesIn, pairs, syncIn, initCell, begin}
+use Rattle.model.specs.Start.{clear, begin}
 use Rattle.model.specs.Standing.{Once}
-use Rattle.model.specs.Sound.{Sound}
+use Rattle.model.proofs.Sound.{Sound}
 use Rattle.model.specs.Check.{Fits}
 use Rattle.halting.proofs.Bools.{clash}
 use Rattle.model.proofs.Lists.{eqb-sym, live-other, has-entered}
@@ -38,6 +39,7 @@ use Rattle.model.proofs.Placed.{Placed}
 use Rattle.model.proofs.Born.{born}
 use Rattle.model.proofs.Cleared.{empty-live, clear-sound}
 use Rattle.model.proofs.Starts.{bare, given, clear-box, clear-few, stored, goesIn-goes, different}
+use Rattle.model.proofs.Performs.{begin-is}
 
 -- a number that is neither 8 nor 9
 pub record Fair (r : ℕ) : Type 0 where
@@ -145,7 +147,7 @@ module _ (b : Domain) (room : ℕ) (gs : List Particle) (box : boxOk b ≡ true)
       eqb-flip d c e = eqb-sym d c ∙ e
 
   abbrev Accepted : Type 0
-  Accepted = (i : ℕ) → i < length gs → Placed 4 (cells b) (cellsOfGrain b (given gs i .pos))
+  Accepted = (i : ℕ) → i < length gs → Placed 4 (cells b) (cellsOfGrain b (given gs i))
 
   goesIn-fair : Accepted → (i : ℕ) (u : State) → i < length gs → Goes (bare b room gs) u → home u i ≡ [] → Fair ((goesIn gs i u) .num)
   unfolding goesIn has
@@ -156,15 +158,15 @@ module _ (b : Domain) (room : ℕ) (gs : List Particle) (box : boxOk b ≡ true)
       let k = goes-on (bare b room gs) u w g (keeps-goes u w (stored b room gs box i u g I)) in
       let e : w .box ≡ b = k .near .box ∙ clear-box b room gs box in
       let h : home w i ≡ [] = ap (λ (r : List (Row ℕ)). liveAt r i) (store-homes i (grainOf (given gs i .pos) (given gs i .vel) fzero (given gs i .val)) u) ∙ none′ in
-      entries-fair i I (cellsOfGrain (w .box) (given gs i .pos)) w k (subst (λ (d : Domain). Once (cellsOfGrain d (given gs i .pos))) (sym e) (placed i I .once))
-      (λ c t. placed i I .below c (subst (λ (d : Domain). has c (cellsOfGrain d (given gs i .pos)) ≡ true) e t)) (λ c t. ap (has c) h))
+      entries-fair i I (cellsOfGrain (w .box) (given gs i)) w k (subst (λ (d : Domain). Once (cellsOfGrain d (given gs i))) (sym e) (placed i I .once))
+      (λ c t. placed i I .below c (subst (λ (d : Domain). has c (cellsOfGrain d (given gs i)) ≡ true) e t)) (λ c t. ap (has c) h))
 
   goesIn-other : (i : ℕ) (u : State) (j : ℕ) → (j ≡ i → ⊥) → home ((goesIn gs i u) .st) j ≡ home u j
   unfolding goesIn
   goesIn-other i u j d =
       then-sound (λ v. home v j ≡ home u j) (store i (grainOf (given gs i .pos) (given gs i .vel) fzero (given gs i .val)) u) _
       (ap (λ (r : List (Row ℕ)). liveAt r j) (store-homes i (grainOf (given gs i .pos) (given gs i .vel) fzero (given gs i .val)) u))
-      (λ v e. of-sound (λ w. home w j ≡ home u j) (λ c. enter i c) (cellsOfGrain (v .box) (given gs i .pos)) (λ c w h k. enter-other i c w j d ∙ k) v e)
+      (λ v e. of-sound (λ w. home w j ≡ home u j) (λ c. enter i c) (cellsOfGrain (v .box) (given gs i)) (λ c w h k. enter-other i c w j d ∙ k) v e)
 
   all-fair : Accepted → (m i : ℕ) (u : State) → i + m ≤ length gs → Goes (bare b room gs) u → ((j : ℕ) → i ≤ j → home u j ≡ []) → Fair ((each (goesIn gs) m i u) .num)
   unfolding each
@@ -179,8 +181,8 @@ module _ (b : Domain) (room : ℕ) (gs : List Particle) (box : boxOk b ≡ true)
   clear-homes j = empty-live (length gs) {A = ℕ} 8 0 j
 
   pub begin-fair : Fits b → 16 ≤ room → room ≤ 256 → length gs ≤ 256 → ((i : ℕ) → i < length gs → grainOk b (given gs i) ≡ true) → Fair ((begin b room gs) .num)
-  unfolding begin
+  unfolding beginning
   begin-fair f lo hi few ok =
-      then-fair (each (goesIn gs) (length gs) 0 (bare b room gs)) _
+      subst (λ (o : Out State). Fair (o .num)) (sym (begin-is b room gs)) (then-fair (each (goesIn gs) (length gs) 0 (bare b room gs)) _
       (all-fair (λ i I. born b (given gs i) f box (ok i I)) (length gs) 0 (bare b room gs) (omega arith) (record { sound = clear-sound b room (length gs) box lo hi few; near = near-refl (bare b room gs) }) (λ j J. clear-homes j))
-      (λ z. each-fair initCell init-fair (cells b) 0 _)
+      (λ z. each-fair initCell init-fair (cells b) 0 _))

@@ -18,17 +18,17 @@ use Rattle.model.specs.declared.Event.{Event}
 use Rattle.model.specs.State.{State, marked}
 use Rattle.model.specs.Sizes.{boxOk, countsOk, rated, firstBad}
 use Rattle.model.specs.Acts.{taken}
-use Rattle.model.specs.Doing.{halted, Moved, finish, headEvent, event, step}
+use Rattle.model.specs.Execute.{halted, Moved, finish, headEvent, event, step}
 use Rattle.model.specs.Run.{How, spent, refused, runFrom}
 use Rattle.model.specs.Start.{clear, begin, started, startedAt, start}
 use Rattle.model.specs.Start as begun
 use Rattle.model.specs.Check.{halt, refusal, runAll}
 use Rattle.model.specs.Reached.{Call, after, Reached, steps}
-use Rattle.model.specs.Sound.{Stands}
+use Rattle.model.proofs.Sound.{Stands}
 use Rattle.halting.proofs.Bools.{clash}
 use Rattle.model.proofs.Counts.{Ended, counts}
 use Rattle.model.specs.Rows.{Act, perform, Acts, ended, act, doing, actsOf, startActs}
-use Rattle.model.proofs.Performs.{Does, act-same, execute-is, begin-is}
+use Rattle.model.proofs.Performs.{Does, act-same}
 use Rattle.model.proofs.Runs.{run-stands}
 use Rattle.model.proofs.Stands.{sound-fitted}
 use Rattle.model.proofs.Refusals.{halted-again, run-case}
@@ -111,7 +111,7 @@ pub step-halts-in-order : (rate : Float) (s : State) (r : ℕ) → (step rate s)
 step-halts-in-order rate s r e =
     let m = halted-mark rate s r e in
     let w = actsOf rate (headEvent s) (taken s) in
-    let d : doing w (taken s) ≡ event rate s = unfold event in execute-is rate (headEvent s) (taken s) in
+    let d : doing w (taken s) ≡ event rate s = unfold event in refl in
     subst (HaltIn w r (taken s)) (ap (λ (o : Out State). marked r (o .st)) d ∙ sym (left (m .2) (m .1))) (row-halts w (taken s) r (ap (λ (o : Out State). o .num) d ∙ m .2) (m .1))
   where
     left : (event rate s) .num ≡ r → 0 < r → (step rate s) .state ≡ marked r ((event rate s) .st)
@@ -162,7 +162,7 @@ start-halts-in-order b room gs s e n =
     let c = clear b room (length gs) in
     let w = startActs b gs c in
     let q : s ≡ marked (o .num) (o .st) = accepted b room gs s e .is in
-    let d : doing w c ≡ o = begin-is b room gs in
+    let d : doing w c ≡ o = unfold begin in refl in
     let m : s .mark ≡ o .num = ap (λ (u : State). u .mark) q in
     subst (HaltIn w (s .mark) c) ((λ i. marked (m i) ((d i) .st)) ∙ sym q) (row-halts w c (s .mark) (ap (λ (x : Out State). x .num) d ∙ sym m) (positive (s .mark) n))
   where

@@ -15,7 +15,7 @@ use Rattle.model.specs.declared.Particle.{Particle}
 use Rattle.model.specs.declared.Place.{Place}
 use Rattle.model.specs.declared.Event.{Event}
 use Rattle.model.specs.declared.Event.the-variants.{InterParticleCollision, MoveToNeighbour, MoveOutOfCell, WallReflection, Synchronisation}
-use Rattle.order.specs.Numbers.{last}
+use Rattle.order.specs.Numbers.{f64Max}
 use Rattle.order.proofs.Order.{le-trans, le-refl}
 use Rattle.order.proofs.Clock.{finite-no-nan}
 use Rattle.scheduler.specs.Heap.{timeAt, updated}
@@ -31,7 +31,7 @@ use Rattle.model.specs.State.{Row, row, none, State, zeroG, grain, home,
 use Rattle.model.specs.Acts.{fineGrain, store, insert, cancelled, enter, entered, leave, gone, first, head, taken, queueRow}
 use Rattle.halting.specs.Every.{All}
 use Rattle.model.specs.Standing.{Rising}
-use Rattle.model.specs.Sound.{Named, Held, Queue, Heap, Grain, Sound}
+use Rattle.model.proofs.Sound.{Named, Held, Queue, Heap, Grain, Sound}
 use Rattle.halting.proofs.Bools.{clash}
 use Rattle.model.proofs.Lists.{set-every, live-same, live-other, has-entered, has-left, lists-enter, lists-leave}
 use Rattle.model.proofs.Cases.{store-case, insert-case, enter-case, leave-case}
@@ -44,15 +44,15 @@ module _ (n c : ℕ) (m : List ℕ) where
   head-real [] a = last-real
   head-real (x ∷ xs) a = is-false _ (fine-real x (a .0 .fine))
 
-  head-top : (l : List Place) → All (Held n c m) l → lt last (headTime l) ≡ false
-  head-top [] a = lt-irrefl last
+  head-top : (l : List Place) → All (Held n c m) l → lt f64Max (headTime l) ≡ false
+  head-top [] a = lt-irrefl f64Max
   head-top (x ∷ xs) a = fine-low x (a .0 .fine)
 
 module _ (s : State) (sound : Sound s) where
   abbrev N : ℕ
   N = cells (s .box)
 
-  heads-all : (P : Float → Type 0) → P last → ((c : ℕ) → c < N → P (headTime (queue s c))) → (c : ℕ) → P (heads (s .queues) c)
+  heads-all : (P : Float → Type 0) → P f64Max → ((c : ℕ) → c < N → P (headTime (queue s c))) → (c : ℕ) → P (heads (s .queues) c)
   unfolding heads
   heads-all P p f c = elim (decLe N c) [
     | yes h ↦ subst (λ (r : Row Place). P (headTime (r .live))) (sym (List·getD-eq-default (s .queues) none (omega (arith, sound .long)))) p
@@ -63,8 +63,8 @@ module _ (s : State) (sound : Sound s) where
   unfolding Real
   heads-real = heads-all (λ t. isNan t ≡ false) last-real (λ c h. head-real N c (listed s c) (queue s c) (sound .queues c h .held))
 
-  pub heads-top : (c : ℕ) → lt last (heads (s .queues) c) ≡ false
-  heads-top = heads-all (λ t. lt last t ≡ false) (lt-irrefl last) (λ c h. head-top N c (listed s c) (queue s c) (sound .queues c h .held))
+  pub heads-top : (c : ℕ) → lt f64Max (heads (s .queues) c) ≡ false
+  heads-top = heads-all (λ t. lt f64Max t ≡ false) (lt-irrefl f64Max) (λ c h. head-top N c (listed s c) (queue s c) (sound .queues c h .held))
 
   -- ---- a new queue in one cell, the heap updated, and perhaps a later clock
   module _ (c : ℕ) (r : Row Place) (t : Float) (C : c < N) (q : Queue t (s .room) N c (listed s c) r) where

@@ -14,7 +14,8 @@ use lib.Ieee.Positive.{num, den, positive, den-pos}
 use Rattle.order.proofs.Order as O
 use Rattle.order.proofs.Cut.{cut-mono, cut-capped}
 use Rattle.order.proofs.Finite.{round-zero}
-use Rattle.order.specs.Numbers.{fzero, one, half, two, nine, fortyeight, maxOf, minOf}
+use Rattle.order.specs.Numbers.{fzero, one, two, maxOf, minOf}
+use Rattle.model.specs.Constants.{radius, shortest, longest}
 use Rattle.model.specs.FromPToC.{width, firstCell, endCell}
 use Rattle.order.proofs.Mono.{plain, positive-plain, fr→le, add-is, div-is, add-mono, div-mono, div-plain, num-pos}
 use Rattle.model.proofs.Quarters.{more, four, cnt, Facts}
@@ -126,7 +127,7 @@ pub zero-plain : T (plain fzero)
 unfolding ofBits
 zero-plain = tt
 
-pub half-self : T (le half half)
+pub half-self : T (le radius radius)
 unfolding ofBits le
 half-self = tt
 
@@ -142,11 +143,11 @@ pub eight-plain : T (plain eight)
 unfolding ofBits
 eight-plain = tt
 
-pub nine-plain : T (plain nine)
+pub nine-plain : T (plain shortest)
 unfolding ofBits
 nine-plain = tt
 
-pub fortyeight-plain : T (plain fortyeight)
+pub fortyeight-plain : T (plain longest)
 unfolding ofBits
 fortyeight-plain = tt
 
@@ -167,7 +168,7 @@ pub four-fours : cut (div binary64 four four) ≡ 1
 unfolding ofBits div toUnsigned
 four-fours = refl
 
-pub many-plain : T (plain (div binary64 fortyeight two))
+pub many-plain : T (plain (div binary64 longest two))
 unfolding ofBits div
 many-plain = tt
 
@@ -203,12 +204,12 @@ module _ (l : Float) (n : ℕ) (F : Facts l n) where
   pub from-zero : firstCell l n fzero ≡ 0
   from-zero = ap (λ (z : Float). cut (maxOf z fzero)) (div-is binary64 fzero w zero-plain (F .wide-positive) ∙ nothing (den w) (num w * den fzero) (mul-pos (num-pos w (F .wide-positive)) (den-pos fzero))) ∙ low
 
-  pub quotient-plain : (m : Float) → T (plain m) → T (le m fortyeight) → T (plain (div binary64 m w))
+  pub quotient-plain : (m : Float) → T (plain m) → T (le m longest) → T (plain (div binary64 m w))
   quotient-plain m p h =
-      div-plain binary64 m w (div binary64 fortyeight two) p (F .wide-positive) many-plain
-      (div-mono binary64 m fortyeight w two p fortyeight-plain (F .wide-positive) two-positive h (F .two-up))
+      div-plain binary64 m w (div binary64 longest two) p (F .wide-positive) many-plain
+      (div-mono binary64 m longest w two p fortyeight-plain (F .wide-positive) two-positive h (F .two-up))
 
-  pub hi-some : (m : Float) → T (plain m) → T (le m fortyeight) → 1 ≤ endCell l n m
+  pub hi-some : (m : Float) → T (plain m) → T (le m longest) → 1 ≤ endCell l n m
   hi-some m p h =
       let q = quotient-plain m p h in
       min-cut-ge 1 (add binary64 (div binary64 m w) one) (cnt n)
@@ -233,11 +234,11 @@ module _ (l : Float) (n : ℕ) (F : Facts l n) where
       (max-cut-ge (div binary64 m w)))
 
   -- inside: some cell
-  pub inside : (m k : Float) → T (plain m) → T (plain k) → T (le m k) → T (le k fortyeight) → T (le m (sub binary64 l half)) → firstCell l n m < endCell l n k
+  pub inside : (m k : Float) → T (plain m) → T (plain k) → T (le m k) → T (le k longest) → T (le m (sub binary64 l radius)) → firstCell l n m < endCell l n k
   inside m k p q h j t =
       let z = div binary64 m w in
       let y = div binary64 k w in
-      let pz : T (plain z) = quotient-plain m p (O.le-trans m k fortyeight h j) in
+      let pz : T (plain z) = quotient-plain m p (O.le-trans m k longest h j) in
       let py : T (plain y) = quotient-plain k q j in
       let zy : T (le z y) = div-mono binary64 m k w w p q (F .wide-positive) (F .wide-positive) h (plain-self w (positive-plain w (F .wide-positive))) in
       let below : cut z < n = cut-lt z pz n n256 (F .top m p t) in
@@ -247,5 +248,5 @@ module _ (l : Float) (n : ℕ) (F : Facts l n) where
       (le-trans below (le-of-eq (sym (cut-count n n256)))))
 
   -- from one unit below the length on: the last cell, or none
-  pub lo-last : (m : Float) → T (plain m) → T (le (sub binary64 (sub binary64 (F .low) half) half) m) → n ≤ suc (firstCell l n m)
+  pub lo-last : (m : Float) → T (plain m) → T (le (sub binary64 (sub binary64 (F .low) radius) radius) m) → n ≤ suc (firstCell l n m)
   lo-last m p h = more n (cut (div binary64 m w)) (firstCell l n m) (F .last m p h) (max-cut-ge (div binary64 m w))

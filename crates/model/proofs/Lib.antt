@@ -46,15 +46,18 @@ pub mod Keeps
 pub mod Lists
 pub mod Queue
 pub mod Places
--- A step: what scheduling finds (Plans, told by numbers Answers), executions (Schedule), the step (Steps); a run of them (Runs), behind its checks (Whole); the checks (Reflect, Stands).
+-- A step: what scheduling finds (Plans, told by numbers Answers), executions (Schedule), the step (Steps); a run of them (Runs), behind its checks (Whole); the checks (Sound, Stands,
+-- Reflect, with tests of lists, Turns).
 pub mod Plans
 pub mod Answers
 pub mod Schedule
 pub mod Steps
 pub mod Runs
 pub mod Whole
-pub mod Reflect
+pub mod Sound
 pub mod Stands
+pub mod Reflect
+pub mod Turns
 -- A start: from cleared places (Cleared) to the standing facts (Starts); no 8 or 9 (Fresh), the first event of all (Roots).
 pub mod Cleared
 pub mod Starts

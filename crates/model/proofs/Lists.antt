@@ -13,7 +13,7 @@ use Rattle.halting.specs.Every.{All}
 use Rattle.halting.proofs.Bools.{clash, and-l, or-case, or-false-l, or-false-r}
 use Rattle.model.specs.State.{Row, none, liveAt, has, but, pushed, pulled}
 use Rattle.model.specs.Standing.{Once}
-use Rattle.model.specs.Sound.{Numbers, Side, Lists}
+use Rattle.model.proofs.Sound.{Numbers, Side, Lists}
 
 -- ---- rows: one is replaced
 pub set-every : {A : Type 0} (P : ℕ → A → Type 0) (d : A) (l : List A) (m i : ℕ) (a : A) → length l ≡ m

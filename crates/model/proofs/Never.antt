@@ -11,7 +11,7 @@ use lib.ListN.{length, getD, set, drop, replicate, length-set, length-replicate}
 use lib.Ieee.{Float, binary64, ofBits, add, lt}
 use borrow.Author.Tests.{leb-true}
 use Rattle.scheduler.specs.Heap.{numbered, start as startHeap}
-use Rattle.order.specs.Numbers.{fzero, last}
+use Rattle.order.specs.Numbers.{fzero, f64Max}
 use Rattle.order.proofs.Compare.{lt-irrefl}
 use Rattle.model.specs.declared.Domain.{Domain}
 use Rattle.model.specs.declared.Particle.{Particle}
@@ -25,11 +25,12 @@ use Rattle.model.specs.Stepping.{stepped}
 use Rattle.model.specs.Events.{eventOf, headTime, headPlace, finePlace, insertBy, zeroP}
 use Rattle.model.specs.State.{Row, row, none, State, grain, listed, queue, heads, liveAt, requeued}
 use Rattle.model.specs.Acts.{queueRow, store, insert, inserted, enter, first, head, taken}
-use Rattle.model.specs.Doing.{Stepped, done, halted, finish, stepGrain, doSync, syncAt, execute, headEvent, event, step}
+use Rattle.model.specs.Doing.{stepGrain, doSync, syncAt, beginning, goesIn, initCell}
+use Rattle.model.specs.Execute.{Stepped, done, halted, finish, execute, headEvent, event, step}
 use Rattle.model.specs.Run.{spent, refused, Ran, onward, runFrom}
-use Rattle.model.specs.Start.{clear, goesIn, initCell, begin, started, start}
+use Rattle.model.specs.Start.{clear, begin, started, start}
 use Rattle.model.specs.Standing.{Standing}
-use Rattle.model.specs.Sound.{Named, Stands}
+use Rattle.model.proofs.Sound.{Named, Stands}
 use Rattle.model.specs.Check.{Fits, Fitted, runAll}
 use Rattle.halting.proofs.Bools.{clash, and-l, and-r}
 use Rattle.model.proofs.Lists.{live-same, live-other}
@@ -45,6 +46,7 @@ use Rattle.model.proofs.Roots.{Rooted, updated-root, head-later, rest-r
 use Rattle.model.proofs.Reached.{halted-mark}
 use Rattle.model.proofs.Refusals.{run-case}
 use Rattle.model.proofs.Halts.{accepted, start-halts, in-range}
+use Rattle.model.proofs.Performs.{execute-is, begin-is}
 
 -- ---- 1. a start gives neither 8 nor 9
 pub no-8-or-9-at-start : (b : Domain) (room : ℕ) (gs : List Particle) (s : State) → Fits b → start b room gs ≡ started s → (s .mark ≡ 8 → ⊥) × (s .mark ≡ 9 → ⊥)
@@ -113,7 +115,7 @@ module _ (s : State) (st : Stands s) (sync : headEvent s ≡ Synchronisation) wh
       some = subst (λ (k : ℕ). 0 < length (queue s k)) in-cell-0 (first-some s st)
 
   event-five : (rate : Float) → Five ((event rate s) .num)
-  event-five rate = unfold event in subst (λ (e : Event). Five ((execute rate e (taken s)) .num)) (sym sync) (sync-five rate (taken s) taken-free)
+  event-five rate = unfold event in subst (λ (e : Event). Five ((execute rate e (taken s)) .num)) (sym sync) (rw (execute-is rate Synchronisation (taken s)) (sync-five rate (taken s) taken-free))
 
 pub no-6-at-a-synchronisation : (rate : Float) (s : State) → Fitted s → Standing s → headEvent s ≡ Synchronisation → (r : ℕ) → (step rate s) .how ≡ halted r → r ≡ 5
 no-6-at-a-synchronisation rate s f h sync r e =
@@ -163,7 +165,7 @@ sync-fine : finePlace (syncAt fzero) ≡ true
 unfolding finePlace ofBits lt
 sync-fine = refl
 
-last-late : lt last fzero ≡ false
+last-late : lt f64Max fzero ≡ false
 unfolding ofBits lt
 last-late = refl
 
@@ -212,11 +214,11 @@ init-rooted n (suc m) u e N r =
     then-keeps (Rooted n) (Rooted n) (initCell 0 u) (each initCell m 1) (cell-0-rooted n u N r) (λ w q z. cells-rooted n m 0 w (omega (arith, e)) q)
 
 begin-rooted : (b : Domain) (room : ℕ) (gs : List Particle) → (begin b room gs) .num ≡ 0 → Rooted (cells b) ((begin b room gs) .st)
-unfolding begin
+unfolding beginning
 begin-rooted b room gs =
-    then-keeps (Bare (cells b)) (Rooted (cells b)) (each (goesIn gs) (length gs) 0 (clear b room (length gs))) _
+    subst (λ (o : Out State). o .num ≡ 0 → Rooted (cells b) (o .st)) (sym (begin-is b room gs)) (then-keeps (Bare (cells b)) (Rooted (cells b)) (each (goesIn gs) (length gs) 0 (clear b room (length gs))) _
     (λ z. each-sound (goesIn gs) (Bare (cells b)) (length gs) (λ i u I r. goesIn-bare (cells b) gs i u r) (length gs) 0 (clear b room (length gs)) (omega arith) (clear-bare b room (length gs)))
-    (λ u r. init-rooted (cells b) (cells b) u refl (cells-some b) r)
+    (λ u r. init-rooted (cells b) (cells b) u refl (cells-some b) r))
 
 -- the heap's root is cell 0, and its first event the synchronisation at 0
 pub first-of-all : (b : Domain) (room : ℕ) (gs : List Particle) (s : State) → start b room gs ≡ started s → s .mark ≡ 0 → (first s ≡ 0) × (head s ≡ syncAt fzero)

@@ -23,12 +23,12 @@ use Rattle.model.specs.Events.{names, eventOf}
 use Rattle.model.specs.Stepping.{grainOf}
 use Rattle.model.specs.State.{State, queue, listed}
 use Rattle.model.specs.Acts.{first, taken}
-use Rattle.model.specs.Doing.{headEvent, step}
+use Rattle.model.specs.Execute.{headEvent, step}
 use Rattle.model.specs.Start.{clear, begin}
 use Rattle.model.specs.Reached.{Reached}
 use Rattle.model.specs.Rows.{Act, perform, Acts, doing, _⨟_, inTurn, reschedules, actsOf, goes, initiates}
-use Rattle.model.specs.History.{Deed, did, took, History, done, latest, turns, turned, Dated, namedBy, places, change, dated, stepDone, startDone, history, Later, NoneOld}
-use Rattle.model.specs.Sound.{Sound, Named, Stands}
+use Rattle.model.specs.History.{Deed, did, took, History, rowDone, latest, turns, turned, Dated, namedBy, places, change, dated, stepDone, startDone, history, Later, NoneOld}
+use Rattle.model.proofs.Sound.{Sound, Named, Stands}
 use Rattle.model.proofs.Frame.{in-cell}
 use Rattle.model.proofs.Forgets.{Free}
 use Rattle.model.proofs.Reached.{reached-well}
@@ -50,7 +50,7 @@ module _ (n g : ℕ) where
       subst (λ (b : Bool). All (λ x. namedBy x g ≡ true → cond b (suc (length h)) (turned h g) < x .by) (change d (suc (length h)) c (dated h c))) (sym e)
       (all-change (λ x. namedBy x g ≡ true → turned h g < x .by) d (suc (length h)) c (dated h c) (λ p m. omega (arith, below)) (f c C))
 
-  row-fresh : (w : Acts) (s : State) (h : History) → Every (Calm g) w → Fresh n g h → Fresh n g (done w s h)
+  row-fresh : (w : Acts) (s : State) (h : History) → Every (Calm g) w → Fresh n g h → Fresh n g (rowDone w s h)
   row-fresh = done-keeps (Calm g) (Fresh n g) (λ a s h c z f. fresh-on (did a) h c f)
 
 -- ---- where no pending event names g
@@ -74,34 +74,34 @@ module _ (n g p : ℕ) (x : Particle) (s : State) (h : History) (sound : Sound s
       let C : n ≡ cells (f .at .box) = N ∙ ap cells (sym (f .keeps .frame .near .box)) in
       rw (f .told) (row-fresh n g (rest (f .at)) (f .at) (f .so) (calm (f .at)) (nowhere-fresh n g (f .so) (f .at) (f .tells) (let e = f .keeps .sound .long in omega (arith, e, C)) (λ c K. f .free g q c (rw (← C) K))))
 
-  wall-fresh : (doing (reflects p x s) s) .num ≡ 0 → Fresh n g h → Fresh n g (done (reflects p x s) s h)
+  wall-fresh : (doing (reflects p x s) s) .num ≡ 0 → Fresh n g h → Fresh n g (rowDone (reflects p x s) s h)
   wall-fresh z f = by (eqb p g) refl
     where
       row : State → Acts
       row = reflects p x
 
-      by : (b : Bool) → eqb p g ≡ b → Fresh n g (done (row s) s h)
-      by true e = renewed-fresh (λ i. i ≡ p) (reschedules p) (done (row s) s h) (calm-again g p) (sym (eqb-true p g e)) (wall-renewed p x s h sound t P X z)
+      by : (b : Bool) → eqb p g ≡ b → Fresh n g (rowDone (row s) s h)
+      by true e = renewed-fresh (λ i. i ≡ p) (reschedules p) (rowDone (row s) s h) (calm-again g p) (sym (eqb-true p g e)) (wall-renewed p x s h sound t P X z)
       by false e = row-fresh n g (row s) s h (calm-wall g p x s e) f
 
   module _ (q : ℕ) (y : Particle) (Q : q < length (s .grains)) (Y : y .time ≡ s .clock) where
-    collision-fresh : (doing (collides p x q y s) s) .num ≡ 0 → Fresh n g h → Fresh n g (done (collides p x q y s) s h)
+    collision-fresh : (doing (collides p x q y s) s) .num ≡ 0 → Fresh n g h → Fresh n g (rowDone (collides p x q y s) s h)
     collision-fresh z f = by (eqb p g) refl (eqb q g) refl
       where
         row : State → Acts
         row = collides p x q y
 
-        named : (g ≡ p) ⊎ (g ≡ q) → Fresh n g (done (row s) s h)
-        named m = renewed-fresh (λ i. (i ≡ p) ⊎ (i ≡ q)) (reschedules p ⨟ reschedules q) (done (row s) s h) (calm-both g p q) m (collision-renewed p x s h sound t P X q y Q Y z)
+        named : (g ≡ p) ⊎ (g ≡ q) → Fresh n g (rowDone (row s) s h)
+        named m = renewed-fresh (λ i. (i ≡ p) ⊎ (i ≡ q)) (reschedules p ⨟ reschedules q) (rowDone (row s) s h) (calm-both g p q) m (collision-renewed p x s h sound t P X q y Q Y z)
 
-        by : (b : Bool) → eqb p g ≡ b → (d : Bool) → eqb q g ≡ d → Fresh n g (done (row s) s h)
+        by : (b : Bool) → eqb p g ≡ b → (d : Bool) → eqb q g ≡ d → Fresh n g (rowDone (row s) s h)
         by true e d e′ = named (inl (sym (eqb-true p g e)))
         by false e true e′ = named (inr (sym (eqb-true q g e′)))
         by false e false e′ = row-fresh n g (row s) s h (calm-collision g p x q y s e e′) f
 
 -- ---- any event
 module _ (n g : ℕ) (rate : Float) (c : ℕ) (s : State) (h : History) (sound : Sound s) (t : Tells h s) (N : n ≡ cells (s .box)) (C : c < cells (s .box)) where
-  execute-fresh : (e : Event) → Named (cells (s .box)) c (listed s c) e → (doing (actsOf rate e s) s) .num ≡ 0 → Fresh n g h → Fresh n g (done (actsOf rate e s) s h)
+  execute-fresh : (e : Event) → Named (cells (s .box)) c (listed s c) e → (doing (actsOf rate e s) s) .num ≡ 0 → Fresh n g h → Fresh n g (rowDone (actsOf rate e s) s h)
   execute-fresh (InterParticleCollision p q x y v w k) m z f =
       collision-fresh n g p (grainOf x v (s .clock) k) s h sound t N ((in-cell p c s sound C (m .0)) .grain) refl q (grainOf y w (s .clock) k) ((in-cell q c s sound C (m .1)) .grain) refl z f
   execute-fresh (MoveToNeighbour p x k) m z f = row-fresh n g _ s h (acts-calm g rate (MoveToNeighbour p x k) s refl) f

@@ -25,14 +25,15 @@ use Rattle.model.specs.Events.{names, eventOf}
 use Rattle.model.specs.State.{State, Row, liveAt, grain, listed, queue, has, requeued}
 use Rattle.model.specs.Acts.{store, cancelled, enter, gone, first, taken}
 use Rattle.model.specs.Acts as Acts
-use Rattle.model.specs.Doing.{landed, execute, headEvent, step}
+use Rattle.model.specs.Execute.{headEvent, step}
 use Rattle.model.specs.Start.{begin}
 use Rattle.model.specs.Standing.{Once, syncs, one-if}
-use Rattle.model.specs.Sound.{Sound, Held, Named, Stands}
+use Rattle.model.proofs.Sound.{Sound, Held, Named, Stands}
 use Rattle.model.specs.Reached.{Reached}
-use Rattle.model.specs.Rows.{within, Rule, pair, bound, sync, Act, moving, turning, trying, cancelling, entering, leaving, Acts, doing, only, _⨟_, inTurn, stepping, scheduling, reschedules, syncing, actsOf, initiates}
-use Rattle.model.specs.History.{did, took, History, done, Dated, namedBy, places, keepDated, dated, stepDone, startDone, history}
+use Rattle.model.specs.Rows.{about, Rule, pair, bound, sync, Act, moving, turning, trying, cancelling, entering, leaving, Acts, doing, only, _⨟_, inTurn, stepping, scheduling, reschedules, syncing, actsOf, initiates, landed}
+use Rattle.model.specs.History.{did, took, History, rowDone, Dated, namedBy, places, keepDated, dated, stepDone, startDone, history}
 use Rattle.model.specs.Missing.{Owes, Owed, NothingElse}
+use Rattle.model.specs.Doing.{execution}
 use Rattle.model.proofs.Along.{Parts, begin-box, placed, placing, Opened, reached-along}
 use Rattle.model.proofs.Cases.{enter-case}
 use Rattle.model.proofs.Forgets.{unnamed}
@@ -51,7 +52,7 @@ use Rattle.model.proofs.Asked.{Mine, AllMine, Clean, mine-quiet, mine-e
 use Rattle.model.proofs.Orderly.{Orderly, Either, Just, Asking, Again, asking-by, asking-within, asking-owes, orderly-mine, orderly-before, orderly-turn, schedule-orderly, again-orderly, init-orderly, steps-turn}
 
 -- ---- what cells owe by other lists
-owes-more : (s u : State) (c : ℕ) (r : Rule) → ((g : ℕ) → within r g ≡ true → has g (listed s c) ≡ true → has g (listed u c) ≡ true) → Owes s c r → Owes u c r
+owes-more : (s u : State) (c : ℕ) (r : Rule) → ((g : ℕ) → about r g ≡ true → has g (listed s c) ≡ true → has g (listed u c) ≡ true) → Owes s c r → Owes u c r
 owes-more s u c (pair p q) f o = concerns-by u s c (pair p q) f o
 owes-more s u c (bound b p d) f o = concerns-by u s c (bound b p d) f o
 owes-more s u c sync f o = o
@@ -83,7 +84,7 @@ module _ (n : ℕ) (s : State) (sound : Sound s) (N : n ≡ cells (s .box)) wher
 
 -- ---- a reflection and a collision
 module _ (n p : ℕ) (x : Particle) (s : State) (h : History) (sound : Sound s) (t : Tells h s) (N : n ≡ cells (s .box)) (P : p < length (s .grains)) (X : x .time ≡ s .clock) (mine : AllMine n s h) where
-  wall-mine : (doing (reflects p x s) s) .num ≡ 0 → AllMine n s (done (reflects p x s) s h)
+  wall-mine : (doing (reflects p x s) s) .num ≡ 0 → AllMine n s (rowDone (reflects p x s) s h)
   wall-mine z =
       let f = wall-renewed p x s h sound t P X z in
       let u = f .at in
@@ -91,12 +92,12 @@ module _ (n p : ℕ) (x : Particle) (s : State) (h : History) (sound : Sound s) 
       let Q : p < length (u .grains) = rw (f .keeps .frame .near .few) P in
       let m : AllMine n u (f .so) = same-mine n s (f .so) (settled-keeps (AllMine n s) (λ a l e i. settle-mine n s l i a e) h (f .so) (f .settled) mine) u (f .keeps .frame .members) in
       let free : (c : ℕ) → c < n → All (λ d. namedBy d p ≡ false) (dated (f .so) c) = λ c C. free-dated p c (f .so) u (f .tells) (let k = f .keeps .sound .long in omega (arith, k, M)) (f .free p refl c (rw (← M) C)) in
-      same-mine n u (done (reflects p x s) s h)
+      same-mine n u (rowDone (reflects p x s) s h)
       (rw (f .told) (orderly-mine n u (reschedules p u) (Again u p) u (f .so) (refl, refl) (again-row n u (f .keeps .sound) M p Q u (refl, refl)) (again-asks n u (f .keeps .sound) M p Q (f .so) m free) m))
       s (sym (f .keeps .frame .members))
 
   module _ (q : ℕ) (y : Particle) (Q : q < length (s .grains)) (Y : y .time ≡ s .clock) (D : eqb p q ≡ false) where
-    collision-mine : (doing (collides p x q y s) s) .num ≡ 0 → AllMine n s (done (collides p x q y s) s h)
+    collision-mine : (doing (collides p x q y s) s) .num ≡ 0 → AllMine n s (rowDone (collides p x q y s) s h)
     collision-mine z =
         let f = collision-renewed p x s h sound t P X q y Q Y z in
         let u = f .at in
@@ -105,7 +106,7 @@ module _ (n p : ℕ) (x : Particle) (s : State) (h : History) (sound : Sound s) 
         let Q4 : q < length (u .grains) = rw (f .keeps .frame .near .few) Q in
         let m : AllMine n u (f .so) = same-mine n s (f .so) (settled-keeps (AllMine n s) (λ a l e i. settle-mine n s l i a e) h (f .so) (f .settled) mine) u (f .keeps .frame .members) in
         let free : (g : ℕ) → (g ≡ p) ⊎ (g ≡ q) → (c : ℕ) → c < n → All (λ d. namedBy d g ≡ false) (dated (f .so) c) = λ g w c C. free-dated g c (f .so) u (f .tells) (let k = f .keeps .sound .long in omega (arith, k, M)) (f .free g w c (rw (← M) C)) in
-        same-mine n u (done (collides p x q y s) s h)
+        same-mine n u (rowDone (collides p x q y s) s h)
         (rw (f .told) (orderly-mine n u ((reschedules p ⨟ reschedules q) u) (Either (Again u p) (Again u q)) u (f .so) (refl, refl)
         (orderly-before u (reschedules p u) (reschedules q) (Again u p) (Again u q) u (refl, refl) (again-row n u (f .keeps .sound) M p P4 u (refl, refl)) (again-row n u (f .keeps .sound) M q Q4)
         (λ c r a b. differ (eq-eqb p q (sym (asking-by (listed u (a .0)) p (a .0) c r (a .2)) ∙ asking-by (listed u (b .0)) q (b .0) c r (b .2))) D))
@@ -141,7 +142,7 @@ module _ (n p : ℕ) (x : MyVec) (k : ℕ) (s : State) (h : History) (sound : So
   moved-mine : AllMine n s h₁
   moved-mine = mine-quiet n s h mine (did (moving p x (s .clock))) (λ c r. refl) (λ g c. refl)
 
-  neighbour-mine : Tells h s → let row = (only (moving p x (s .clock)) ⨟ only (entering p k) ⨟ scheduling p k) s in (doing row s) .num ≡ 0 → AllMine n ((doing row s) .st) (done row s h)
+  neighbour-mine : Tells h s → let row = (only (moving p x (s .clock)) ⨟ only (entering p k) ⨟ scheduling p k) s in (doing row s) .num ≡ 0 → AllMine n ((doing row s) .st) (rowDone row s h)
   unfolding dated
   neighbour-mine t z =
       let a = one-whole (moving p x (s .clock)) (only (entering p k) ⨟ scheduling p k) s h z in
@@ -160,16 +161,16 @@ module _ (n p : ℕ) (x : MyVec) (k : ℕ) (s : State) (h : History) (sound : So
       (λ c C d u m. owes-more s s2 c (m .owed .rule) (λ g v e. more (enter-done p k s₁ (b .first)) K1 g c (ap (λ (l : List (Row ℕ)). has g (liveAt l c)) (moved .frame .members) ∙ e)) (m .owed .owes)) in
       let C2 : k < cells (s2 .box) = i .cell in
       let left : (doing ((only (moving p x (s .clock)) ⨟ only (entering p k) ⨟ scheduling p k) s) s) .st ≡ (doing (scheduling p k s2) s2) .st = a .left ∙ b .left in
-      let o : AllMine n s2 (done (scheduling p k s2) s2 h2) = orderly-mine n s2 (scheduling p k s2) (Asking (listed s2 k) p k) s2 h2 (refl, refl) (schedule-orderly s2 p k s2 (w .sound .lists .members .each k C2 .once) (refl, refl))
+      let o : AllMine n s2 (rowDone (scheduling p k s2) s2 h2) = orderly-mine n s2 (scheduling p k s2) (Asking (listed s2 k) p k) s2 h2 (refl, refl) (schedule-orderly s2 p k s2 (w .sound .lists .members .each k C2 .once) (refl, refl))
       (λ c r q. (asking-owes s2 p k c r (i .there) q, clean-free n s2 h2 m2 c (rw (q .0, N) K) r p (asking-within (listed s2 k) p k c r q) (subst (λ (j : ℕ). All (λ d. namedBy d p ≡ false) (dated h j)) (sym (q .0)) free))) m2 in
-      rw (a .told, b .told) (same-mine n s2 (done (scheduling p k s2) s2 h2) o _ (ap (λ (u : State). u .members) left ∙ row-lists (scheduling p k s2) s2 (mild-schedule p k s2) .0))
+      rw (a .told, b .told) (same-mine n s2 (rowDone (scheduling p k s2) s2 h2) o _ (ap (λ (u : State). u .members) left ∙ row-lists (scheduling p k s2) s2 (mild-schedule p k s2) .0))
     where
       more : (enter p k s₁) .st ≡ Acts.entered p k s₁ → k < cells (s₁ .box) → (g c : ℕ) → has g (listed s₁ c) ≡ true → has g (listed ((enter p k s₁) .st) c) ≡ true
       more q K1 g c e =
           subst (λ (y : State). has g (listed y c) ≡ true) (sym q)
           (has-entered (cells (s₁ .box)) (length (s₁ .grains)) 32 (s₁ .members) (moved .sound .lists .members) k p K1 c g ∙ ap (λ (b : Bool). b || (eqb c k && eqb g p)) e)
 
-  out-mine : let row = (only (moving p x (s .clock)) ⨟ only (cancelling p k) ⨟ only (leaving p k)) s in (doing row s) .num ≡ 0 → AllMine n ((doing row s) .st) (done row s h)
+  out-mine : let row = (only (moving p x (s .clock)) ⨟ only (cancelling p k) ⨟ only (leaving p k)) s in (doing row s) .num ≡ 0 → AllMine n ((doing row s) .st) (rowDone row s h)
   unfolding dated
   out-mine z =
       let a = one-whole (moving p x (s .clock)) (only (cancelling p k) ⨟ only (leaving p k)) s h z in
@@ -189,11 +190,11 @@ module _ (n p : ℕ) (x : MyVec) (k : ℕ) (s : State) (h : History) (sound : So
       off c true e l = all-to (λ d. namedBy d p ≡ false) (λ d. eqb k c ≡ true → namedBy d p ≡ false) (keepDated p l) (λ d f q. f) (keep-unnamed p l)
       off c false e l = all-always (λ d. eqb k c ≡ true → namedBy d p ≡ false) (λ d q. differ q e) l
 
-      here : (g c : ℕ) (d : Dated) (m : Mine (did (cancelling p k) ∷ h₁) s c d) → (eqb k c ≡ true → namedBy d p ≡ false) → within (m .owed .rule) g ≡ true → (a : Bool) → eqb c k ≡ a → (b : Bool) → eqb g p ≡ b → (a && b) ≡ false
+      here : (g c : ℕ) (d : Dated) (m : Mine (did (cancelling p k) ∷ h₁) s c d) → (eqb k c ≡ true → namedBy d p ≡ false) → about (m .owed .rule) g ≡ true → (a : Bool) → eqb c k ≡ a → (b : Bool) → eqb g p ≡ b → (a && b) ≡ false
       here g c d m f u false e b q = refl
       here g c d m f u true e false q = refl
       here g c d m f u true e true q =
-          differ (ap (λ (y : Dated). namedBy y p) (m .owed .is) ∙ m .fits .1 p ∙ ap (within (m .owed .rule)) (sym (eqb-true g p q)) ∙ u) (f (eq-eqb k c (sym (eqb-true c k e))))
+          differ (ap (λ (y : Dated). namedBy y p) (m .owed .is) ∙ m .fits .1 p ∙ ap (about (m .owed .rule)) (sym (eqb-true g p q)) ∙ u) (f (eq-eqb k c (sym (eqb-true c k e))))
 
       less : (s2 : State) → Keeps s s2 → (g c : ℕ) → (eqb c k && eqb g p) ≡ false → has g (listed s2 c) ≡ true → has g (listed (gone p k s2) c) ≡ true
       less s2 k2 g c e q = has-left (cells (s2 .box)) (length (s2 .grains)) 32 (s2 .members) (k2 .sound .lists .members) k p (rw (k2 .frame .near .box) K) c g ∙ (rw (q, e))
@@ -208,10 +209,10 @@ no-syncs (d ∷ l) z =
 -- ---- any event
 module _ (n : ℕ) (rate : Float) (c₀ : ℕ) (s : State) (h : History) (sound : Sound s) (t : Tells h s) (N : n ≡ cells (s .box)) (C : c₀ < cells (s .box)) (mine : AllMine n s h) where
   -- where the lists stay
-  as-lists : (e : Event) → (execute rate e s) .st .members ≡ s .members → AllMine n s (done (actsOf rate e s) s h) → AllMine n ((doing (actsOf rate e s) s) .st) (done (actsOf rate e s) s h)
-  as-lists e q m = same-mine n s (done (actsOf rate e s) s h) m ((doing (actsOf rate e s) s) .st) (ap (λ (o : Out State). o .st .members) (execute-is rate e s) ∙ q)
+  as-lists : (e : Event) → (execution rate e s) .st .members ≡ s .members → AllMine n s (rowDone (actsOf rate e s) s h) → AllMine n ((doing (actsOf rate e s) s) .st) (rowDone (actsOf rate e s) s h)
+  as-lists e q m = same-mine n s (rowDone (actsOf rate e s) s h) m ((doing (actsOf rate e s) s) .st) (ap (λ (o : Out State). o .st .members) (execute-is rate e s) ∙ q)
 
-  sync-mine : syncs (queue s 0) ≡ 0 → AllMine n ((doing (actsOf rate Synchronisation s) s) .st) (done (actsOf rate Synchronisation s) s h)
+  sync-mine : syncs (queue s 0) ≡ 0 → AllMine n ((doing (actsOf rate Synchronisation s) s) .st) (rowDone (actsOf rate Synchronisation s) s h)
   sync-mine z =
       let w = cells-some (s .box) in
       let q : syncs (places (dated h 0)) ≡ 0 = ap syncs (t .queues 0 (let l = sound .long in omega (arith, l, w))) ∙ z in
@@ -219,11 +220,11 @@ module _ (n : ℕ) (rate : Float) (c₀ : ℕ) (s : State) (h : History) (sound 
       let row = actsOf rate Synchronisation s in
       let o : Orderly s (Either (λ k r. ⊥) (Just 0 sync)) row = orderly-before s (inTurn stepping (length (s .grains)) 0 s) (only (syncing (add binary64 (s .clock) rate))) (λ k r. ⊥) (Just 0 sync) s (refl, refl) (steps-turn s (length (s .grains)) 0 s (refl, refl))
       (λ u l. ((refl, λ g. refl), (refl, refl), λ v m. tt)) (λ k r a b. a) in
-      same-mine n s (done row s h)
+      same-mine n s (rowDone row s h)
       (orderly-mine n s row (Either (λ k r. ⊥) (Just 0 sync)) s h (refl, refl) o (λ c r e. elim e [ inl a ↦ absurd a | inr b ↦ (rw (b .1) (b .0), subst (Clean h c) (sym (b .1)) (subst (λ (i : ℕ). Clean h i sync) (sym (b .0)) clean)) ]) mine)
       ((doing row s) .st) (row-lists row s (every-before Mild _ _ s (every-turn Mild stepping (length (s .grains)) 0 s mild-step) (λ u. ((refl, λ g. refl), λ v. tt))) .0)
 
-  execute-mine : (e : Event) → Named (cells (s .box)) c₀ (listed s c₀) e → one-if e + syncs (queue s 0) ≡ 1 → (doing (actsOf rate e s) s) .num ≡ 0 → AllMine n ((doing (actsOf rate e s) s) .st) (done (actsOf rate e s) s h)
+  execute-mine : (e : Event) → Named (cells (s .box)) c₀ (listed s c₀) e → one-if e + syncs (queue s 0) ≡ 1 → (doing (actsOf rate e s) s) .num ≡ 0 → AllMine n ((doing (actsOf rate e s) s) .st) (rowDone (actsOf rate e s) s h)
   execute-mine (InterParticleCollision p q x y v w k) m i z =
       let P = (in-cell p c₀ s sound C (m .0)) .grain in
       let Q = (in-cell q c₀ s sound C (m .1)) .grain in
@@ -252,7 +253,7 @@ start-mine b room gs st o =
     let u = placed b room gs in
     let n = cells (((begin b room gs) .st) .box) in
     let same : ((begin b room gs) .st) .members ≡ u .members = ap (λ (x : State). x .members) (o .left) ∙ row-lists (inTurn initiates (cells b) 0 u) u (every-turn Mild initiates (cells b) 0 u mild-init) .0 in
-    rw (o .told) (same-mine n u (done (inTurn initiates (cells b) 0 u) u (placing b room gs))
+    rw (o .told) (same-mine n u (rowDone (inTurn initiates (cells b) 0 u) u (placing b room gs))
     (orderly-mine n u (inTurn initiates (cells b) 0 u) _ u (placing b room gs) (refl, refl)
     (orderly-turn u initiates (λ c k r. (k ≡ c) × Owes u c r) (λ x y c r p q. sym (p .0) ∙ q .0) (cells b) 0 u
     (λ c v C l. init-orderly u c v (subst (λ (x : List (Row ℕ)). Once (liveAt x c)) same (st .sound .lists .members .each c (cell-in c C) .once)) l) (refl, refl))

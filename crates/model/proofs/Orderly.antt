@@ -10,11 +10,10 @@ use borrow.Author.Tests.{eqb-true, eq-eqb}
 use Rattle.halting.proofs.Bools.{differ}
 use Rattle.model.specs.State.{State, Row, liveAt, grain, home, listed, has}
 use Rattle.model.specs.Standing.{Once}
-use Rattle.model.specs.Doing.{others}
 use Rattle.model.specs.declared.Bound.{Bound}
 use Rattle.model.specs.declared.Bound.the-variants.{ToNeighbour, OutOfCell, Wall}
-use Rattle.model.specs.Rows.{within, Rule, pair, bound, sync, Act, moving, turning, trying, cancelling, entering, leaving, perform, Acts, ended, act, before, _⨟_, ofEach, inTurn, stepping, colliding, finding, bounding, scheduling, reschedules, pairing, firstSync, initiates}
-use Rattle.model.specs.History.{did, History, onto, done}
+use Rattle.model.specs.Rows.{about, Rule, pair, bound, sync, Act, moving, turning, trying, cancelling, entering, leaving, perform, Acts, ended, act, before, _⨟_, ofEach, inTurn, stepping, colliding, finding, bounding, scheduling, reschedules, pairing, firstSync, initiates, others}
+use Rattle.model.specs.History.{did, History, onto, rowDone}
 use Rattle.model.specs.Missing.{asker, Owes}
 use Rattle.model.proofs.Schedule.{has-others}
 use Rattle.model.proofs.Tries.{kindOf, Fits}
@@ -46,8 +45,8 @@ OfTurn X m i c r = (x : ℕ) × (i ≤ x) × (x < i + m) × X x c r
 
 module _ (n : ℕ) (s₀ : State) where
   -- such a row keeps that nothing else is pending, if its rules are owed and nothing is pending of their last tries
-  pub orderly-mine : (w : Acts) (T : ℕ → Rule → Type 0) (s : State) (h : History) → SameLists s₀ s → Orderly s₀ T w → ((c : ℕ) (r : Rule) → T c r → Owes s₀ c r × Clean h c r) → AllMine n s₀ h → AllMine n s₀ (done w s h)
-  unfolding done
+  pub orderly-mine : (w : Acts) (T : ℕ → Rule → Type 0) (s : State) (h : History) → SameLists s₀ s → Orderly s₀ T w → ((c : ℕ) (r : Rule) → T c r → Owes s₀ c r × Clean h c r) → AllMine n s₀ h → AllMine n s₀ (rowDone w s h)
+  unfolding rowDone
   orderly-mine ended T s h l e t m = m
   orderly-mine (act (moving i x y) f) T s h l e t m =
       by ((perform a s) .num)
@@ -59,7 +58,7 @@ module _ (n : ℕ) (s₀ : State) where
       u : State
       u = (perform (moving i x y) s) .st
 
-      by : (r : ℕ) → AllMine n s₀ (done (f u) u (did a ∷ h)) → AllMine n s₀ (onto r a (done (f u) u) h)
+      by : (r : ℕ) → AllMine n s₀ (rowDone (f u) u (did a ∷ h)) → AllMine n s₀ (onto r a (rowDone (f u) u) h)
       by zero k = k
       by (suc r) k = m
   orderly-mine (act (turning i p) f) T s h l e t m = absurd e
@@ -74,7 +73,7 @@ module _ (n : ℕ) (s₀ : State) where
       u : State
       u = (perform (trying k o x) s) .st
 
-      by : (r : ℕ) → AllMine n s₀ (done (f u) u (did a ∷ h)) → AllMine n s₀ (onto r a (done (f u) u) h)
+      by : (r : ℕ) → AllMine n s₀ (rowDone (f u) u (did a ∷ h)) → AllMine n s₀ (onto r a (rowDone (f u) u) h)
       by zero k = k
       by (suc r) k = m
   orderly-mine (act (cancelling i k) f) T s h l e t m = absurd e
@@ -182,7 +181,7 @@ pub asking-by : (l : List ℕ) (p c k : ℕ) (r : Rule) → Asking l p c k r →
 asking-by l p c k r (q, inl a) = ap asker (a .3)
 asking-by l p c k r (q, inr a) = ap asker (a .3)
 
-pub asking-within : (l : List ℕ) (p c k : ℕ) (r : Rule) → Asking l p c k r → within r p ≡ true
+pub asking-within : (l : List ℕ) (p c k : ℕ) (r : Rule) → Asking l p c k r → about r p ≡ true
 asking-within l p c k r (q, inl a) = rw (a .3, eq-eqb p p refl)
 asking-within l p c k r (q, inr a) = rw (a .3, eq-eqb p p refl)
 

@@ -21,12 +21,12 @@ use Rattle.model.specs.FromPToC.{cellsOfGrain}
 use Rattle.model.specs.Events.{placeOf}
 use Rattle.model.specs.State.{State, zeroG, grain, home, listed}
 use Rattle.model.specs.Acts.{store, insert, inserted, enter, entered, leave, gone}
-use Rattle.model.specs.Doing.{others, stepGrain, scheduleCollision, scheduleBy, boundaries, scheduleWith, scheduleEvents, landed, again, forget, doCollision, doNeighbour, doOut, doWall, doSync, execute}
-use Rattle.model.specs.Start.{clear, goesIn, pairs, syncIn, initCell, begin}
+use Rattle.model.specs.Doing.{stepGrain, scheduleCollision, scheduleBy, boundaries, scheduleWith, scheduleEvents, again, forget, doCollision, doNeighbour, doOut, doWall, doSync, execution, beginning, goesIn, pairs, syncIn, initCell}
+use Rattle.model.specs.Execute.{execute}
+use Rattle.model.specs.Start.{clear, begin}
 use Rattle.model.specs.declared.Bound.{Bound}
 use Rattle.model.specs.declared.Bound.the-variants.{ToNeighbour, OutOfCell, Wall}
-use Rattle.model.specs.Rows.{pair, finder, Act, moving, turning, trying, cancelling, entering, leaving, perform, Acts, ended, act, doing, only, before, _⨟_, ofEach, inTurn}
-use Rattle.model.specs.Rows.{stepping, colliding, finding, bounding, scheduling, reschedules, forgets, syncing, actsOf, goes, pairing, firstSync, initiates, startActs}
+use Rattle.model.specs.Rows.{pair, finder, Act, moving, turning, trying, cancelling, entering, leaving, perform, Acts, ended, act, doing, only, before, _⨟_, ofEach, inTurn, others, landed, stepping, colliding, finding, bounding, scheduling, reschedules, forgets, syncing, actsOf, goes, pairing, firstSync, initiates, startActs}
 use Rattle.model.proofs.Cases.{store-case, insert-case, enter-case, leave-case}
 
 -- these acts, one after another, were done and led from s to u
@@ -103,7 +103,7 @@ next-acted s (suc r) u k xs d e f = record { acts = xs; did = d; refuses = e }
 follow : (s : State) (o : Out State) (k : State → Out State) → Acted s o → ((w : State) → Acted w (k w)) → Acted s (then o k)
 follow s o k a f = next-acted s (o .num) (o .st) k (a .acts) (a .did) (a .refuses) f
 
--- ---- doing a row of acts is what the definitions of 01 do
+-- ---- doing a row of acts is what the inner functions do
 pub record Is (f : State → Out State) (g : State → Acts) : Type 0 where
   pub same : (s : State) → doing (g s) s ≡ f s
 
@@ -157,8 +157,8 @@ again-is p = record { same = λ s. unfold again in is-each (schedule-is p) (home
 pub forget-is : (p : ℕ) → Is (forget p) (forgets p)
 forget-is p = record { same = λ s. unfold forget in is-each (λ c. is-one (cancelling p c)) (home s p) .same s }
 
--- EXECUTING AN EVENT IS DOING ITS ROW OF ACTS, up to the first that is refused
-pub execute-is : (rate : Float) (e : Event) (s : State) → doing (actsOf rate e s) s ≡ execute rate e s
+-- EXECUTING AN EVENT, BY ITS ROW OF ACTS, IS WHAT THE INNER FUNCTIONS DO
+pub execute-is : (rate : Float) (e : Event) (s : State) → execute rate e s ≡ execution rate e s
 unfolding doCollision doNeighbour doOut doWall doSync
 execute-is rate (InterParticleCollision p q x y v w k) s =
     is-then (is-one (turning p (grainOf x v (s .clock) k))) (is-then (is-one (turning q (grainOf y w (s .clock) k)))
@@ -169,7 +169,7 @@ execute-is rate (WallReflection p x v w) s = is-then (is-one (turning p (grainOf
 execute-is rate Synchronisation s = is-then (is-turns step-is (length (s .grains)) 0) (is-one (syncing (add binary64 (s .clock) rate))) .same s
 
 goes-is : (gs : List Particle) (i : ℕ) → Is (goesIn gs i) (goes gs i)
-goes-is gs i = record { same = λ s. unfold goesIn in is-then (is-one (turning i _)) (record { same = λ u. is-each (λ c. is-one (entering i c)) (cellsOfGrain (u .box) ((getD gs i zeroG) .pos)) .same u }) .same s }
+goes-is gs i = record { same = λ s. unfold goesIn in is-then (is-one (turning i _)) (record { same = λ u. is-each (λ c. is-one (entering i c)) (cellsOfGrain (u .box) (getD gs i zeroG)) .same u }) .same s }
 
 pairs-is : (c : ℕ) (l : List ℕ) → Is (pairs c l) (pairing c l)
 unfolding pairs pairing doing
@@ -186,9 +186,9 @@ init-is c = record {
       is-then (sync-is c) (is-then (record { same = λ u. pairs-is c (listed u c) .same u }) (record { same = λ w. is-each (boundaries-is c) (listed w c) .same w })) .same s;
 }
 
--- A START IS DOING ITS ROW OF ACTS from the state with every place cleared, up to the first that is refused
-pub begin-is : (b : Domain) (room : ℕ) (gs : List Particle) → doing (startActs b gs (clear b room (length gs))) (clear b room (length gs)) ≡ begin b room gs
-unfolding begin
+-- A START, BY ITS ROW OF ACTS from the state with every place cleared, IS WHAT THE INNER FUNCTIONS DO
+pub begin-is : (b : Domain) (room : ℕ) (gs : List Particle) → begin b room gs ≡ beginning b room gs
+unfolding begin beginning
 begin-is b room gs = is-then (is-turns (goes-is gs) (length gs) 0) (is-turns init-is (cells b) 0) .same (clear b room (length gs))
 
 -- ---- so each did acts, up to one that is refused
@@ -198,7 +198,8 @@ doing-acted ended s = none s
 doing-acted (act a f) s = follow s (perform a s) (λ u. doing (f u) u) (one a s) (λ u. doing-acted (f u) u)
 
 pub execute-acted : (rate : Float) (e : Event) (s : State) → Acted s (execute rate e s)
-execute-acted rate e s = subst (Acted s) (execute-is rate e s) (doing-acted (actsOf rate e s) s)
+execute-acted rate e s = doing-acted (actsOf rate e s) s
 
 pub begin-acted : (b : Domain) (room : ℕ) (gs : List Particle) → Acted (clear b room (length gs)) (begin b room gs)
-begin-acted b room gs = let s = clear b room (length gs) in subst (Acted s) (begin-is b room gs) (doing-acted (startActs b gs s) s)
+unfolding begin
+begin-acted b room gs = let s = clear b room (length gs) in doing-acted (startActs b gs s) s

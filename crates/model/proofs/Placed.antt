@@ -11,7 +11,7 @@ use lib.ListN.{length, length-append, length-map}
 use borrow.Author.Tests.{eqb-true, eq-eqb, ne-eqb}
 use Rattle.model.specs.declared.Domain.{Domain}
 use Rattle.model.specs.Grid.{across, cells, cellAt}
-use Rattle.model.specs.FromPToC.{upFrom, between, rows}
+use Rattle.model.specs.FromPToC.{upFrom, between, cellsAt}
 use Rattle.model.specs.State.{has}
 use Rattle.model.specs.Standing.{Once}
 use Rattle.halting.proofs.Bools.{clash, or-case}
@@ -105,14 +105,14 @@ module _ (b : Domain) where
       or-case (eqb x (cellAt b i j)) (has x (map (λ (i : ℕ). cellAt b i j) is)) (x / across 0 b ≡ j) h
       (λ e. rw (eqb-true x (cellAt b i j) e) (row-of i j (u i (rw (eq-eqb i i refl))))) (λ e. map-row j is (λ y g. u y (rw g (or-true (eqb y i)))) x e)
 
-  rows-row : (is js : List ℕ) → Under (across 0 b) is → (x : ℕ) → has x (rows b is js) ≡ true → has (x / across 0 b) js ≡ true
-  unfolding rows has
+  rows-row : (is js : List ℕ) → Under (across 0 b) is → (x : ℕ) → has x (cellsAt b is js) ≡ true → has (x / across 0 b) js ≡ true
+  unfolding cellsAt has
   rows-row is [] u x h = clash h
   rows-row is (j ∷ js) u x h = by (has x (map (λ (i : ℕ). cellAt b i j) is)) refl (rows-row is js u x)
     where
-      by : (t : Bool) → has x (map (λ (i : ℕ). cellAt b i j) is) ≡ t → (has x (rows b is js) ≡ true → has (x / across 0 b) js ≡ true) → has (x / across 0 b) (j ∷ js) ≡ true
+      by : (t : Bool) → has x (map (λ (i : ℕ). cellAt b i j) is) ≡ t → (has x (cellsAt b is js) ≡ true → has (x / across 0 b) js ≡ true) → has (x / across 0 b) (j ∷ js) ≡ true
       by true e k = unfold has in rw (eq-eqb (x / across 0 b) j (map-row j is u x e))
-      by false e k = unfold has in rw (k (has-rest x (map (λ (i : ℕ). cellAt b i j) is) (rows b is js) h e)) (or-true (eqb (x / across 0 b) j))
+      by false e k = unfold has in rw (k (has-rest x (map (λ (i : ℕ). cellAt b i j) is) (cellsAt b is js) h e)) (or-true (eqb (x / across 0 b) j))
 
   has-map : (j i : ℕ) (is : List ℕ) → has (cellAt b i j) (map (λ (i : ℕ). cellAt b i j) is) ≡ has i is
   unfolding has
@@ -129,19 +129,19 @@ module _ (b : Domain) where
   once-map j [] o = tt
   once-map j (i ∷ is) o = (has-map j i is ∙ o .0, once-map j is (o .1))
 
-  once-rows : (is js : List ℕ) → Under (across 0 b) is → Once is → Once js → Once (rows b is js)
-  unfolding rows
+  once-rows : (is js : List ℕ) → Under (across 0 b) is → Once is → Once js → Once (cellsAt b is js)
+  unfolding cellsAt
   once-rows is [] u o p = tt
   once-rows is (j ∷ js) u o p =
-      once-append (map (λ (i : ℕ). cellAt b i j) is) (rows b is js) (once-map j is o) (once-rows is js u o (p .1))
-      (λ x h. absent x (rows b is js) (λ g. clash (sym (p .0) ∙ ap (λ (k : ℕ). has k js) (sym (map-row j is u x h)) ∙ rows-row is js u x g)))
+      once-append (map (λ (i : ℕ). cellAt b i j) is) (cellsAt b is js) (once-map j is o) (once-rows is js u o (p .1))
+      (λ x h. absent x (cellsAt b is js) (λ g. clash (sym (p .0) ∙ ap (λ (k : ℕ). has k js) (sym (map-row j is u x h)) ∙ rows-row is js u x g)))
 
-  length-rows : (is js : List ℕ) → length (rows b is js) ≡ length js * length is
-  unfolding rows
+  length-rows : (is js : List ℕ) → length (cellsAt b is js) ≡ length js * length is
+  unfolding cellsAt
   length-rows is [] = sym (zero-mul (length is))
-  length-rows is (j ∷ js) = length-append (map (λ (i : ℕ). cellAt b i j) is) (rows b is js) ∙ rw (length-map is (λ (i : ℕ). cellAt b i j), length-rows is js) (sym (suc-mul (length js) (length is) ∙ add-comm _ _))
+  length-rows is (j ∷ js) = length-append (map (λ (i : ℕ). cellAt b i j) is) (cellsAt b is js) ∙ rw (length-map is (λ (i : ℕ). cellAt b i j), length-rows is js) (sym (suc-mul (length js) (length is) ∙ add-comm _ _))
 
-  pub product : (is js : List ℕ) → Placed 2 (across 0 b) is → Placed 2 (across 1 b) js → Placed 4 (cells b) (rows b is js)
+  pub product : (is js : List ℕ) → Placed 2 (across 0 b) is → Placed 2 (across 1 b) js → Placed 4 (cells b) (cellsAt b is js)
   product is js p q = record {
     some = rw (length-rows is js) (let h : 1 * 1 ≤ length js * length is = mul-le-mul (q .some) (p .some) in h);
     few = rw (length-rows is js) (let h : length js * length is ≤ 2 * 2 = mul-le-mul (q .few) (p .few) in h);

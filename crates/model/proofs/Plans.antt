@@ -22,12 +22,13 @@ use Rattle.model.specs.declared.Event.{Event}
 use Rattle.model.specs.declared.Event.the-variants.{InterParticleCollision, MoveToNeighbour, MoveOutOfCell, WallReflection, Synchronisation}
 use Rattle.model.specs.declared.Plan.{Plan}
 use Rattle.model.specs.declared.Plan.the-variants.{Nothing, Refused, Due}
-use Rattle.order.specs.Numbers.{fzero, half}
+use Rattle.order.specs.Numbers.{fzero}
+use Rattle.model.specs.Constants.{radiusOf}
 use Rattle.myvec.specs.Vec.{vsub}
 use Rattle.order.proofs.Order.{lt→le}
 use Rattle.order.proofs.Clock.{clock-on}
-use Rattle.model.specs.Collision.{afterRoot, collide, planned, collision, struck}
-use Rattle.model.specs.Grid.{across, cells, index, shifted, below, above}
+use Rattle.model.specs.Collision.{reach, afterRoot, collide, planned, collision, struck}
+use Rattle.model.specs.Grid.{across, cells, index, cellOn, below, above}
 use Rattle.model.specs.Events.{placeOf, eventOf}
 use Rattle.model.specs.Periodic.{apart}
 use Rattle.model.specs.Stepping.{newPos, due}
@@ -35,7 +36,7 @@ use Rattle.model.specs.State.{has}
 use Rattle.model.specs.Moves.{later, toNeighbour, outOfCell, shut, sideLow, aside, moveDt}
 use Rattle.model.specs.Walls.{wall, noWall}
 use Rattle.model.specs.Standing.{one-if}
-use Rattle.model.specs.Sound.{Named}
+use Rattle.model.proofs.Sound.{Named}
 use Rattle.halting.proofs.Bools.{clash}
 use Rattle.model.proofs.Queue.{T-of}
 use Rattle.model.proofs.Cases.{on-test}
@@ -60,7 +61,7 @@ row-in b c h =
     let z : 0 < across 0 b = omega arith in
     div-lt-iff-lt-mul {k = across 0 b} {x = c} {y = across 1 b} z .1 (rw (mul-comm (across 1 b) (across 0 b)) h)
 
-pub shifted-in : (d : ℕ) (b : Domain) (c k : ℕ) → c < cells b → shifted d b c k < cells b
+pub shifted-in : (d : ℕ) (b : Domain) (c k : ℕ) → c < cells b → cellOn d b c k < cells b
 shifted-in zero b c k h = grid-in ((index 0 b c + k) % across 0 b) (index 1 b c) (across 0 b) (across 1 b) (mod-lt (index 0 b c + k) (let w = across-min 0 b in omega arith)) (row-in b c h)
 shifted-in (suc d) b c k h = grid-in (index 0 b c) ((index 1 b c + k) % across 1 b) (across 0 b) (across 1 b) (mod-lt c (let w = across-min 0 b in omega arith)) (mod-lt (index 1 b c + k) (let w = across-min 1 b in omega arith))
 
@@ -86,8 +87,8 @@ late-after : (a b : Float) (r : Root) → Late (afterRoot a b r)
 late-after a b root.Refused = tt
 late-after a b (root.Value s) = on-hit (lt _ fzero) contact.Never (contact.After _) (λ h. tt) (λ h. h)
 
-pub late-collide : (x v : MyVec) → Late (collide x v)
-late-collide x v = on-hit (lt _ _) contact.Never _ (λ h. tt) (λ h. on-hit (le _ _) contact.Never _ (λ h. tt) (λ h. on-hit (lt _ _) contact.Never _ (λ h. tt) (λ h. on-hit (lt _ _) contact.Never _ (λ h. tt) (λ h. late-after _ _ (rootOf _)))))
+pub late-collide : (rr : Float) (x v : MyVec) → Late (collide rr x v)
+late-collide rr x v = on-hit (lt _ _) contact.Never _ (λ h. tt) (λ h. on-hit (le _ _) contact.Never _ (λ h. tt) (λ h. on-hit (lt _ _) contact.Never _ (λ h. tt) (λ h. on-hit (lt _ _) contact.Never _ (λ h. tt) (λ h. late-after _ _ (rootOf _)))))
 
 -- ---- an event dt after the clock, dt not below 0
 abbrev pub AptPlan : ℕ → ℕ → List ℕ → Float → Plan → Type 0
@@ -119,12 +120,12 @@ module _ (n c : ℕ) (l : List ℕ) (t : Float) (F : T (finite t)) (f : T (fits 
   -- ---- the four kinds
   pub collision-apt : (b : Domain) (i j : ℕ) (p q : Particle) → has i l ≡ true → has j l ≡ true → eqb i j ≡ false → AptPlan n c l t (collision b t c i j p q)
   unfolding collision
-  collision-apt b i j p q hi hj d = hit-apt (collide (apart b c (vsub (q .pos) (p .pos))) (vsub (q .vel) (p .vel))) (struck b c i j p q) (late-collide _ _) (λ dt. ((hi, hj, d), refl))
+  collision-apt b i j p q hi hj d = hit-apt (collide (reach p q) (apart b c (vsub (q .pos) (p .pos))) (vsub (q .vel) (p .vel))) (struck b c i j p q) (late-collide _ _ _) (λ dt. ((hi, hj, d), refl))
 
   pub toNeighbour-apt : (d : ℕ) (b : Domain) (i : ℕ) (p : Particle) → cells b ≡ n → c < n → has i l ≡ true → AptPlan n c l t (toNeighbour d b t c i p)
   unfolding toNeighbour
   toNeighbour-apt d b i p e C hi =
-      on-test (AptPlan n c l t) (shut d b c p) Nothing _ (λ h. tt) (λ h. later-apt _ (MoveToNeighbour i (newPos b (p .pos) (p .vel) (moveDt d b c half p)) (aside d b c p)) (hi, beside) refl)
+      on-test (AptPlan n c l t) (shut d b c p) Nothing _ (λ h. tt) (λ h. later-apt _ (MoveToNeighbour i (newPos b (p .pos) (p .vel) (moveDt d b c (radiusOf p) p)) (aside d b c p)) (hi, beside) refl)
     where
       in′ : c < cells b
       in′ = rw e C
@@ -134,7 +135,7 @@ module _ (n c : ℕ) (l : List ℕ) (t : Float) (F : T (finite t)) (f : T (fits 
 
   pub outOfCell-apt : (d : ℕ) (b : Domain) (i : ℕ) (p : Particle) → has i l ≡ true → AptPlan n c l t (outOfCell d b t c i p)
   unfolding outOfCell
-  outOfCell-apt d b i p hi = on-test (AptPlan n c l t) (shut d b c p) Nothing _ (λ h. tt) (λ h. later-apt _ (MoveOutOfCell i (newPos b (p .pos) (p .vel) (moveDt d b c (neg half) p)) c) (hi, refl) refl)
+  outOfCell-apt d b i p hi = on-test (AptPlan n c l t) (shut d b c p) Nothing _ (λ h. tt) (λ h. later-apt _ (MoveOutOfCell i (newPos b (p .pos) (p .vel) (moveDt d b c (neg (radiusOf p)) p)) c) (hi, refl) refl)
 
   pub wall-apt : (d : ℕ) (b : Domain) (i : ℕ) (p : Particle) → has i l ≡ true → AptPlan n c l t (wall d b t c i p)
   unfolding wall

@@ -14,7 +14,8 @@ use lib.Ieee.Fits.{and-l, and-r}
 use lib.Ieee.Positive.{positive, between}
 use Rattle.order.proofs.Order as O
 use Rattle.order.proofs.Cut.{cut-mono}
-use Rattle.order.specs.Numbers.{one, half, two, three, nine, fortyeight}
+use Rattle.order.specs.Numbers.{one, two}
+use Rattle.model.specs.Constants.{radius, cellSize, shortest, longest}
 use Rattle.model.specs.FromPToC.{width}
 use Rattle.model.specs.Grid.{cellsOf}
 use Rattle.order.proofs.Mono.{plain, positive-plain, add-mono, sub-mono, div-mono}
@@ -53,30 +54,30 @@ tests a b n =
     ∷ positive (cnt n)
     ∷ le two (width a n)
     ∷ le (width b n) four
-    ∷ lt (div binary64 (sub binary64 b half) (width a n)) (cnt n)
+    ∷ lt (div binary64 (sub binary64 b radius) (width a n)) (cnt n)
     ∷ positive (width a n)
     ∷ positive (width b n)
-    ∷ leb n (suc (toUnsigned 64 (div binary64 (sub binary64 (sub binary64 a half) half) (width b n))))
+    ∷ leb n (suc (toUnsigned 64 (div binary64 (sub binary64 (sub binary64 a radius) radius) (width b n))))
     ∷ []
 
 abbrev ends : Float → Float → List Bool
 ends a b =
     positive a
     ∷ positive b
-    ∷ plain (sub binary64 b half)
-    ∷ plain (add binary64 b half)
-    ∷ le half a
-    ∷ le half b
-    ∷ le a (add binary64 b half)
-    ∷ le (sub binary64 (add binary64 b half) a) one
+    ∷ plain (sub binary64 b radius)
+    ∷ plain (add binary64 b radius)
+    ∷ le radius a
+    ∷ le radius b
+    ∷ le a (add binary64 b radius)
+    ∷ le (sub binary64 (add binary64 b radius) a) one
     ∷ leb (cellsOf b) (suc (cellsOf a))
     ∷ tested (tests a b (cellsOf a))
     ∷ tested (tests a b (cellsOf b))
-    ∷ plain (sub binary64 a half)
-    ∷ le half (sub binary64 a half)
-    ∷ plain (sub binary64 (sub binary64 a half) half)
-    ∷ le (add binary64 (sub binary64 a half) half) a
-    ∷ le (sub binary64 (sub binary64 a half) half) (sub binary64 a half)
+    ∷ plain (sub binary64 a radius)
+    ∷ le radius (sub binary64 a radius)
+    ∷ plain (sub binary64 (sub binary64 a radius) radius)
+    ∷ le (add binary64 (sub binary64 a radius) radius) a
+    ∷ le (sub binary64 (sub binary64 a radius) radius) (sub binary64 a radius)
     ∷ []
 
 abbrev row : ℕ → Bool
@@ -96,37 +97,37 @@ pub record Facts (l : Float) (n : ℕ) : Type 0 where
   pub three-up : 3 ≤ n
   pub sixteen-down : n ≤ 16
   pub length-positive : T (positive l)
-  pub length-half : T (le half l)
+  pub length-half : T (le radius l)
   pub wide-positive : T (positive (width l n))
   pub two-up : T (le two (width l n))
   pub four-down : T (le (width l n) four)
   -- what lies half a unit below the length or lower is in the last cell or below it
-  pub top : (m : Float) → T (plain m) → T (le m (sub binary64 l half)) → T (lt (div binary64 m (width l n)) (cnt n))
+  pub top : (m : Float) → T (plain m) → T (le m (sub binary64 l radius)) → T (lt (div binary64 m (width l n)) (cnt n))
   -- what a position adds past the end is at most one
-  pub over : (m : Float) → T (plain m) → T (le l m) → T (le m (add binary64 l half)) → T (le (sub binary64 m l) one)
+  pub over : (m : Float) → T (plain m) → T (le l m) → T (le m (add binary64 l radius)) → T (le (sub binary64 m l) one)
   -- a length not above this one, and what lies one unit below it is in the last cell
   pub low : Float
   pub low-plain : T (plain low)
-  pub low-half : T (le half low)
+  pub low-half : T (le radius low)
   pub low-le : T (le low l)
-  pub inner-plain : T (plain (sub binary64 low half))
-  pub inner-half : T (le half (sub binary64 low half))
-  pub back : T (le (add binary64 (sub binary64 low half) half) low)
-  pub down : T (le (sub binary64 (sub binary64 low half) half) (sub binary64 low half))
-  pub last : (m : Float) → T (plain m) → T (le (sub binary64 (sub binary64 low half) half) m) → n ≤ suc (toUnsigned 64 (div binary64 m (width l n)))
+  pub inner-plain : T (plain (sub binary64 low radius))
+  pub inner-half : T (le radius (sub binary64 low radius))
+  pub back : T (le (add binary64 (sub binary64 low radius) radius) low)
+  pub down : T (le (sub binary64 (sub binary64 low radius) radius) (sub binary64 low radius))
+  pub last : (m : Float) → T (plain m) → T (le (sub binary64 (sub binary64 low radius) radius) m) → n ≤ suc (toUnsigned 64 (div binary64 m (width l n)))
 
-pub half-plain : T (plain half)
+pub half-plain : T (plain radius)
 unfolding ofBits
 half-plain = tt
 
-three-positive : T (positive three)
+three-positive : T (positive cellSize)
 unfolding ofBits
 three-positive = tt
 
-three-no-nan : T (le three three)
-three-no-nan = O.le-refl three (no-nan three three-positive)
+three-no-nan : T (le cellSize cellSize)
+three-no-nan = O.le-refl cellSize (no-nan cellSize three-positive)
 
-half-le : T (le half half)
+half-le : T (le radius radius)
 unfolding ofBits le
 half-le = tt
 
@@ -137,7 +138,7 @@ pub more : (n c d : ℕ) → n ≤ suc c → c ≤ d → n ≤ suc d
 more n c d h k = omega arith
 
 cells-mono : (a b : Float) → T (positive a) → T (positive b) → T (le a b) → cellsOf a ≤ cellsOf b
-cells-mono a b p q h = max-mono _ _ (cut-mono 64 _ _ (div-mono binary64 a b three three (positive-plain a p) (positive-plain b q) three-positive three-positive h three-no-nan))
+cells-mono a b p q h = max-mono _ _ (cut-mono 64 _ _ (div-mono binary64 a b cellSize cellSize (positive-plain a p) (positive-plain b q) three-positive three-positive h three-no-nan))
 
 module _ (l : Float) (a b : Float) (E : T (tested (ends a b))) (ha : T (le a l)) (hb : T (le l b)) where
   e : (i : ℕ) → T (nth (ends a b) i)
@@ -156,8 +157,8 @@ module _ (l : Float) (a b : Float) (E : T (tested (ends a b))) (ha : T (le a l))
       let wa : T (le (width a n) (width l n)) = div-mono binary64 a l (cnt n) (cnt n) (positive-plain a (e 0)) (positive-plain l pl) (t 2) (t 2) ha self in
       let wb : T (le (width l n) (width b n)) = div-mono binary64 l b (cnt n) (cnt n) (positive-plain l pl) (positive-plain b (e 1)) (t 2) (t 2) hb self in
       let pw : T (positive (width l n)) = between (width a n) (width l n) (width b n) (t 6) (t 7) wa wb in
-      let hl : T (le half l) = O.le-trans half a l (e 4) ha in
-      let ls : T (le (sub binary64 l half) (sub binary64 b half)) = sub-mono binary64 l b half half (positive-plain l pl) (positive-plain b (e 1)) half-plain half-plain hl (e 5) hb half-le in
+      let hl : T (le radius l) = O.le-trans radius a l (e 4) ha in
+      let ls : T (le (sub binary64 l radius) (sub binary64 b radius)) = sub-mono binary64 l b radius radius (positive-plain l pl) (positive-plain b (e 1)) half-plain half-plain hl (e 5) hb half-le in
       record {
         three-up = leb→le 3 n (t 0);
         sixteen-down = leb→le n 16 (t 1);
@@ -166,14 +167,14 @@ module _ (l : Float) (a b : Float) (E : T (tested (ends a b))) (ha : T (le a l))
         wide-positive = pw;
         two-up = O.le-trans two (width a n) (width l n) (t 3) wa;
         four-down = O.le-trans (width l n) (width b n) four wb (t 4);
-        top = λ (m : Float) (p : T (plain m)) (h : T (le m (sub binary64 l half))).
-            O.le-lt-trans (div binary64 m (width l n)) (div binary64 (sub binary64 b half) (width a n)) (cnt n)
-            (div-mono binary64 m (sub binary64 b half) (width l n) (width a n) p (e 2) pw (t 6) (O.le-trans m (sub binary64 l half) (sub binary64 b half) h ls) wa)
+        top = λ (m : Float) (p : T (plain m)) (h : T (le m (sub binary64 l radius))).
+            O.le-lt-trans (div binary64 m (width l n)) (div binary64 (sub binary64 b radius) (width a n)) (cnt n)
+            (div-mono binary64 m (sub binary64 b radius) (width l n) (width a n) p (e 2) pw (t 6) (O.le-trans m (sub binary64 l radius) (sub binary64 b radius) h ls) wa)
             (t 5);
-        over = λ (m : Float) (p : T (plain m)) (h : T (le l m)) (k : T (le m (add binary64 l half))).
-            O.le-trans (sub binary64 m l) (sub binary64 (add binary64 b half) a) one
-            (sub-mono binary64 m (add binary64 b half) l a p (e 3) (positive-plain l pl) (positive-plain a (e 0)) h (e 6)
-            (O.le-trans m (add binary64 l half) (add binary64 b half) k (add-mono binary64 l b half (positive-plain l pl) (positive-plain b (e 1)) half-plain hb)) ha)
+        over = λ (m : Float) (p : T (plain m)) (h : T (le l m)) (k : T (le m (add binary64 l radius))).
+            O.le-trans (sub binary64 m l) (sub binary64 (add binary64 b radius) a) one
+            (sub-mono binary64 m (add binary64 b radius) l a p (e 3) (positive-plain l pl) (positive-plain a (e 0)) h (e 6)
+            (O.le-trans m (add binary64 l radius) (add binary64 b radius) k (add-mono binary64 l b radius (positive-plain l pl) (positive-plain b (e 1)) half-plain hb)) ha)
             (e 7);
         low = a;
         low-plain = positive-plain a (e 0);
@@ -183,9 +184,9 @@ module _ (l : Float) (a b : Float) (E : T (tested (ends a b))) (ha : T (le a l))
         inner-half = e 12;
         back = e 14;
         down = e 15;
-        last = λ (m : Float) (p : T (plain m)) (h : T (le (sub binary64 (sub binary64 a half) half) m)).
-            more n _ _ (leb→le n (suc (toUnsigned 64 (div binary64 (sub binary64 (sub binary64 a half) half) (width b n)))) (t 8))
-            (cut-mono 64 _ _ (div-mono binary64 (sub binary64 (sub binary64 a half) half) m (width b n) (width l n) (e 13) p (t 7) pw h wb));
+        last = λ (m : Float) (p : T (plain m)) (h : T (le (sub binary64 (sub binary64 a radius) radius) m)).
+            more n _ _ (leb→le n (suc (toUnsigned 64 (div binary64 (sub binary64 (sub binary64 a radius) radius) (width b n)))) (t 8))
+            (cut-mono 64 _ _ (div-mono binary64 (sub binary64 (sub binary64 a radius) radius) m (width b n) (width l n) (e 13) p (t 7) pw h wb));
       }
 
   one-of : (c d n : ℕ) → c ≤ n → n ≤ d → d ≤ suc c → (n ≡ c) ⊎ (n ≡ d)
@@ -209,13 +210,13 @@ walk : (l : Float) → T (le l (quarter 192)) → (c k : ℕ) → k + suc c ≡ 
 walk l top zero k e r a = at-row l (quarter k) (quarter (suc k)) (and-l (row k) true r) a (subst (λ (j : ℕ). T (le l (quarter j))) (sym e ∙ add-suc k 0 ∙ ap suc (add-zero k)) top)
 walk l top (suc c) k e r a = step l k (le l (quarter (suc k))) refl (O.le-left l (quarter 192) top) (and-l (row k) (rows (suc c) (suc k)) r) a (walk l top c (suc k) (suc-add k (suc c) ∙ sym (add-suc k (suc c)) ∙ e) (and-r (row k) (rows (suc c) (suc k)) r))
 
-low-end : quarter 36 ≡ nine
+low-end : quarter 36 ≡ shortest
 unfolding round ofBits
 low-end = refl
 
-pub high-end : quarter 192 ≡ fortyeight
+pub high-end : quarter 192 ≡ longest
 unfolding round ofBits
 high-end = refl
 
-pub facts : (l : Float) → T (le nine l) → T (le l fortyeight) → Facts l (cellsOf l)
+pub facts : (l : Float) → T (le shortest l) → T (le l longest) → Facts l (cellsOf l)
 facts l h k = walk l (subst (λ (z : Float). T (le l z)) (sym high-end) k) 155 36 refl checked (subst (λ (z : Float). T (le z l)) (sym low-end) h)

@@ -13,32 +13,31 @@ use Rattle.model.specs.declared.Place.{Place}
 use Rattle.halting.specs.Every.{All}
 use Rattle.halting.proofs.Bools.{and-l, and-r}
 use Rattle.halting.proofs.All.{all-to, all-after, all-mid}
-use Rattle.order.specs.Numbers.{last}
+use Rattle.order.specs.Numbers.{f64Max}
 use Rattle.order.proofs.Order.{le-trans, lt-left, lt→le}
 use Rattle.order.proofs.Compare.{lt-asym, lt-of-not-le}
 use Rattle.model.specs.Events.{insertBy, keepBy, goneBy, names, eventOf, finePlace, zeroP}
 use Rattle.model.specs.State.{Row, row}
-use Rattle.halting.specs.Every.{All}
 use Rattle.model.specs.Standing.{Rising}
-use Rattle.model.specs.Sound.{Held, Queue}
+use Rattle.model.proofs.Sound.{Held, Queue}
 pub use Rattle.order.proofs.Compare.{yes as T-of}
 use Rattle.model.proofs.Lists.{drop-one}
 use Rattle.model.proofs.Inserts.{Later, inserted-at}
 
 -- ---- a fine event's time
-pub fine-top : (e : Place) → finePlace e ≡ true → T (lt (e .time) last)
+pub fine-top : (e : Place) → finePlace e ≡ true → T (lt (e .time) f64Max)
 unfolding finePlace
-fine-top e h = T-of (lt (e .time) last) (and-r (finite (e .time)) (lt (e .time) last) (and-l (finite (e .time) && lt (e .time) last) _ h))
+fine-top e h = T-of (lt (e .time) f64Max) (and-r (finite (e .time)) (lt (e .time) f64Max) (and-l (finite (e .time) && lt (e .time) f64Max) _ h))
 
 pub fine-finite : (e : Place) → finePlace e ≡ true → T (finite (e .time))
 unfolding finePlace
-fine-finite e h = T-of (finite (e .time)) (and-l (finite (e .time)) (lt (e .time) last) (and-l (finite (e .time) && lt (e .time) last) _ h))
+fine-finite e h = T-of (finite (e .time)) (and-l (finite (e .time)) (lt (e .time) f64Max) (and-l (finite (e .time) && lt (e .time) f64Max) _ h))
 
 pub fine-real : (e : Place) → finePlace e ≡ true → T (not (isNan (e .time)))
-fine-real e h = lt-left (e .time) last (fine-top e h)
+fine-real e h = lt-left (e .time) f64Max (fine-top e h)
 
-pub fine-low : (e : Place) → finePlace e ≡ true → lt last (e .time) ≡ false
-fine-low e h = lt-asym (e .time) last (is-true (lt (e .time) last) (fine-top e h))
+pub fine-low : (e : Place) → finePlace e ≡ true → lt f64Max (e .time) ≡ false
+fine-low e h = lt-asym (e .time) f64Max (is-true (lt (e .time) f64Max) (fine-top e h))
 
 -- ---- time order
 pub rising-from : (t u : Float) (l : List Place) → T (le t u) → Rising u l → Rising t l

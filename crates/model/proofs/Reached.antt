@@ -11,14 +11,14 @@ use Rattle.model.specs.declared.Event.{Event}
 use Rattle.model.specs.declared.Event.the-variants.{InterParticleCollision, MoveToNeighbour, MoveOutOfCell, WallReflection, Synchronisation}
 use Rattle.model.specs.State.{State}
 use Rattle.model.specs.Sizes.{rated}
-use Rattle.model.specs.Doing.{synchronised, halted, Moved, wasSync, finish, headEvent, event, step, Whole}
+use Rattle.model.specs.Execute.{synchronised, halted, Moved, wasSync, finish, headEvent, event, step}
 use Rattle.model.specs.Run.{How, spent, refused, runFrom}
 use Rattle.model.specs.Start.{start, started}
-use Rattle.model.specs.Sound.{Sound, Stands}
+use Rattle.model.proofs.Sound.{Sound, Stands}
 use Rattle.model.specs.Standing.{Standing}
 use Rattle.model.specs.Check.{Fitted, Fits, runAll}
 use Rattle.model.specs.Reached.{Call, after, Reached, steps}
-use Rattle.model.proofs.Steps.{step-stands}
+use Rattle.model.proofs.Steps.{Whole, step-stands}
 use Rattle.model.proofs.Runs.{run-stands, run-clock}
 use Rattle.model.proofs.Counts.{Ended, stepAt, counts}
 use Rattle.model.proofs.Stands.{stands, standing as standing-facts, sound-fitted}

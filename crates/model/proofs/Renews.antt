@@ -13,8 +13,8 @@ use Rattle.model.specs.State.{State, home}
 use Rattle.model.specs.Acts.{store}
 use Rattle.model.specs.Doing.{forget}
 use Rattle.model.specs.Rows.{Act, moving, turning, trying, cancelling, entering, leaving, perform, Acts, doing, only, _⨟_, reschedules, forgets}
-use Rattle.model.specs.History.{did, History, done}
-use Rattle.model.specs.Sound.{Sound}
+use Rattle.model.specs.History.{did, History, rowDone}
+use Rattle.model.proofs.Sound.{Sound}
 use Rattle.model.proofs.Frame.{Keeps, keeps-on, store-keeps, same-clock}
 use Rattle.model.proofs.Forgets.{Free, forget-free, forget-keeps, both-free}
 use Rattle.model.proofs.Performs.{forget-is}
@@ -40,7 +40,7 @@ Settled h l = (acts : List Act) × All Settles acts × (l ≡ fronted acts h)
 settled-on : (h : History) (a : Act) (s : State) (l : History) → Settles a → (perform a s) .num ≡ 0 → Settled h l → Settled h (did a ∷ l)
 settled-on h a s l p z q = (a ∷ q .0, (p, q .1), ap (λ (k : History). did a ∷ k) (q .2))
 
-settled-forget : (h : History) (p : ℕ) (s : State) (l : History) → Settled h l → Settled h (done (forgets p s) s l)
+settled-forget : (h : History) (p : ℕ) (s : State) (l : History) → Settled h l → Settled h (rowDone (forgets p s) s l)
 settled-forget h p s l q = done-keeps Settles (Settled h) (settled-on h) (forgets p s) s l (every-each Settles (λ c. only (cancelling p c)) (home s p) s (λ c u. (tt, λ v. tt))) q
 
 -- what such acts keep
@@ -60,7 +60,7 @@ pub record Renewed (P : ℕ → Type 0) (rest : State → Acts) (s : State) (h l
   pub settled : Settled h so
   pub free : (g : ℕ) → P g → (c : ℕ) → c < cells (at .box) → Free g c at
   pub whole : (doing (rest at) at) .num ≡ 0
-  pub told : l ≡ done (rest at) at so
+  pub told : l ≡ rowDone (rest at) at so
 
 -- the rows of a reflection and of a collision
 abbrev pub reflects : ℕ → Particle → State → Acts
@@ -70,7 +70,7 @@ abbrev pub collides : ℕ → Particle → ℕ → Particle → State → Acts
 collides p x q y = only (turning p x) ⨟ only (turning q y) ⨟ forgets p ⨟ forgets q ⨟ reschedules p ⨟ reschedules q
 
 module _ (p : ℕ) (x : Particle) (s : State) (h : History) (sound : Sound s) (t : Tells h s) (P : p < length (s .grains)) (X : x .time ≡ s .clock) where
-  pub wall-renewed : (doing (reflects p x s) s) .num ≡ 0 → Renewed (λ g. g ≡ p) (reschedules p) s h (done (reflects p x s) s h)
+  pub wall-renewed : (doing (reflects p x s) s) .num ≡ 0 → Renewed (λ g. g ≡ p) (reschedules p) s h (rowDone (reflects p x s) s h)
   wall-renewed z =
       let a = one-whole (turning p x) (forgets p ⨟ reschedules p) s h z in
       let s1 = (store p x s) .st in
@@ -79,7 +79,7 @@ module _ (p : ℕ) (x : Particle) (s : State) (h : History) (sound : Sound s) (t
       let P1 : p < length (s1 .grains) = rw (k1 .frame .near .few) P in
       let b = then-as (forgets p s1) (reschedules p) s1 h1 (forget p s1) (forget-is p .same s1) (a .second) in
       let s2 = (forget p s1) .st in
-      let h2 = done (forgets p s1) s1 h1 in
+      let h2 = rowDone (forgets p s1) s1 h1 in
       let k2 = forget-keeps p s1 (k1 .sound) P1 in
       record {
         at = s2;
@@ -93,7 +93,7 @@ module _ (p : ℕ) (x : Particle) (s : State) (h : History) (sound : Sound s) (t
       }
 
   module _ (q : ℕ) (y : Particle) (Q : q < length (s .grains)) (Y : y .time ≡ s .clock) where
-    pub collision-renewed : (doing (collides p x q y s) s) .num ≡ 0 → Renewed (λ g. (g ≡ p) ⊎ (g ≡ q)) (reschedules p ⨟ reschedules q) s h (done (collides p x q y s) s h)
+    pub collision-renewed : (doing (collides p x q y s) s) .num ≡ 0 → Renewed (λ g. (g ≡ p) ⊎ (g ≡ q)) (reschedules p ⨟ reschedules q) s h (rowDone (collides p x q y s) s h)
     collision-renewed z =
         let a = one-whole (turning p x) (only (turning q y) ⨟ forgets p ⨟ forgets q ⨟ reschedules p ⨟ reschedules q) s h z in
         let s1 = (store p x s) .st in
@@ -108,12 +108,12 @@ module _ (p : ℕ) (x : Particle) (s : State) (h : History) (sound : Sound s) (t
         let Q2 : q < length (s2 .grains) = rw (k2 .frame .near .few) Q in
         let c = then-as (forgets p s2) (forgets q ⨟ reschedules p ⨟ reschedules q) s2 h2 (forget p s2) (forget-is p .same s2) (b .second) in
         let s3 = (forget p s2) .st in
-        let h3 = done (forgets p s2) s2 h2 in
+        let h3 = rowDone (forgets p s2) s2 h2 in
         let k3 = keeps-on s s2 s3 k2 (forget-keeps p s2 (k2 .sound) P2) in
         let Q3 : q < length (s3 .grains) = rw (k3 .frame .near .few) Q in
         let d = then-as (forgets q s3) (reschedules p ⨟ reschedules q) s3 h3 (forget q s3) (forget-is q .same s3) (c .second) in
         let s4 = (forget q s3) .st in
-        let h4 = done (forgets q s3) s3 h3 in
+        let h4 = rowDone (forgets q s3) s3 h3 in
         let k4 = keeps-on s s3 s4 k3 (forget-keeps q s3 (k3 .sound) Q3) in
         let t2 : Tells h2 s2 = act-tells h1 s1 (act-tells h s t (turning p x) (a .first)) (turning q y) (b .first) in
         let t3 : Tells h3 s3 = subst (λ (o : Out State). Tells h3 (o .st)) (forget-is p .same s2) (done-tells (forgets p s2) s2 h2 t2) in

@@ -15,7 +15,8 @@ use borrow.Author.Tests.{ltb-true, eq-eqb}
 use Rattle.scheduler.specs.declared.Scheduler.{Scheduler}
 use Rattle.scheduler.specs.Heap.{swap, swapAt, timeAt, parent, parentIn, parentOf, up, upshifted, updated}
 use Rattle.scheduler.proofs.Laws.{time-in}
-use Rattle.order.specs.Numbers.{fzero, half, last}
+use Rattle.order.specs.Numbers.{fzero, f64Max}
+use Rattle.model.specs.Constants.{radiusOf}
 use Rattle.order.proofs.Order.{lt→le, lt-left, lt-not-le}
 use Rattle.order.proofs.Compare.{lt-irrefl, lt-asym, le-of-not-lt, fails}
 use Rattle.order.proofs.Clock.{clock-on}
@@ -34,14 +35,14 @@ use Rattle.halting.proofs.Laws.{then-sound, each-sound}
 use Rattle.model.specs.Grid.{cells}
 use Rattle.model.specs.Stepping.{newPos, due}
 use Rattle.model.specs.Periodic.{apart}
-use Rattle.model.specs.Collision.{collide, planned, struck, collision}
+use Rattle.model.specs.Collision.{reach, collide, planned, struck, collision}
 use Rattle.model.specs.Moves.{later, toNeighbour, outOfCell, shut, aside, moveDt}
 use Rattle.model.specs.Walls.{wall, noWall}
 use Rattle.model.specs.Events.{placeOf, insertBy, headTime, headPlace, finePlace}
 use Rattle.model.specs.State.{Row, row, State, grain, listed, queue, heads, liveAt, requeued}
 use Rattle.model.specs.Acts.{queueRow, insert, inserted, put, first}
-use Rattle.model.specs.Doing.{Finder, scheduleCollision, scheduleBy, boundaries, syncAt}
-use Rattle.model.specs.Start.{pairs}
+use Rattle.model.specs.Doing.{scheduleCollision, scheduleBy, boundaries, syncAt, pairs}
+use Rattle.model.specs.Rows.{Finder}
 use Rattle.halting.proofs.Bools.{clash, and-l, and-r}
 use Rattle.model.proofs.Lists.{live-same, live-other}
 use Rattle.model.proofs.Queue.{fine-top, fine-real}
@@ -93,7 +94,7 @@ module _ (h : ℕ → Float) (late : (k : ℕ) → lt (h k) (h 0) ≡ false) whe
 -- ---- an insertion does not make a head later
 pub head-later : (e : Place) (l : List Place) → finePlace e ≡ true → lt (headTime l) (headTime (insertBy e l)) ≡ false
 unfolding insertBy
-head-later e [] f = lt-asym (e .time) last (is-true _ (fine-top e f))
+head-later e [] f = lt-asym (e .time) f64Max (is-true _ (fine-top e f))
 head-later e (x ∷ xs) f = by (le (x .time) (e .time)) refl
   where
     by : (b : Bool) → le (x .time) (e .time) ≡ b → lt (x .time) (headTime (cond b (x ∷ insertBy e xs) (e ∷ x ∷ xs))) ≡ false
@@ -194,18 +195,18 @@ hit-from contact.Refused e l = tt
 
 collision-from : (b : Domain) (c i j : ℕ) (p q : Particle) → FromZero (collision b fzero c i j p q)
 unfolding collision
-collision-from b c i j p q = hit-from (collide (apart b c (vsub (q .pos) (p .pos))) (vsub (q .vel) (p .vel))) (struck b c i j p q) (late-collide _ _)
+collision-from b c i j p q = hit-from (collide (reach p q) (apart b c (vsub (q .pos) (p .pos))) (vsub (q .vel) (p .vel))) (struck b c i j p q) (late-collide _ _ _)
 
 abbrev Finds : Finder → Type 0
 Finds f = (d : ℕ) (b : Domain) (c i : ℕ) (p : Particle) → FromZero (f d b fzero c i p)
 
 neighbour-from : Finds toNeighbour
 unfolding toNeighbour
-neighbour-from d b c i p = on-test FromZero (shut d b c p) Nothing _ (λ h. tt) (λ h. later-from _ (MoveToNeighbour i (newPos b (p .pos) (p .vel) (moveDt d b c half p)) (aside d b c p)))
+neighbour-from d b c i p = on-test FromZero (shut d b c p) Nothing _ (λ h. tt) (λ h. later-from _ (MoveToNeighbour i (newPos b (p .pos) (p .vel) (moveDt d b c (radiusOf p) p)) (aside d b c p)))
 
 out-from : Finds outOfCell
 unfolding outOfCell
-out-from d b c i p = on-test FromZero (shut d b c p) Nothing _ (λ h. tt) (λ h. later-from _ (MoveOutOfCell i (newPos b (p .pos) (p .vel) (moveDt d b c (neg half) p)) c))
+out-from d b c i p = on-test FromZero (shut d b c p) Nothing _ (λ h. tt) (λ h. later-from _ (MoveOutOfCell i (newPos b (p .pos) (p .vel) (moveDt d b c (neg (radiusOf p)) p)) c))
 
 wall-from : Finds wall
 unfolding wall

@@ -9,10 +9,10 @@ use Rattle.order.specs.Numbers.{fzero}
 use Rattle.order.proofs.Order.{le-trans, le-refl}
 use Rattle.order.proofs.Clock.{finite-no-nan}
 use Rattle.model.specs.State.{State}
-use Rattle.model.specs.Doing.{Stepped, done, halted, step, Whole}
+use Rattle.model.specs.Execute.{Stepped, done, halted, step}
 use Rattle.model.specs.Run.{How, spent, Ran, onward, runFrom, refused}
-use Rattle.model.specs.Sound.{Sound, Stands}
-use Rattle.model.proofs.Steps.{step-sound, step-clock, step-stands}
+use Rattle.model.proofs.Sound.{Sound, Stands}
+use Rattle.model.proofs.Steps.{Whole, step-sound, step-clock, step-stands}
 
 -- ---- a run after a run: the steps add up
 abbrev pub plus : ℕ → Ran → Ran

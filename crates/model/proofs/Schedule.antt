@@ -18,9 +18,10 @@ use Rattle.model.specs.Acts.{store, cancelled, cancel, enter, leave}
 use Rattle.model.specs.Collision.{collision}
 use Rattle.model.specs.Moves.{toNeighbour, outOfCell}
 use Rattle.model.specs.Walls.{wall}
-use Rattle.model.specs.Doing.{others, stepGrain, scheduleCollision, Finder, scheduleBy, boundaries, scheduleWith, scheduleEvents, landed, again, forget, doCollision, doNeighbour, doOut, doWall}
+use Rattle.model.specs.Doing.{stepGrain, scheduleCollision, scheduleBy, boundaries, scheduleWith, scheduleEvents, again, forget, doCollision, doNeighbour, doOut, doWall}
+use Rattle.model.specs.Rows.{others, Finder, landed}
 use Rattle.model.specs.Stepping.{stepped}
-use Rattle.model.specs.Sound.{Sound}
+use Rattle.model.proofs.Sound.{Sound}
 use Rattle.halting.proofs.Bools.{clash, or-case}
 use Rattle.model.proofs.Plans.{AptPlan, collision-apt, toNeighbour-apt, outOfCell-apt, wall-apt}
 use Rattle.halting.specs.Every.{All}

@@ -24,16 +24,15 @@ use Rattle.model.specs.Events.{placeOf}
 use Rattle.model.specs.State.{State, Row, liveAt, grain, home, listed, has, requeued}
 use Rattle.model.specs.Stepping.{due}
 use Rattle.model.specs.Periodic as Periodic
-use Rattle.model.specs.Collision.{collide, planned, collision, struck}
+use Rattle.model.specs.Collision.{reach, collide, planned, collision, struck}
 use Rattle.model.specs.Moves.{later, shut, toNeighbour, outOfCell}
 use Rattle.model.specs.Walls.{noWall, wall}
 use Rattle.model.specs.declared.Bound.{Bound}
 use Rattle.model.specs.declared.Bound.the-variants.{ToNeighbour, OutOfCell, Wall}
-use Rattle.model.specs.Rows.{Rule, pair, bound, sync, within, Act, moving, turning, trying, cancelling, entering, leaving, perform, Acts, ended, act, doing, only, _⨟_, ofEach, inTurn, finder, stepping, colliding, finding, bounding, scheduling, reschedules, pairing, firstSync, initiates}
-use Rattle.model.specs.History.{History, done}
+use Rattle.model.specs.Rows.{Rule, pair, bound, sync, about, Act, moving, turning, trying, cancelling, entering, leaving, perform, Acts, ended, act, doing, only, _⨟_, ofEach, inTurn, finder, stepping, colliding, finding, bounding, scheduling, reschedules, pairing, firstSync, initiates, others}
+use Rattle.model.specs.History.{History, rowDone}
 use Rattle.model.specs.Missing.{sameRule, Concerns}
 use Rattle.model.proofs.Cases.{on-test, store-case, insert-case}
-use Rattle.model.specs.Doing.{others}
 use Rattle.model.proofs.Lists.{eqb-sym}
 use Rattle.model.proofs.Performs.{is-one}
 use Rattle.model.specs.Acts.{first}
@@ -48,7 +47,7 @@ planned-fits t contact.Refused e r f = tt
 
 pub collision-fits : (b : Domain) (t : Float) (c p q : ℕ) (x y : Particle) → Fits (pair p q) (collision b t c p q x y)
 unfolding collision
-collision-fits b t c p q x y = planned-fits t (collide (Periodic.apart b c (vsub (y .pos) (x .pos))) (vsub (y .vel) (x .vel))) (struck b c p q x y) (pair p q) (λ dt. (refl, λ g. refl))
+collision-fits b t c p q x y = planned-fits t (collide (reach x y) (Periodic.apart b c (vsub (y .pos) (x .pos))) (vsub (y .vel) (x .vel))) (struck b c p q x y) (pair p q) (λ dt. (refl, λ g. refl))
 
 later-fits : (r : Rule) (t dt : Float) (e : Event) → Fits r (due t dt e) → Fits r (later t dt e)
 unfolding later
@@ -113,7 +112,7 @@ mild-spares c r (cancelling i k) m = absurd m
 mild-spares c r (entering i k) m = absurd m
 mild-spares c r (leaving i k) m = absurd m
 
-pub row-mild : (c : ℕ) (r : Rule) (w : Acts) (s : State) (h : History) → Every Mild w → Kept h c r → Kept (done w s h) c r
+pub row-mild : (c : ℕ) (r : Rule) (w : Acts) (s : State) (h : History) → Every Mild w → Kept h c r → Kept (rowDone w s h) c r
 row-mild c r w s h m = row-spares c r w s h (every-to Mild (Spares c r) (mild-spares c r) w m)
 
 -- they leave the lists
@@ -146,27 +145,27 @@ row-lists (act a f) s e = by ((perform a s) .num) (row-lists (f ((perform a s) .
 module _ (f : ℕ → State → Acts) (R : State → Type 0) (Q : ℕ → History → Type 0)
     (mild : (x : ℕ) (u : State) → Every Mild (f x u))
     (rests : (w : Acts) (u : State) → Every Mild w → R u → R ((doing w u) .st))
-    (lasts : (x : ℕ) (w : Acts) (u : State) (h : History) → Every Mild w → Q x h → Q x (done w u h))
-    (makes : (x : ℕ) (u : State) (h : History) → R u → (doing (f x u) u) .num ≡ 0 → Q x (done (f x u) u h)) where
-  pub each-makes : (xs : List ℕ) (s : State) (h : History) → R s → (doing (ofEach f xs s) s) .num ≡ 0 → (x : ℕ) → has x xs ≡ true → Q x (done (ofEach f xs s) s h)
+    (lasts : (x : ℕ) (w : Acts) (u : State) (h : History) → Every Mild w → Q x h → Q x (rowDone w u h))
+    (makes : (x : ℕ) (u : State) (h : History) → R u → (doing (f x u) u) .num ≡ 0 → Q x (rowDone (f x u) u h)) where
+  pub each-makes : (xs : List ℕ) (s : State) (h : History) → R s → (doing (ofEach f xs s) s) .num ≡ 0 → (x : ℕ) → has x xs ≡ true → Q x (rowDone (ofEach f xs s) s h)
   unfolding ofEach has
   each-makes [] s h i z x m = clash m
   each-makes (y ∷ ys) s h i z x m =
       let t = then-whole (f y s) (ofEach f ys) s h z in
       let u = (doing (f y s) s) .st in
-      rw (t .told) (or-case (eqb x y) (has x ys) (Q x (done (ofEach f ys u) u (done (f y s) s h))) m
-      (λ e. rw (eqb-true x y e) (lasts y (ofEach f ys u) u (done (f y s) s h) (every-each Mild f ys u mild) (makes y s h i (t .first))))
-      (λ n. each-makes ys u (done (f y s) s h) (rests (f y s) s (mild y s) i) (t .second) x n))
+      rw (t .told) (or-case (eqb x y) (has x ys) (Q x (rowDone (ofEach f ys u) u (rowDone (f y s) s h))) m
+      (λ e. rw (eqb-true x y e) (lasts y (ofEach f ys u) u (rowDone (f y s) s h) (every-each Mild f ys u mild) (makes y s h i (t .first))))
+      (λ n. each-makes ys u (rowDone (f y s) s h) (rests (f y s) s (mild y s) i) (t .second) x n))
 
-  pub turn-makes : (m c : ℕ) (s : State) (h : History) → R s → (doing (inTurn f m c s) s) .num ≡ 0 → (x : ℕ) → c ≤ x → x < c + m → Q x (done (inTurn f m c s) s h)
+  pub turn-makes : (m c : ℕ) (s : State) (h : History) → R s → (doing (inTurn f m c s) s) .num ≡ 0 → (x : ℕ) → c ≤ x → x < c + m → Q x (rowDone (inTurn f m c s) s h)
   unfolding inTurn
   turn-makes zero c s h i z x a b = absurd (omega arith)
   turn-makes (suc m) c s h i z x a b =
       let t = then-whole (f c s) (inTurn f m (suc c)) s h z in
       let u = (doing (f c s) s) .st in
       rw (t .told) (elim (ℕ-discrete x c) [
-        | yes e ↦ rw e (lasts c (inTurn f m (suc c) u) u (done (f c s) s h) (every-turn Mild f m (suc c) u mild) (makes c s h i (t .first)))
-        | no n ↦ turn-makes m (suc c) u (done (f c s) s h) (rests (f c s) s (mild c s) i) (t .second) x (omega arith) (omega arith)
+        | yes e ↦ rw e (lasts c (inTurn f m (suc c) u) u (rowDone (f c s) s h) (every-turn Mild f m (suc c) u mild) (makes c s h i (t .first)))
+        | no n ↦ turn-makes m (suc c) u (rowDone (f c s) s h) (rests (f c s) s (mild c s) i) (t .second) x (omega arith) (omega arith)
       ])
 
 -- ---- schedule_events of p in cell c: every rule about p that concerns the cell is watched from then on
@@ -180,7 +179,7 @@ has-in p q (x ∷ xs) h d = by (eqb p x) refl (has-in p q xs)
     by false e i = or-case (eqb q x) (has q xs) ((eqb q x || has q (others p xs)) ≡ true) h (λ k. rw k) (λ k. rw (i k d) (or-true (eqb q x)))
 
 -- one try, done
-only-tried : (k : ℕ) (o : Rule) (x : Plan) (s : State) (h : History) (r : Rule) → sameRule r o ≡ true → Fits o x → (doing (only (trying k o x) s) s) .num ≡ 0 → Kept (done (only (trying k o x) s) s h) k r
+only-tried : (k : ℕ) (o : Rule) (x : Plan) (s : State) (h : History) (r : Rule) → sameRule r o ≡ true → Fits o x → (doing (only (trying k o x) s) s) .num ≡ 0 → Kept (rowDone (only (trying k o x) s) s h) k r
 only-tried k o x s h r e f z =
     let d : (perform (trying k o x) s) .num ≡ 0 = ap (λ (w : Out State). w .num) (sym (is-one (trying k o x) .same s)) ∙ z in
     rw (one-told (trying k o x) s h d) (tried-now k o x s h k r (rw (eq-eqb k k refl, e)) f d)
@@ -189,15 +188,15 @@ abbrev pub Any : State → Type 0
 Any s = Unit {0}
 
 -- the bounds of p, in both directions
-pub bounds-made : (c p : ℕ) (s : State) (h : History) → (doing (bounding c p s) s) .num ≡ 0 → (b : Bound) (d : ℕ) → d < 2 → Kept (done (bounding c p s) s h) c (bound b p d)
+pub bounds-made : (c p : ℕ) (s : State) (h : History) → (doing (bounding c p s) s) .num ≡ 0 → (b : Bound) (d : ℕ) → d < 2 → Kept (rowDone (bounding c p s) s h) c (bound b p d)
 bounds-made c p s h z b d D =
     let t = then-whole (inTurn (finding ToNeighbour c p) 2 0 s) (inTurn (finding OutOfCell c p) 2 0 ⨟ inTurn (finding Wall c p) 2 0) s h z in
     let u = (doing (inTurn (finding ToNeighbour c p) 2 0 s) s) .st in
-    let h1 = done (inTurn (finding ToNeighbour c p) 2 0 s) s h in
+    let h1 = rowDone (inTurn (finding ToNeighbour c p) 2 0 s) s h in
     let v = then-whole (inTurn (finding OutOfCell c p) 2 0 u) (inTurn (finding Wall c p) 2 0) u h1 (t .second) in
     let w = (doing (inTurn (finding OutOfCell c p) 2 0 u) u) .st in
-    let h2 = done (inTurn (finding OutOfCell c p) 2 0 u) u h1 in
-    rw (t .told, v .told) (pick b (done (inTurn (finding Wall c p) 2 0 w) w h2)
+    let h2 = rowDone (inTurn (finding OutOfCell c p) 2 0 u) u h1 in
+    rw (t .told, v .told) (pick b (rowDone (inTurn (finding Wall c p) 2 0 w) w h2)
     (row-mild c (bound ToNeighbour p d) (inTurn (finding Wall c p) 2 0 w) w h2 (rows Wall w) (row-mild c (bound ToNeighbour p d) (inTurn (finding OutOfCell c p) 2 0 u) u h1 (rows OutOfCell u) (loop ToNeighbour s h (t .first))))
     (row-mild c (bound OutOfCell p d) (inTurn (finding Wall c p) 2 0 w) w h2 (rows Wall w) (loop OutOfCell u h1 (v .first)))
     (loop Wall w h2 (v .second)))
@@ -205,7 +204,7 @@ bounds-made c p s h z b d D =
     rows : (b : Bound) (u : State) → Every Mild (inTurn (finding b c p) 2 0 u)
     rows b u = every-turn Mild (finding b c p) 2 0 u (λ e v. (bound-fits b e (v .box) (v .clock) c p (grain v p), λ x. tt))
 
-    loop : (b : Bound) (u : State) (k : History) → (doing (inTurn (finding b c p) 2 0 u) u) .num ≡ 0 → Kept (done (inTurn (finding b c p) 2 0 u) u k) c (bound b p d)
+    loop : (b : Bound) (u : State) (k : History) → (doing (inTurn (finding b c p) 2 0 u) u) .num ≡ 0 → Kept (rowDone (inTurn (finding b c p) 2 0 u) u k) c (bound b p d)
     loop b u k y =
         turn-makes (finding b c p) Any (λ e l. Kept l c (bound b p e)) (λ e v. (bound-fits b e (v .box) (v .clock) c p (grain v p), λ x. tt)) (λ w v m i. tt) (λ e w v l m. row-mild c (bound b p e) w v l m)
         (λ e v l i q. only-tried c (bound b p e) (finder b e (v .box) (v .clock) c p (grain v p)) v l (bound b p e) (self b p e) (bound-fits b e (v .box) (v .clock) c p (grain v p)) q)
@@ -223,42 +222,42 @@ bounds-made c p s h z b d D =
 
 -- every rule about p that concerns cell c
 abbrev pub About : State → ℕ → ℕ → History → Type 0
-About s c p h = (r : Rule) → Concerns s c r → within r p ≡ true → Kept h c r
+About s c p h = (r : Rule) → Concerns s c r → about r p ≡ true → Kept h c r
 
 pub same-concerns : (s u : State) (c : ℕ) (r : Rule) → u .members ≡ s .members → Concerns u c r → Concerns s c r
 same-concerns s u c (pair p q) e k = (ap (λ (m : List (Row ℕ)). has p (liveAt m c)) (sym e) ∙ k .0, ap (λ (m : List (Row ℕ)). has q (liveAt m c)) (sym e) ∙ k .1, k .2)
 same-concerns s u c (bound b p d) e k = (ap (λ (m : List (Row ℕ)). has p (liveAt m c)) (sym e) ∙ k .0, k .1)
 same-concerns s u c sync e k = k
 
-pub collisions-made : (c p : ℕ) (qs : List ℕ) (s : State) (h : History) → (doing (ofEach (colliding c p) qs s) s) .num ≡ 0 → (q : ℕ) → has q qs ≡ true → (r : Rule) → sameRule r (pair p q) ≡ true → Kept (done (ofEach (colliding c p) qs s) s h) c r
+pub collisions-made : (c p : ℕ) (qs : List ℕ) (s : State) (h : History) → (doing (ofEach (colliding c p) qs s) s) .num ≡ 0 → (q : ℕ) → has q qs ≡ true → (r : Rule) → sameRule r (pair p q) ≡ true → Kept (rowDone (ofEach (colliding c p) qs s) s h) c r
 collisions-made c p qs s h z =
     each-makes (colliding c p) Any (λ q l. (r : Rule) → sameRule r (pair p q) ≡ true → Kept l c r) (mild-collide c p) (λ w u m i. tt) (λ q w u l m k r e. row-mild c r w u l m (k r e))
     (λ q u l i y r e. only-tried c (pair p q) (collision (u .box) (u .clock) c p q (grain u p) (grain u q)) u l r e (collision-fits (u .box) (u .clock) c p q (grain u p) (grain u q)) y)
     qs s h tt z
 
 -- a pair of which one is p: the other, and that it is the pair of p with it
-pub schedule-made : (p c : ℕ) (s : State) (h : History) → (doing (scheduling p c s) s) .num ≡ 0 → About s c p (done (scheduling p c s) s h)
+pub schedule-made : (p c : ℕ) (s : State) (h : History) → (doing (scheduling p c s) s) .num ≡ 0 → About s c p (rowDone (scheduling p c s) s h)
 schedule-made p c s h z =
     let qs = others p (listed s c) in
     let t = then-whole (ofEach stepping qs s) (ofEach (colliding c p) qs ⨟ bounding c p) s h z in
     let u = (doing (ofEach stepping qs s) s) .st in
-    let h1 = done (ofEach stepping qs s) s h in
+    let h1 = rowDone (ofEach stepping qs s) s h in
     let v = then-whole (ofEach (colliding c p) qs u) (bounding c p) u h1 (t .second) in
     let w = (doing (ofEach (colliding c p) qs u) u) .st in
-    let h2 = done (ofEach (colliding c p) qs u) u h1 in
+    let h2 = rowDone (ofEach (colliding c p) qs u) u h1 in
     rw (t .told, v .told) (by w h2 (λ q m r e. row-mild c r (bounding c p w) w h2 (mild-bound c p w) (collisions-made c p qs u h1 (v .first) q m r e)) (bounds-made c p w h2 (v .second)))
   where
-    by : (w : State) (k : History) → ((q : ℕ) → has q (others p (listed s c)) ≡ true → (r : Rule) → sameRule r (pair p q) ≡ true → Kept (done (bounding c p w) w k) c r)
-        → ((b : Bound) (d : ℕ) → d < 2 → Kept (done (bounding c p w) w k) c (bound b p d)) → About s c p (done (bounding c p w) w k)
+    by : (w : State) (k : History) → ((q : ℕ) → has q (others p (listed s c)) ≡ true → (r : Rule) → sameRule r (pair p q) ≡ true → Kept (rowDone (bounding c p w) w k) c r)
+        → ((b : Bound) (d : ℕ) → d < 2 → Kept (rowDone (bounding c p w) w k) c (bound b p d)) → About s c p (rowDone (bounding c p w) w k)
     by w k f g (pair i j) m e =
-        or-case (eqb i p) (eqb j p) (Kept (done (bounding c p w) w k) c (pair i j)) e
+        or-case (eqb i p) (eqb j p) (Kept (rowDone (bounding c p w) w k) c (pair i j)) e
         (λ x. let q = eqb-true i p x in f j (has-in p j (listed s c) (m .1) (rw (← q) (m .2))) (pair i j) (rw (x, eq-eqb j j refl)))
         (λ x. let q = eqb-true j p x in f i (has-in p i (listed s c) (m .0) (eqb-sym p i ∙ (rw (← q) (m .2)))) (pair i j) (rw (x, eq-eqb i i refl) (or-true (eqb i p && eqb j i))))
     by w k f g (bound b i d) m e = rw (eqb-true i p e) (g b d (m .1))
     by w k f g sync m e = clash e
 
 -- in all its cells
-pub again-made : (p : ℕ) (s : State) (h : History) → (doing (reschedules p s) s) .num ≡ 0 → (c : ℕ) → has c (home s p) ≡ true → About s c p (done (reschedules p s) s h)
+pub again-made : (p : ℕ) (s : State) (h : History) → (doing (reschedules p s) s) .num ≡ 0 → (c : ℕ) → has c (home s p) ≡ true → About s c p (rowDone (reschedules p s) s h)
 again-made p s h z =
     each-makes (scheduling p) (SameLists s) (λ c l. About s c p l) (mild-schedule p) (λ w u m i. lists-on s u ((doing w u) .st) i (row-lists w u m)) (λ c w u l m k r o e. row-mild c r w u l m (k r o e))
     (λ c u l i y r o e. schedule-made p c u l y r (same-concerns u s c r (sym (i .0)) o) e)

@@ -11,7 +11,6 @@ use lib.Ieee.{Float, binary64, ofBits, round, add, sub, mul, div, neg, lt, le, e
 use lib.Ieee.Bits.{is-true}
 use Rattle.root.specs.Isqrt.{near, root}
 use Rattle.root.specs.Root.{rootOf, sqrtOf}
-use Rattle.halting.specs.Out.{each, eachOf}
 use Rattle.halting.specs.Every.{every}
 use Rattle.order.specs.Numbers.{fzero}
 use Rattle.myvec.specs.Vec.{vec}
@@ -21,7 +20,7 @@ use Rattle.model.specs.declared.Particle.{Particle}
 use Rattle.model.specs.Grid.{boxOf, across, position}
 use Rattle.model.specs.Stepping.{grainOf, newPos}
 use Rattle.model.specs.Periodic.{apart}
-use Rattle.model.specs.FromPToC.{upFrom, reached, rows, cellsOfGrain}
+use Rattle.model.specs.FromPToC.{upFrom, reached, cellsAt, cellsOfGrain}
 use Rattle.model.specs.Collision.{collision}
 use Rattle.model.specs.Moves.{later, toNeighbour, outOfCell}
 use Rattle.model.specs.Walls.{wall}
@@ -29,11 +28,12 @@ use Rattle.model.specs.Events.{insertBy, keepBy, goneBy, finePlace}
 use Rattle.model.specs.State.{State, heads, requeued, has, but}
 use Rattle.model.specs.Acts.{fineGrain, store, insert, cancelled, enter, leave, head, taken}
 use Rattle.model.specs.Sizes.{firstBad}
-use Rattle.model.specs.Doing.{others, stepGrain, boundaries, scheduleWith, scheduleEvents, again, forget, doCollision, doNeighbour, doOut, doWall, doSync, event, step}
+use Rattle.model.specs.Rows.{others, doing, before, ofEach, inTurn, pairing}
+use Rattle.model.specs.Execute.{event, step}
 use Rattle.model.specs.Run.{How, spent, refused, Ran, runFrom}
-use Rattle.model.specs.Start.{Begun, refused as turned, started, clear, goesIn, pairs, initCell, begin, start}
+use Rattle.model.specs.Start.{Begun, refused as turned, started, clear, begin, start}
 use Rattle.model.specs.Standing.{syncs}
-use Rattle.model.specs.Check.{Fits, sound, standing, runAll}
+use Rattle.model.specs.Check.{Fits, walk, settled, queued, heaped, standing, runAll}
 use Rattle.model.specs.Reached.{most, Call, after, Reached}
 use Rattle.halting.proofs.Bools.{clash, and-l, and-r}
 use Rattle.model.proofs.Queue.{T-of}
@@ -74,7 +74,7 @@ tested (turned r i) = false
 tested (started s) = sameList (kinds 12 s) expected && (syncedAfter 1 (runAll rate 1 s) && syncedAfter 11 (runAll rate 65536 ((runAll rate 1 s) .state)))
 
 computed : T (tested (start box 16 grains))
-unfolding round add sub mul div neg lt le eq ofInt toUnsigned ofBits rootOf sqrtOf near root leadingZeros across position insertBy keepBy goneBy finePlace newPos apart upFrom reached rows cellsOfGrain heads requeued has but fineGrain store insert cancelled enter leave taken later collision toNeighbour outOfCell wall eachOf others stepGrain boundaries scheduleWith scheduleEvents again forget doCollision doNeighbour doOut doWall doSync event step firstBad clear goesIn pairs initCell begin start each timeIn swapAt childIn down downshifted parentIn up upshifted updated numbered startHeap every syncs sound standing runFrom runAll
+unfolding round add sub mul div neg lt le eq ofInt toUnsigned ofBits rootOf sqrtOf near root leadingZeros across position insertBy keepBy goneBy finePlace newPos apart upFrom reached cellsAt cellsOfGrain heads requeued has but fineGrain store insert cancelled enter leave taken later collision toNeighbour outOfCell wall others doing before ofEach inTurn pairing event step firstBad clear begin start timeIn swapAt childIn down downshifted parentIn up upshifted updated numbered startHeap every syncs walk settled queued heaped standing runFrom runAll
 computed = tt
 
 pub box-fits : Fits box

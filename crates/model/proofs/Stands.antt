@@ -8,7 +8,7 @@ use native.Mathlib.Decide.{decLe, ℕ-discrete}
 use lib.Dec.{T}
 use lib.ListN.{List·getD-eq-default}
 use lib.Ieee.{binary64, lt, fits}
-use Rattle.order.specs.Numbers.{last}
+use Rattle.order.specs.Numbers.{f64Max}
 use Rattle.model.specs.declared.Place.{Place}
 use Rattle.model.specs.declared.Event.{Event}
 use Rattle.model.specs.declared.Event.the-variants.{InterParticleCollision, MoveToNeighbour, MoveOutOfCell, WallReflection, Synchronisation}
@@ -17,7 +17,7 @@ use Rattle.model.specs.Events.{eventOf, finePlace}
 use Rattle.model.specs.State.{Row, none, State, listed, queue}
 use Rattle.halting.specs.Every.{All}
 use Rattle.model.specs.Standing.{syncs, one-if, InRange, OfCell, Standing}
-use Rattle.model.specs.Sound.{Named, Held, Sound, Stands}
+use Rattle.model.proofs.Sound.{Named, Held, Sound, Stands}
 use Rattle.model.specs.Check.{Fitted}
 use Rattle.halting.proofs.All.{all-to}
 use Rattle.model.proofs.Queue.{fine-top}
@@ -114,7 +114,7 @@ module _ (s : State) (h : Stands s) where
     events-finite = each (λ c e. finePlace e ≡ true) (λ c e C q. q .fine);
     cell-data = (h .sound .heap .cells, h .sound .lists .members .long, h .sound .long);
     time-order = λ c C. h .sound .queues c C .rising;
-    times-below = each (λ c e. T (lt (e .time) last)) (λ c e C q. fine-top e (q .fine));
+    times-below = each (λ c e. T (lt (e .time) f64Max)) (λ c e C q. fine-top e (q .fine));
     grain-times = λ g G. h .sound .grains g G .past;
     inverse = h .sound .heap .inverse;
     heap-order = h .sound .heap .ordered;

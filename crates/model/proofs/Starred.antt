@@ -10,7 +10,8 @@ use lib.ListN.{length}
 use lib.Count.{leadingZeros}
 use lib.Ieee.{Float, nan, inf, fin, binary64, ofBits, toBits, round, add, sub, mul, div, neg, lt, le, eq, ofInt, toUnsigned}
 use lib.Ieee.Fits.{and-l, and-r}
-use Rattle.order.specs.Numbers.{fzero, half, rest, one, two, nine}
+use Rattle.order.specs.Numbers.{fzero, half, one, two, nine}
+use Rattle.model.specs.Constants.{restitution}
 use Rattle.root.specs.Isqrt.{near, root}
 use Rattle.root.specs.Root.{rootOf, sqrtOf}
 use Rattle.myvec.specs.declared.MyVec.{MyVec}
@@ -22,8 +23,8 @@ use Rattle.model.specs.Sizes.{boxOk, rated, grainOk}
 use Rattle.model.specs.Grid.{boxOf, cellsOf, across, below, above, position}
 use Rattle.model.specs.Periodic.{apart}
 use Rattle.model.specs.Stepping.{grainOf, newPos}
-use Rattle.model.specs.FromPToC.{upFrom, reached, rows, cellsOfGrain}
-use Rattle.model.specs.Collision.{aOf, bOf, cOf, dOf, tooSlow, collide, collision}
+use Rattle.model.specs.FromPToC.{upFrom, reached, cellsAt, cellsOfGrain}
+use Rattle.model.specs.Collision.{reach, aOf, bOf, cOf, dOf, tooSlow, collide, collision}
 use Rattle.model.specs.Moves.{later, toNeighbour, outOfCell}
 use Rattle.model.specs.Walls.{wall}
 use Rattle.model.specs.Events.{zeroV, insertBy}
@@ -55,9 +56,9 @@ Row = List Fact
 abbrev pub Claim : Row → Type 0
 Claim r = All Holds r
 
--- two grains are x apart, their velocities differ by v, and they touch when k says: by x and v alone, and by the whole collision
+-- two grains are x apart, their velocities differ by v, and they touch when k says: by their reach, x and v alone, and by the whole collision
 abbrev touch : Particle → Particle → MyVec → MyVec → Contact → Row
-touch p q x v k = vector (dpos p q) x ∷ vector (dvel p q) v ∷ when (collide x v) k ∷ when (dt (colliding periodicBox p q)) k ∷ []
+touch p q x v k = vector (dpos p q) x ∷ vector (dvel p q) v ∷ when (collide (reach p q) x v) k ∷ when (dt (colliding periodicBox p q)) k ∷ []
 
 -- a range takes its ends, lo and hi, and neither the next float on either side nor a NaN
 abbrev ends : (Float → Bool) → Float → Float → Float → Float → Row
@@ -74,16 +75,20 @@ starred =
     ∷ (number (below 0 periodicBox 0) 2 ∷ number (above 0 periodicBox 0) 1 ∷ [])
     ∷ (number (below 1 periodicBox 0) 6 ∷ number (above 1 periodicBox 0) 3 ∷ [])
     -- a grain's cells
-    ∷ (numbers (cellsOfGrain periodicBox (vec (plus 1 4) (plus 9 2))) (3 ∷ 5 ∷ []) ∷ [])
-    ∷ (numbers (cellsOfGrain periodicBox (vec (plus 5 2) (plus 9 2))) (3 ∷ 4 ∷ []) ∷ [])
+    ∷ (numbers (cellsOfGrain periodicBox (slider (plus 1 4) (plus 9 2) fzero)) (3 ∷ 5 ∷ []) ∷ [])
+    ∷ (numbers (cellsOfGrain periodicBox (slider (plus 5 2) (plus 9 2) fzero)) (3 ∷ 4 ∷ []) ∷ [])
     -- collisions
     ∷ (let x = vec (plus 3 1) fzero in
     let v = vec (minus 2 1) fzero in
-    float (aOf v) (plus 4 1) ∷ float (bOf x v) (minus 6 1) ∷ float (cOf x) (plus 8 1) ∷ float (dOf (aOf v) (bOf x v) (cOf x)) (plus 4 1)
-    ∷ touch (mover (plus 3 1) one) (mover (plus 6 1) (minus 1 1)) x v (After (plus 1 1)))
+    let p = mover (plus 3 1) one in
+    let q = mover (plus 6 1) (minus 1 1) in
+    let c = cOf (reach p q) x in
+    float (aOf v) (plus 4 1) ∷ float (bOf x v) (minus 6 1) ∷ float c (plus 8 1) ∷ float (dOf (aOf v) (bOf x v) c) (plus 4 1) ∷ touch p q x v (After (plus 1 1)))
     ∷ (let x = vec (plus 3 1) (plus 1 1) in
     let v = vec (minus 1 1) fzero in
-    float (dOf (aOf v) (bOf x v) (cOf x)) fzero ∷ touch (slider (plus 3 1) (plus 4 1) one) (slider (plus 6 1) (plus 5 1) fzero) x v (After (plus 3 1)))
+    let p = slider (plus 3 1) (plus 4 1) one in
+    let q = slider (plus 6 1) (plus 5 1) fzero in
+    float (dOf (aOf v) (bOf x v) (cOf (reach p q) x)) fzero ∷ touch p q x v (After (plus 3 1)))
     ∷ touch (slider (plus 3 1) (plus 4 1) one) (slider (plus 6 1) (plus 11 2) fzero) (vec (plus 3 1) (plus 3 2)) (vec (minus 1 1) fzero) Never
     ∷ touch (mover (plus 4 1) one) (mover (plus 5 1) (minus 1 1)) (vec (plus 1 1) fzero) (vec (minus 2 1) fzero) (After fzero)
     -- the test on a, alone and in the collision
@@ -115,13 +120,13 @@ unstarred =
     ∷ (when (dt (entering periodicBox 3 (mover (plus 17 2) one))) (After (plus 3 1)) ∷ [])
     ∷ (when (dt (entering periodicBox 5 (mover half (minus 1 1)))) (After (plus 3 1)) ∷ [])
     -- (1 / a)·(-√d - b) where dividing by a rounds to another float
-    ∷ (when (collide (vec (plus 3 1) fzero) (vec (minus 21 1) fzero)) (After (ofBits binary64 0x3fb8_6186_1861_8619)) ∷ [])
+    ∷ (when (collide one (vec (plus 3 1) fzero) (vec (minus 21 1) fzero)) (After (ofBits binary64 0x3fb8_6186_1861_8619)) ∷ [])
     -- an event goes after one that is as early, and before a later one
     ∷ (numbers (grains (insertBy (ofGrain 2 one) (ofGrain 0 one ∷ ofGrain 1 two ∷ []))) (0 ∷ 2 ∷ 1 ∷ []) ∷ [])
     -- two grains of value 1 that touch in direction 1 bounce by the restitution there, and half of gravity pulls both in direction 0, which has walls
     ∷ (let p = grainOf (vec (plus 9 2) (plus 4 1)) (vec fzero one) fzero one in
     let q = grainOf (vec (plus 9 2) (plus 5 1)) (vec fzero (minus 1 1)) fzero one in
-    vector ((place (colliding walledBox p q)) .c) (vec (minus 1 4) (neg rest)) ∷ vector ((place (colliding walledBox p q)) .d) (vec (minus 1 4) rest) ∷ [])
+    vector ((place (colliding walledBox p q)) .c) (vec (minus 1 4) (neg restitution)) ∷ vector ((place (colliding walledBox p q)) .d) (vec (minus 1 4) restitution) ∷ [])
     -- a grain of value 0.5 at the low wall and at the high one: its velocity and its value afterwards
     ∷ (let e = place (reflecting walledBox 3 (mover (plus 3 2) (minus 1 1))) in
     vector (e .c) (vec one fzero) ∷ float (e .val) (plus 1 4) ∷ [])
@@ -260,7 +265,7 @@ good-rows = all-holds (all good) Claim (all-holds good Holds good-holds)
 
 -- ---- computed over the whole of each table
 starred-good : T (all (all good) starred)
-unfolding starred round add sub mul div neg lt le eq ofInt toUnsigned ofBits toBits rootOf sqrtOf near root leadingZeros across position newPos upFrom reached rows cellsOfGrain apart collision later toNeighbour outOfCell
+unfolding starred round add sub mul div neg lt le eq ofInt toUnsigned ofBits toBits rootOf sqrtOf near root leadingZeros across position newPos upFrom reached cellsAt cellsOfGrain apart collision later toNeighbour outOfCell
 starred-good = tt
 
 pub starred-hold : All Claim starred

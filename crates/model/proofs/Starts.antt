@@ -19,12 +19,12 @@ use Rattle.model.specs.Events.{zeroP}
 use Rattle.model.specs.FromPToC.{cellsOfGrain}
 use Rattle.model.specs.State.{State, zeroG, grain, home, listed, queue, has, marked}
 use Rattle.model.specs.Acts.{store, insert, enter}
-use Rattle.model.specs.Doing.{scheduleCollision, boundaries, syncAt}
+use Rattle.model.specs.Doing.{scheduleCollision, boundaries, syncAt, goesIn, pairs, initCell, beginning}
 use Rattle.model.specs.Stepping.{grainOf}
 use Rattle.model.specs.Sizes.{boxOk, countsOk, grainOk, firstBad}
-use Rattle.model.specs.Start.{Begun, clear, goesIn, pairs, initCell, begin, refused, started, startedAt, start}
+use Rattle.model.specs.Start.{Begun, clear, begin, refused, started, startedAt, start}
 use Rattle.model.specs.Standing.{Once, syncs}
-use Rattle.model.specs.Sound.{Sound, Stands}
+use Rattle.model.proofs.Sound.{Sound, Stands}
 use Rattle.halting.proofs.Bools.{clash, and-l, and-r}
 use Rattle.model.proofs.Cases.{on-test}
 use Rattle.model.proofs.Keeps.{Apt}
@@ -35,6 +35,7 @@ use Rattle.model.proofs.Steps.{Ends, insert-ends}
 use Rattle.model.proofs.Grid.{cells-under}
 use Rattle.model.proofs.Cleared.{empty-live, zero-le, zero-fits, clear-sound}
 use Rattle.model.proofs.Born.{born}
+use Rattle.model.proofs.Performs.{begin-is}
 use Rattle.model.specs.Check.{Fits}
 
 -- ---- grains go in
@@ -85,7 +86,7 @@ module _ (b : Domain) (room : ℕ) (gs : List Particle) (box : boxOk b ≡ true)
   unfolding goesIn
   goesIn-goes i u I g =
       then-sound (Goes (bare b room gs)) (store i (grainOf (given gs i .pos) (given gs i .vel) fzero (given gs i .val)) u) _ (goes-on (bare b room gs) u _ g (keeps-goes u _ (stored i u g I)))
-      (λ w k. goes-on (bare b room gs) w _ k (entries i w k I (cellsOfGrain (w .box) (given gs i .pos)) (λ c h. cells-under b (given gs i .pos) box c (subst (λ (d : Domain). has c (cellsOfGrain d (given gs i .pos)) ≡ true) (k .near .box ∙ clear-box) h))))
+      (λ w k. goes-on (bare b room gs) w _ k (entries i w k I (cellsOfGrain (w .box) (given gs i)) (λ c h. cells-under b (given gs i) box c (subst (λ (d : Domain). has c (cellsOfGrain d (given gs i)) ≡ true) (k .near .box ∙ clear-box) h))))
 
   -- a grain that went in has a cell, where from_p_to_c gives one
   has-some : (c : ℕ) (l : List ℕ) → has c l ≡ true → 1 ≤ length l
@@ -111,7 +112,7 @@ module _ (b : Domain) (room : ℕ) (gs : List Particle) (box : boxOk b ≡ true)
       z
 
   abbrev pub Reaches : Type 0
-  Reaches = (i : ℕ) → i < length gs → 1 ≤ length (cellsOfGrain b (given gs i .pos))
+  Reaches = (i : ℕ) → i < length gs → 1 ≤ length (cellsOfGrain b (given gs i))
 
   goesIn-some : Reaches → (i : ℕ) (u : State) → i < length gs → Goes (bare b room gs) u → (goesIn gs i u) .num ≡ 0 → 1 ≤ length (home ((goesIn gs i u) .st) i)
   unfolding goesIn
@@ -119,7 +120,7 @@ module _ (b : Domain) (room : ℕ) (gs : List Particle) (box : boxOk b ≡ true)
       then-keeps (Goes (bare b room gs)) (λ v. 1 ≤ length (home v i)) (store i (grainOf (given gs i .pos) (given gs i .vel) fzero (given gs i .val)) u) _
       (λ z. goes-on (bare b room gs) u _ g (keeps-goes u _ (stored i u g I)))
       (λ w k. let e : w .box ≡ b = k .near .box ∙ clear-box in
-      entered-some i w k I (cellsOfGrain (w .box) (given gs i .pos)) (λ c h. cells-under b (given gs i .pos) box c (subst (λ (d : Domain). has c (cellsOfGrain d (given gs i .pos)) ≡ true) e h)) (rw e (some i I)))
+      entered-some i w k I (cellsOfGrain (w .box) (given gs i)) (λ c h. cells-under b (given gs i) box c (subst (λ (d : Domain). has c (cellsOfGrain d (given gs i)) ≡ true) e h)) (rw e (some i I)))
 
   -- as each went in, so far
   pub record Inside (i : ℕ) (u : State) : Type 0 where
@@ -130,8 +131,8 @@ module _ (b : Domain) (room : ℕ) (gs : List Particle) (box : boxOk b ≡ true)
   unfolding goesIn
   goesIn-near i u I g =
       then-both (λ v. Near u v) (λ v. Goes u v) (store i (grainOf (given gs i .pos) (given gs i .vel) fzero (given gs i .val)) u) _ ((stored i u g I) .frame .near) (λ z. keeps-goes u _ (stored i u g I))
-      (λ w n k. near-trans u w _ n ((entries i w (goes-on (bare b room gs) u w g k) I (cellsOfGrain (w .box) (given gs i .pos))
-      (λ c h. cells-under b (given gs i .pos) box c (subst (λ (d : Domain). has c (cellsOfGrain d (given gs i .pos)) ≡ true) (k .near .box ∙ g .near .box ∙ clear-box) h))) .near))
+      (λ w n k. near-trans u w _ n ((entries i w (goes-on (bare b room gs) u w g k) I (cellsOfGrain (w .box) (given gs i))
+      (λ c h. cells-under b (given gs i) box c (subst (λ (d : Domain). has c (cellsOfGrain d (given gs i)) ≡ true) (k .near .box ∙ g .near .box ∙ clear-box) h))) .near))
 
   pub all-inside : Reaches → Sound (bare b room gs) → (each (goesIn gs) (length gs) 0 (bare b room gs)) .num ≡ 0 → Inside (length gs) ((each (goesIn gs) (length gs) 0 (bare b room gs)) .st)
   all-inside some sound z =
@@ -245,15 +246,15 @@ module _ (b : Domain) (room : ℕ) (gs : List Particle) (box : boxOk b ≡ true)
       }
 
   pub begin-stands : Reaches b room gs box → (begin b room gs) .num ≡ 0 → Stands ((begin b room gs) .st)
-  unfolding begin
-  begin-stands some = then-keeps (Inside b room gs box (length gs)) Stands (each (goesIn gs) (length gs) 0 (clear b room (length gs))) (λ s. each initCell (cells b) 0 s) (all-inside b room gs box some cleared) inits
+  begin-stands some = subst (λ (o : Out State). o .num ≡ 0 → Stands (o .st)) (sym (begin-is b room gs)) (unfold beginning in
+      then-keeps (Inside b room gs box (length gs)) Stands (each (goesIn gs) (length gs) 0 (clear b room (length gs))) (λ s. each initCell (cells b) 0 s) (all-inside b room gs box some cleared) inits)
 
   -- halted or not, it is sound
   pub begin-sound : Sound ((begin b room gs) .st)
-  unfolding begin
+  unfolding beginning
   begin-sound =
-      then-sound-goes (each (goesIn gs) (length gs) 0 (clear b room (length gs)))
-      (each-sound (goesIn gs) (Goes (clear b room (length gs))) (length gs) (λ i u I g. goesIn-goes b room gs box i u I g) (length gs) 0 (clear b room (length gs)) (omega arith) (record { sound = cleared; near = near-refl (clear b room (length gs)) }))
+      subst (λ (o : Out State). Sound (o .st)) (sym (begin-is b room gs)) (then-sound-goes (each (goesIn gs) (length gs) 0 (clear b room (length gs)))
+      (each-sound (goesIn gs) (Goes (clear b room (length gs))) (length gs) (λ i u I g. goesIn-goes b room gs box i u I g) (length gs) 0 (clear b room (length gs)) (omega arith) (record { sound = cleared; near = near-refl (clear b room (length gs)) })))
     where
       then-sound-goes : (o : Out State) → Goes (clear b room (length gs)) (o .st) → Sound ((then o (λ s. each initCell (cells b) 0 s)) .st)
       then-sound-goes o g = by (o .num) (o .st) g

@@ -14,18 +14,19 @@ use Rattle.model.specs.declared.Event.{Event}
 use Rattle.model.specs.declared.Event.the-variants.{InterParticleCollision, MoveToNeighbour, MoveOutOfCell, WallReflection, Synchronisation}
 use Rattle.halting.specs.Out.{Out, out, next, each}
 use Rattle.halting.proofs.Laws.{each-sound}
-use Rattle.order.specs.Numbers.{fzero, last}
+use Rattle.order.specs.Numbers.{fzero, f64Max}
 use Rattle.order.proofs.Order.{le-lt-trans, lt-irrefl}
 use Rattle.order.proofs.Clock.{clock-on}
 use Rattle.model.specs.Grid.{cells}
 use Rattle.model.specs.Events.{eventOf, headTime, headPlace, insertBy, zeroP}
 use Rattle.model.specs.State.{State, Row, row, grain, home, listed, queue, liveAt, requeued}
 use Rattle.model.specs.Acts.{insert, inserted, first, head, taken, queueRow}
-use Rattle.model.specs.Doing.{stepGrain, doSync, syncAt, execute, finish, headEvent, event, step, Whole}
+use Rattle.model.specs.Doing.{stepGrain, doSync, syncAt, execution}
+use Rattle.model.specs.Execute.{Stepped, done, synchronised, halted, finish, headEvent, event, step}
 use Rattle.model.specs.Stepping.{grainOf}
 use Rattle.halting.specs.Every.{All}
 use Rattle.model.specs.Standing.{syncs, one-if}
-use Rattle.model.specs.Sound.{Sound, Stands, Named, Held}
+use Rattle.model.proofs.Sound.{Sound, Stands, Named, Held}
 use Rattle.model.proofs.Lists.{live-same, live-other}
 use Rattle.model.proofs.Queue.{fine-top}
 use Rattle.model.proofs.Cases.{insert-case}
@@ -33,6 +34,13 @@ use Rattle.model.proofs.Keeps.{Apt, insert-sound, first-in, root-first,
 use Rattle.model.proofs.Plans.{cells-some}
 use Rattle.model.proofs.Frame.{Keeps, Goes, keeps-refl, keeps-on, keeps-goes, syncs-insert, In, in-cell}
 use Rattle.model.proofs.Schedule.{step-keeps, collision-goes, neighbour-goes, out-goes, wall-goes}
+use Rattle.model.proofs.Performs.{execute-is}
+
+-- the step was done whole
+abbrev pub Whole : Stepped → Type 0
+Whole done = Unit {0}
+Whole synchronised = Unit {0}
+Whole (halted r) = ⊥
 
 -- ---- the synchronisation
 -- what an execution leaves, k synchronisations more if it was done
@@ -112,7 +120,7 @@ module _ (rate : Float) (later : lt rate fzero ≡ false) where
       (λ u k. ends-after 1 s u _ k (insert-ends u (syncAt (add binary64 (s .clock) rate)) (k .sound) (sync-apt u (s .clock) (k .sound) (sym (k .frame .near .clock)))))
 
   -- ---- any event of a cell
-  pub execute-ends : (e : Event) (c : ℕ) (s : State) → Sound s → c < cells (s .box) → Named (cells (s .box)) c (listed s c) e → Ends (one-if e) s (execute rate e s)
+  pub execute-ends : (e : Event) (c : ℕ) (s : State) → Sound s → c < cells (s .box) → Named (cells (s .box)) c (listed s c) e → Ends (one-if e) s (execution rate e s)
   execute-ends (InterParticleCollision p q x y v w k) c s sound C n =
       goes-ends s _ (keeps-goes s _ (collision-goes p q (grainOf x v (s .clock) k) (grainOf y w (s .clock) k) s sound ((in-cell p c s sound C (n .0)) .grain) ((in-cell q c s sound C (n .1)) .grain) refl refl))
   execute-ends (MoveToNeighbour p x k) c s sound C n = goes-ends s _ (neighbour-goes p x k s sound ((in-cell p c s sound C (n .0)) .grain) (n .1))
@@ -121,19 +129,19 @@ module _ (rate : Float) (later : lt rate fzero ≡ false) where
   execute-ends Synchronisation c s sound C n = sync-ends s sound
 
 -- ---- there is a first event
-nonempty : (n c : ℕ) (m : List ℕ) (l : List Place) → syncs l ≡ 1 → All (Held n c m) l → T (lt (headTime l) last)
+nonempty : (n c : ℕ) (m : List ℕ) (l : List Place) → syncs l ≡ 1 → All (Held n c m) l → T (lt (headTime l) f64Max)
 unfolding syncs
 nonempty n c m [] z a = absurd (omega (arith, z))
 nonempty n c m (x ∷ xs) z a = fine-top x (a .0 .fine)
 
-some-of : (l : List Place) → T (lt (headTime l) last) → 0 < length l
-some-of [] h = absurd (lt-irrefl last h)
+some-of : (l : List Place) → T (lt (headTime l) f64Max) → 0 < length l
+some-of [] h = absurd (lt-irrefl f64Max h)
 some-of (x ∷ xs) h = omega arith
 
 pub first-some : (s : State) → Stands s → 0 < length (queue s (first s))
 first-some s st =
     let N = cells-some (s .box) in
-    some-of (queue s (first s)) (le-lt-trans (headTime (queue s (first s))) (headTime (queue s 0)) last (root-first s (st .sound) N 0 N)
+    some-of (queue s (first s)) (le-lt-trans (headTime (queue s (first s))) (headTime (queue s 0)) f64Max (root-first s (st .sound) N 0 N)
     (nonempty (cells (s .box)) 0 (listed s 0) (queue s 0) (st .sync) (st .sound .queues 0 N .held)))
 
 -- the head's synchronisations and those left in cell 0 are those that were there
@@ -182,7 +190,8 @@ module _ (rate : Float) (later : lt rate fzero ≡ false) (s : State) (st : Stan
   pub event-ends : Ends (one-if (headEvent s)) (taken s) (event rate s)
   unfolding event
   event-ends =
-      execute-ends rate later (headEvent s) (first s) (taken s) (taken-sound s (st .sound) (cells-some (s .box)) (first-some s st)) (unfold taken requeued in c-in s st) (unfold taken requeued in head-ok s st .named)
+      subst (Ends (one-if (headEvent s)) (taken s)) (sym (execute-is rate (headEvent s) (taken s))) (
+      execute-ends rate later (headEvent s) (first s) (taken s) (taken-sound s (st .sound) (cells-some (s .box)) (first-some s st)) (unfold taken requeued in c-in s st) (unfold taken requeued in head-ok s st .named))
 
   -- 1. sound, halted or not
   finish-sound : (r : ℕ) (u : State) (e : Event) → Sound u → Sound ((finish r u e) .state)

@@ -14,7 +14,6 @@ use lib.ListN.{length, replicate}
 use lib.Ieee.{binary64, ofBits, round, add, sub, mul, div, neg, lt, le, eq, ofInt, toUnsigned}
 use Rattle.root.specs.Isqrt.{near, root}
 use Rattle.root.specs.Root.{rootOf, sqrtOf}
-use Rattle.halting.specs.Out.{each, eachOf}
 use Rattle.halting.specs.Every.{every, All}
 use Rattle.order.specs.Numbers.{fzero}
 use Rattle.myvec.specs.Vec.{vec}
@@ -25,7 +24,7 @@ use Rattle.model.specs.declared.Plan.the-variants.{Nothing, Due, Refused
 use Rattle.model.specs.Grid.{across, cells, position}
 use Rattle.model.specs.Stepping.{grainOf, newPos}
 use Rattle.model.specs.Periodic.{apart}
-use Rattle.model.specs.FromPToC.{upFrom, reached, rows, cellsOfGrain}
+use Rattle.model.specs.FromPToC.{upFrom, reached, cellsAt, cellsOfGrain}
 use Rattle.model.specs.Collision.{collision}
 use Rattle.model.specs.Moves.{later, toNeighbour, outOfCell}
 use Rattle.model.specs.Walls.{wall}
@@ -33,17 +32,17 @@ use Rattle.model.specs.Events.{insertBy, keepBy, goneBy, finePlace}
 use Rattle.model.specs.State.{State, listed, heads, requeued, has, but}
 use Rattle.model.specs.Acts.{fineGrain, store, insert, cancelled, enter, leave, taken}
 use Rattle.model.specs.Sizes.{firstBad}
-use Rattle.model.specs.Doing.{others, stepGrain, boundaries, scheduleWith, scheduleEvents, again, forget, doCollision, doNeighbour, doOut, doWall, doSync, event, step}
+use Rattle.model.specs.Execute.{event, step}
 use Rattle.model.specs.Run.{runFrom}
-use Rattle.model.specs.Start.{Begun, refused as turned-away, started, clear, goesIn, pairs, initCell, begin, start}
+use Rattle.model.specs.Start.{Begun, refused as turned-away, started, clear, begin, start}
 use Rattle.model.specs.Standing.{syncs}
-use Rattle.model.specs.Check.{all, sound, standing, runAll}
+use Rattle.model.specs.Check.{all, walk, settled, queued, heaped, standing, runAll}
 use Rattle.model.specs.Reached.{Call, after, Reached, steps}
 use Rattle.model.specs.declared.Bound.{Bound}
 use Rattle.model.specs.declared.Bound.the-variants.{ToNeighbour, OutOfCell, Wall}
-use Rattle.model.specs.Rows.{Rule, pair, bound, sync, within, before, ofEach, inTurn, pairing}
-use Rattle.model.specs.History.{History, done, stepDone, stepsDone, callsDone, startDone, history, latest, lastOf, turned, Dated, namedBy, insertDated, keepDated, dated, Later, NoneOld}
-use Rattle.model.specs.Missing.{entered, tried, found, executed, Among, Entry, Stays, Watched, NoneMissing}
+use Rattle.model.specs.Rows.{Rule, pair, bound, sync, about, before, ofEach, inTurn, pairing, others, doing}
+use Rattle.model.specs.History.{History, rowDone, stepDone, stepsDone, callsDone, startDone, history, latest, lastOf, turned, Dated, namedBy, insertDated, keepDated, dated, Later, NoneOld}
+use Rattle.model.specs.Missing.{arrived, tried, found, executed, Among, Entry, Stays, Watched, NoneMissing}
 use Rattle.halting.proofs.Bools.{clash, and-l, and-r}
 use Rattle.halting.proofs.Tests.{every-true}
 use Rattle.model.proofs.Lists.{has-all}
@@ -62,7 +61,7 @@ noneOld h s = every (λ c. all (newer h (length (s .grains))) (dated h c)) (cell
 
 -- act n was done after the last turn of each grain that the rule is about, and after each entered cell c
 abbrev sinceOf : History → ℕ → ℕ → ℕ → Bool
-sinceOf h c n g = ltb (turned h g) n && ltb (entered h g c) n
+sinceOf h c n g = ltb (turned h g) n && ltb (arrived h g c) n
 
 abbrev since : History → ℕ → ℕ → Rule → Bool
 since h c n (pair p q) = sinceOf h c n p && sinceOf h c n q
@@ -126,13 +125,13 @@ old-passes h s k = below _ (cells (s .box)) (λ c m. all-pass (newer h (length (
     newer-passes d l = below _ (length (s .grains)) (λ g m. implied (namedBy d g) (ltb (turned h g) (d .by)) (λ e. lt-ltb (turned h g) (d .by) (l g e)))
 
 module _ (h : History) (c : ℕ) where
-  since-passes : (r : Rule) (n : ℕ) → ((g : ℕ) → within r g ≡ true → (turned h g < n) × (entered h g c < n)) → since h c n r ≡ true
+  since-passes : (r : Rule) (n : ℕ) → ((g : ℕ) → about r g ≡ true → (turned h g < n) × (arrived h g c < n)) → since h c n r ≡ true
   since-passes r n k = by r k
     where
-      of : (g : ℕ) → (turned h g < n) × (entered h g c < n) → sinceOf h c n g ≡ true
-      of g l = rw (lt-ltb (turned h g) n (l .0), lt-ltb (entered h g c) n (l .1))
+      of : (g : ℕ) → (turned h g < n) × (arrived h g c < n) → sinceOf h c n g ≡ true
+      of g l = rw (lt-ltb (turned h g) n (l .0), lt-ltb (arrived h g c) n (l .1))
 
-      by : (r : Rule) → ((g : ℕ) → within r g ≡ true → (turned h g < n) × (entered h g c < n)) → since h c n r ≡ true
+      by : (r : Rule) → ((g : ℕ) → about r g ≡ true → (turned h g < n) × (arrived h g c < n)) → since h c n r ≡ true
       by (pair p q) k = rw (of p (k p (rw (eq-eqb p p refl))), of q (k q (rw (eq-eqb q q refl) (or-true (eqb p q)))))
       by (bound b p d) k = of p (k p (eq-eqb p p refl))
       by sync k = refl
@@ -255,7 +254,7 @@ rowsOfThree =
     []
 
 computed : T (tested grains rowsOfTwo (start box 16 grains) && tested three rowsOfThree (start box 16 three))
-unfolding round add sub mul div neg lt le eq ofInt toUnsigned ofBits rootOf sqrtOf near root leadingZeros across position insertBy keepBy goneBy finePlace newPos apart upFrom reached rows cellsOfGrain heads requeued has but fineGrain store insert cancelled enter leave taken later collision toNeighbour outOfCell wall eachOf others stepGrain boundaries scheduleWith scheduleEvents again forget doCollision doNeighbour doOut doWall doSync event step firstBad clear goesIn pairs initCell begin start each timeIn swapAt childIn down downshifted parentIn up upshifted updated numbered startHeap every syncs sound standing runFrom runAll steps before ofEach inTurn pairing done stepDone stepsDone startDone latest insertDated keepDated dated lastOf executed
+unfolding round add sub mul div neg lt le eq ofInt toUnsigned ofBits rootOf sqrtOf near root leadingZeros across position insertBy keepBy goneBy finePlace newPos apart upFrom reached cellsAt cellsOfGrain heads requeued has but fineGrain store insert cancelled enter leave taken later collision toNeighbour outOfCell wall others doing event step firstBad clear begin start timeIn swapAt childIn down downshifted parentIn up upshifted updated numbered startHeap every syncs walk settled queued heaped standing runFrom runAll steps before ofEach inTurn pairing rowDone stepDone stepsDone startDone latest insertDated keepDated dated lastOf executed
 computed = tt
 
 -- ---- 5. a reached state that is not halted, after n events from these grains, in which both tests pass, with the numbers of a row

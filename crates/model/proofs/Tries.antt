@@ -18,8 +18,8 @@ use Rattle.model.specs.Events.{placeOf, eventOf, names}
 use Rattle.model.specs.State.{State}
 use Rattle.model.specs.declared.Bound.{Bound}
 use Rattle.model.specs.declared.Bound.the-variants.{ToNeighbour, OutOfCell, Wall}
-use Rattle.model.specs.Rows.{Rule, pair, bound, sync, within, Act, moving, turning, trying, cancelling, entering, leaving, perform, Acts}
-use Rattle.model.specs.History.{Deed, did, took, History, done, latest, lastOf, turns, Dated, dated-at, namedBy, insertDated, keepDated, putIn, dated}
+use Rattle.model.specs.Rows.{Rule, pair, bound, sync, about, Act, moving, turning, trying, cancelling, entering, leaving, perform, Acts}
+use Rattle.model.specs.History.{Deed, did, took, History, rowDone, latest, lastOf, turns, Dated, dated-at, namedBy, insertDated, keepDated, putIn, dated}
 use Rattle.model.specs.Missing.{enters, sameBound, sameRule, tries, planOf, tried, found, headNumber, draws, executed, Among, Entry, Stays, Watched}
 use Rattle.model.proofs.Told.{latest-below, Every, done-keeps}
 
@@ -33,7 +33,7 @@ kindOf sync = 5
 
 abbrev pub Fits : Rule → Plan → Type 0
 Fits r Nothing = Unit {0}
-Fits r (Due e) = ((placeOf e) .kind ≡ kindOf r) × ((g : ℕ) → names (eventOf ((placeOf e) .kind) (placeOf e)) g ≡ within r g)
+Fits r (Due e) = ((placeOf e) .kind ≡ kindOf r) × ((g : ℕ) → names (eventOf ((placeOf e) .kind) (placeOf e)) g ≡ about r g)
 Fits r Refused = Unit {0}
 
 -- what is watched of a cell's rule, with that
@@ -69,7 +69,7 @@ same-fits r o (Due d) e f = (f .0 ∙ kinds r o e, λ g. f .1 g ∙ abouts r o e
     kinds sync (bound x i n) e = clash e
     kinds sync sync e = refl
 
-    abouts : (r o : Rule) → sameRule r o ≡ true → (g : ℕ) → within o g ≡ within r g
+    abouts : (r o : Rule) → sameRule r o ≡ true → (g : ℕ) → about o g ≡ about r g
     abouts (pair p q) (pair i j) e g =
         or-case (eqb p i && eqb q j) (eqb p j && eqb q i) ((eqb i g || eqb j g) ≡ (eqb p g || eqb q g)) e
         (λ k. rw (eqb-true p i (and-l (eqb p i) (eqb q j) k), eqb-true q j (and-r (eqb p i) (eqb q j) k)))
@@ -117,10 +117,10 @@ among-keep d g (y ∷ ys) n a = by (namedBy y g) refl a (among-keep d g ys n)
 -- ---- acts that leave what is watched of rule r in cell c
 abbrev pub Spares : ℕ → Rule → Act → Type 0
 Spares c r (moving i x t) = Unit {0}
-Spares c r (turning i p) = within r i ≡ false
+Spares c r (turning i p) = about r i ≡ false
 Spares c r (trying k o x) = Fits o x
-Spares c r (cancelling i k) = (eqb k c && within r i) ≡ false
-Spares c r (entering i k) = (eqb k c && within r i) ≡ false
+Spares c r (cancelling i k) = (eqb k c && about r i) ≡ false
+Spares c r (entering i k) = (eqb k c && about r i) ≡ false
 Spares c r (leaving i k) = Unit {0}
 
 -- a deed that tries another rule, turns none of the grains and lets none enter, and after which what was found is still there or was taken out
@@ -153,7 +153,7 @@ module _ (d : Deed) (h : History) (c : ℕ) (r : Rule) (other : tries c r d ≡ 
       by (inl a) = kept (k e (tried h c r) f a)
       by (inr a) = inr (a .0, rw (a .1) (or-true (draws d c (tried h c r) (dated h c))))
 
-  carry : ((g : ℕ) → within r g ≡ true → (turns g d ≡ false) × (enters g c d ≡ false)) → Held → Kept h c r → Kept (d ∷ h) c r
+  carry : ((g : ℕ) → about r g ≡ true → (turns g d ≡ false) × (enters g c d ≡ false)) → Held → Kept h c r → Kept (d ∷ h) c r
   unfolding latest
   carry away k w = record {
     watched = record {
@@ -186,7 +186,7 @@ tried-now k o x s h c r e f z = record {
     there (Due p) z = rw (e, and-l (eqb k c) (sameRule r o) e) (inl (among-new (dated-at (placeOf p) (suc (length h))) (dated h c)))
 
 -- within is false of i, and true of g: they differ
-apart : (r : Rule) (i g : ℕ) → within r i ≡ false → within r g ≡ true → eqb i g ≡ false
+apart : (r : Rule) (i g : ℕ) → about r i ≡ false → about r g ≡ true → eqb i g ≡ false
 apart r i g e f = by (eqb i g) refl
   where
     by : (b : Bool) → eqb i g ≡ b → eqb i g ≡ false
@@ -220,17 +220,17 @@ module _ (c : ℕ) (r : Rule) where
       by false q e n f a = a
   spared (entering i k) s h p z w = carry (did (entering i k)) h c r refl (λ g m. (refl, by (eqb k c) refl g m)) (λ e n f a. inl a) w
     where
-      by : (b : Bool) → eqb k c ≡ b → (g : ℕ) → within r g ≡ true → (eqb i g && b) ≡ false
+      by : (b : Bool) → eqb k c ≡ b → (g : ℕ) → about r g ≡ true → (eqb i g && b) ≡ false
       by true q g m = rw (apart r i g (rw q at p) m)
       by false q g m = and-false (eqb i g)
   spared (leaving i k) s h p z w = carry (did (leaving i k)) h c r refl (λ g m. (refl, refl)) (λ e n f a. inl a) w
 
-  pub row-spares : (w : Acts) (s : State) (h : History) → Every (Spares c r) w → Kept h c r → Kept (done w s h) c r
+  pub row-spares : (w : Acts) (s : State) (h : History) → Every (Spares c r) w → Kept h c r → Kept (rowDone w s h) c r
   row-spares = done-keeps (Spares c r) (λ h. Kept h c r) (λ a s h p z k. spared a s h p z k)
 
 -- ---- the head of cell k is taken out: what was found for r stays, unless it was that; an entry may be that
 abbrev pub Not : Rule → Place → Type 0
-Not r x = x .kind ≡ kindOf r → ((g : ℕ) → names (eventOf (x .kind) x) g ≡ within r g) → Entry r
+Not r x = x .kind ≡ kindOf r → ((g : ℕ) → names (eventOf (x .kind) x) g ≡ about r g) → Entry r
 
 module _ (c k : ℕ) (r : Rule) (h : History) where
   pub took-keeps : (k ≡ c → (d : Dated) (l : List Dated) → dated h c ≡ d ∷ l → Not r (d .event)) → Kept h c r → Kept (took k ∷ h) c r

@@ -21,16 +21,15 @@ use Rattle.model.specs.declared.Pending.{Pending}
 use Rattle.model.specs.declared.Plan.the-variants.{Nothing, Due, Refused}
 use Rattle.model.specs.Events.{placeOf}
 use Rattle.model.specs.State.{State, zeroG, grain, requeued}
-use Rattle.model.specs.Acts.{first, taken}
-use Rattle.model.specs.Doing.{landed, headEvent, step}
+use Rattle.model.specs.Acts.{first, taken, store, cancelled}
+use Rattle.model.specs.Execute.{headEvent, step}
 use Rattle.model.specs.Grid.{cells}
 use Rattle.model.specs.Start.{clear, begin}
 use Rattle.model.specs.Reached.{Reached}
-use Rattle.model.specs.Rows.{Rule, Act, moving, turning, trying, cancelling, entering, leaving, perform, Acts, ended, act, doing, actsOf, startActs}
-use Rattle.model.specs.History.{Deed, did, took, History, onto, done, stepDone, startDone, history, Dated, dated-at, insertDated, keepDated, change, dated, namedBy, lastOf, given, Honest, Led}
-use Rattle.model.specs.Sound.{Stands}
-use Rattle.model.proofs.Performs.{act-same, begin-is}
-use Rattle.model.specs.Acts.{store, cancelled}
+use Rattle.model.specs.Rows.{Rule, Act, moving, turning, trying, cancelling, entering, leaving, perform, Acts, ended, act, doing, actsOf, startActs, landed}
+use Rattle.model.specs.History.{Deed, did, took, History, onto, rowDone, stepDone, startDone, history, Dated, dated-at, insertDated, keepDated, change, dated, namedBy, lastOf, given, Honest, Led}
+use Rattle.model.proofs.Sound.{Stands}
+use Rattle.model.proofs.Performs.{act-same}
 use Rattle.model.proofs.Cases.{on-test, store-case, insert-case, enter-case, leave-case}
 use Rattle.model.proofs.Told.{Tells, all-insert, all-keep, all-drop, all-change}
 use Rattle.model.proofs.Steps.{head-ok}
@@ -38,13 +37,13 @@ use Rattle.model.proofs.Along.{Parts, reached-along}
 use Rattle.model.proofs.AtClock.{Honestly, Any, sound-ranges, acts-honest, start-honest}
 
 -- ---- a row whose acts are honest leads on
-turn-led : (a : Act) (f : State → Acts) (s₀ s : State) (h : History) (r : ℕ) → (perform a s) .num ≡ r → Led h s₀ s → Honest a s → ((perform a s) .num ≡ 0 → Led (did a ∷ h) s₀ ((perform a s) .st) → let u = (perform a s) .st in Led (done (f u) u (did a ∷ h)) s₀ ((doing (f u) u) .st))
-    → let u = (perform a s) .st in Led (onto r a (done (f u) u) h) s₀ ((next r u (λ v. doing (f v) v)) .st)
+turn-led : (a : Act) (f : State → Acts) (s₀ s : State) (h : History) (r : ℕ) → (perform a s) .num ≡ r → Led h s₀ s → Honest a s → ((perform a s) .num ≡ 0 → Led (did a ∷ h) s₀ ((perform a s) .st) → let u = (perform a s) .st in Led (rowDone (f u) u (did a ∷ h)) s₀ ((doing (f u) u) .st))
+    → let u = (perform a s) .st in Led (onto r a (rowDone (f u) u) h) s₀ ((next r u (λ v. doing (f v) v)) .st)
 turn-led a f s₀ s h zero e l o k = k e (s, l, o, ap (λ (r : ℕ). out r ((perform a s) .st)) e)
 turn-led a f s₀ s h (suc r) e l o k = subst (λ (w : Out State). Led h s₀ (w .st)) (sym (act-same a s (λ z. omega (arith, e, z)) .0)) l
 
-row-led : (w : Acts) (Q : State → Type 0) (s₀ s : State) (h : History) → Honestly w s Q → Led h s₀ s → Led (done w s h) s₀ ((doing w s) .st)
-unfolding done doing
+row-led : (w : Acts) (Q : State → Type 0) (s₀ s : State) (h : History) → Honestly w s Q → Led h s₀ s → Led (rowDone w s h) s₀ ((doing w s) .st)
+unfolding rowDone doing
 row-led ended Q s₀ s h e l = l
 row-led (act a f) Q s₀ s h e l = let u = (perform a s) .st in turn-led a f s₀ s h ((perform a s) .num) refl l (e .0) (λ z. row-led (f u) Q s₀ u (did a ∷ h) (e .1 z))
 
@@ -57,10 +56,8 @@ step-led s₀ rate s h st t p l =
     rw (p .left) (row-led row Any s₀ (taken s) (took (first s) ∷ h) honest (s, l, refl, refl))
 
 start-led : (b : Domain) (room : ℕ) (gs : List Particle) → Led (startDone b room gs) (clear b room (length gs)) ((begin b room gs) .st)
-unfolding startDone
-start-led b room gs =
-    let s = clear b room (length gs) in
-    subst (λ (o : Out State). Led (done (startActs b gs s) s []) s (o .st)) (begin-is b room gs) (row-led (startActs b gs s) Any s s [] (start-honest b room gs) refl)
+unfolding startDone begin
+start-led b room gs = let s = clear b room (length gs) in row-led (startActs b gs s) Any s s [] (start-honest b room gs) refl
 
 -- THE HISTORY OF A REACHED STATE LEADS TO IT
 pub history-true : (s : State) (r : Reached s) → s .mark ≡ 0 → Led (history s r) (clear (r .box) (r .room) (length (r .grains))) s

@@ -1,13 +1,13 @@
 -- ONLY A TURN CHANGES A VELOCITY: every other act, done or refused, and every event and step that does not turn a grain keep its velocity's bits. Of any state. Assumes nothing.
 use Prim.Native.Nat.{ℕ, zero, suc}
-use mathlib.Core.Path.{_≡_, refl, ap, subst, _∙_}
+use mathlib.Core.Path.{_≡_, refl, ap, _∙_}
 use mathlib.Core.List.{List, [], _∷_}
 use mathlib.Core.Bool.{Bool, false, _||_}
 use lib.Dec.{eqb}
 use lib.ListN.{length}
 use lib.Ieee.{Float}
 use borrow.Author.Tests.{eqb-false}
-use Rattle.halting.specs.Out.{Out, next}
+use Rattle.halting.specs.Out.{next}
 use Rattle.halting.proofs.Bools.{or-false-l, or-false-r}
 use Rattle.myvec.specs.declared.MyVec.{MyVec}
 use Rattle.model.specs.declared.Particle.{Particle}
@@ -16,12 +16,11 @@ use Rattle.model.specs.declared.Event.the-variants.{InterParticleCollisi
 use Rattle.model.specs.State.{State, zeroG, grain, home, listed, requeued}
 use Rattle.model.specs.Stepping.{grainOf}
 use Rattle.model.specs.Acts.{cancelled, taken}
-use Rattle.model.specs.Doing.{landed, finish, execute, headEvent, event, step}
-use Rattle.model.specs.Rows.{Act, moving, turning, trying, cancelling, entering, leaving, perform, Acts, ended, act, doing, only, _⨟_, stepping, colliding, finding, bounding, scheduling, reschedules, forgets, actsOf, pairing, firstSync, initiates}
+use Rattle.model.specs.Execute.{finish, execute, headEvent, event, step}
+use Rattle.model.specs.Rows.{Act, moving, turning, trying, cancelling, entering, leaving, perform, Acts, ended, act, doing, only, _⨟_, stepping, colliding, finding, bounding, scheduling, reschedules, forgets, actsOf, pairing, firstSync, initiates, landed}
 use Rattle.model.specs.History.{did, turns}
 use Rattle.model.proofs.Cases.{store-case, put-case, enter-case, leave-case}
 use Rattle.model.proofs.Lists.{set-case}
-use Rattle.model.proofs.Performs.{execute-is}
 use Rattle.model.proofs.Renews.{reflects, collides}
 use Rattle.model.proofs.Told.{Every, every-before, every-each, every-turn}
 
@@ -111,7 +110,7 @@ row-keeps-velocity (act a f) s g e = by ((perform a s) .num) (row-keeps-velocity
 
 -- SO AN EVENT KEEPS THE VELOCITY OF EVERY GRAIN THAT IT DOES NOT TURN, and so does a step, halted or not
 pub execute-keeps-velocity : (rate : Float) (e : Event) (s : State) (g : ℕ) → turnedBy e g ≡ false → (grain ((execute rate e s) .st) g) .vel ≡ (grain s g) .vel
-execute-keeps-velocity rate e s g n = subst (λ (o : Out State). vel (o .st) g ≡ vel s g) (execute-is rate e s) (row-keeps-velocity (actsOf rate e s) s g (acts-calm g rate e s n))
+execute-keeps-velocity rate e s g n = row-keeps-velocity (actsOf rate e s) s g (acts-calm g rate e s n)
 
 pub step-keeps-velocity : (rate : Float) (s : State) (g : ℕ) → turnedBy (headEvent s) g ≡ false → (grain ((step rate s) .state) g) .vel ≡ (grain s g) .vel
 unfolding step event taken requeued

@@ -13,7 +13,7 @@ use Rattle.order.proofs.Order.{le-lt-trans}
 use Rattle.model.specs.Grid.{across, cells}
 use Rattle.model.specs.State.{State}
 use Rattle.model.specs.Run.{How, spent, Ran, runFrom, refused}
-use Rattle.model.specs.Sound.{Sound, Stands}
+use Rattle.model.proofs.Sound.{Sound, Stands}
 use Rattle.model.specs.Check.{standing, Fitted, sized, halt, runAll}
 use Rattle.model.specs.Sizes.{rated}
 use Rattle.halting.proofs.Bools.{and-l}

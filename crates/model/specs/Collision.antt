@@ -3,7 +3,7 @@
 use Prim.Native.Nat.{ℕ}
 use mathlib.Core.Bool.{Bool, true, false, cond}
 use lib.Ieee.{Float, binary64, add, sub, mul, div, neg, lt, le}
-use Rattle.order.specs.Numbers.{fzero, one, half, rest, eps}
+use Rattle.order.specs.Numbers.{fzero, one}
 use Rattle.root.specs.declared.Root.{Root}
 use Rattle.root.specs.declared.Root.the-variants as root
 use Rattle.root.specs.Root.{rootOf}
@@ -17,22 +17,23 @@ use Rattle.model.specs.declared.Contact.{Contact}
 use Rattle.model.specs.declared.Contact.the-variants as contact
 use Rattle.model.specs.declared.Plan.{Plan}
 use Rattle.model.specs.declared.Plan.the-variants.{Nothing, Refused}
+use Rattle.model.specs.Constants.{restitution, radiusOf, leastA, meanFactor, centreFactor, gravitySize, neutralVal}
 use Rattle.model.specs.Stepping.{newPos, due}
 use Rattle.model.specs.Periodic.{apart}
 
 -- r + r
-abbrev pub reach : Float
-reach = add binary64 half half
+abbrev pub reach : Particle → Particle → Float
+reach p q = add binary64 (radiusOf p) (radiusOf q)
 
--- a = dvel·dvel, b = dvel·dpos, c = dpos·dpos - (r + r)², d = b² - a·c
+-- a = dvel·dvel, b = dvel·dpos, c = dpos·dpos - (r + r)², d = b² - a·c; rr is r + r
 abbrev pub aOf : MyVec → Float
 aOf dvel = vdot dvel dvel
 
 abbrev pub bOf : MyVec → MyVec → Float
 bOf dpos dvel = vdot dvel dpos
 
-abbrev pub cOf : MyVec → Float
-cOf dpos = sub binary64 (vdot dpos dpos) (mul binary64 reach reach)
+abbrev pub cOf : Float → MyVec → Float
+cOf rr dpos = sub binary64 (vdot dpos dpos) (mul binary64 rr rr)
 
 abbrev pub dOf : Float → Float → Float → Float
 dOf a b c = sub binary64 (mul binary64 b b) (mul binary64 a c)
@@ -49,7 +50,7 @@ timeOf d a b = afterRoot a b (rootOf d)
 
 -- none if a < 2 ^ -52, 0 ≤ b, c < 0, d < 0, tested so
 abbrev pub tooSlow : Float → Bool
-tooSlow a = lt a eps
+tooSlow a = lt a leastA
 
 abbrev pub tests : Float → Float → Float → Float → Contact → Contact
 tests a b c d k =
@@ -58,39 +59,40 @@ tests a b c d k =
 abbrev pub contactBy : Float → Float → Float → Contact
 contactBy a b c = tests a b c (dOf a b c) (timeOf (dOf a b c) a b)
 
-abbrev pub collide : MyVec → MyVec → Contact
-collide dpos dvel = contactBy (aOf dvel) (bOf dpos dvel) (cOf dpos)
+abbrev pub collide : Float → MyVec → MyVec → Contact
+collide rr dpos dvel = contactBy (aOf dvel) (bOf dpos dvel) (cOf rr dpos)
 
 -- ---- what is stored: positions, velocities and the mean value
 abbrev pub mean : Particle → Particle → Float
-mean p q = add binary64 (mul binary64 half (p .val)) (mul binary64 half (q .val))
+mean p q = add binary64 (mul binary64 meanFactor (p .val)) (mul binary64 meanFactor (q .val))
 
 -- gravity is -0.5 in a wall-bounded direction and 0 in a periodic one
 abbrev pub pull : Bool → Float
 pull true = fzero
-pull false = neg half
+pull false = neg gravitySize
 
 abbrev pub gravity : Domain → MyVec
 gravity b = vec (pull (b .periodic0)) (pull (b .periodic1))
 
--- the unit vector from p to q, at their new positions
-abbrev pub normal : Domain → ℕ → MyVec → MyVec → MyVec
-normal b c x y = vover (apart b c (vsub y x)) reach
+-- the unit vector from p to q, at their new positions x and y
+abbrev pub normal : Domain → ℕ → Float → MyVec → MyVec → MyVec
+normal b c rr x y = vover (apart b c (vsub y x)) rr
 
 -- the velocity of the two together
 abbrev pub centre : Domain → Particle → Particle → MyVec
-centre b p q = vadd (vadd (vtimes half (p .vel)) (vtimes half (q .vel))) (vtimes (sub binary64 (mean p q) half) (gravity b))
+centre b p q =
+    vadd (vadd (vtimes centreFactor (p .vel)) (vtimes centreFactor (q .vel))) (vtimes (sub binary64 (mean p q) neutralVal) (gravity b))
 
 -- the difference of their velocities afterwards
 abbrev pub bounced : MyVec → MyVec → MyVec
-bounced dvel n = vsub dvel (vtimes (mul binary64 (add binary64 one rest) (vdot dvel n)) n)
+bounced dvel n = vsub dvel (vtimes (mul binary64 (add binary64 one restitution) (vdot dvel n)) n)
 
 abbrev pub struck : Domain → ℕ → ℕ → ℕ → Particle → Particle → Float → Event
 struck b c i j p q dt =
     let x = newPos b (p .pos) (p .vel) dt in
     let y = newPos b (q .pos) (q .vel) dt in
     let g = centre b p q in
-    let w = vtimes half (bounced (vsub (q .vel) (p .vel)) (normal b c x y)) in
+    let w = vtimes centreFactor (bounced (vsub (q .vel) (p .vel)) (normal b c (reach p q) x y)) in
     InterParticleCollision i j x y (vsub g w) (vadd g w) (mean p q)
 
 abbrev pub planned : Contact → Float → (Float → Event) → Plan
@@ -100,4 +102,4 @@ planned contact.Refused t e = Refused
 
 -- of the grains i and j, which are p and q, in cell c at the clock t
 unfoldable pub collision : Domain → Float → ℕ → ℕ → ℕ → Particle → Particle → Plan
-collision b t c i j p q = planned (collide (apart b c (vsub (q .pos) (p .pos))) (vsub (q .vel) (p .vel))) t (struck b c i j p q)
+collision b t c i j p q = planned (collide (reach p q) (apart b c (vsub (q .pos) (p .pos))) (vsub (q .vel) (p .vel))) t (struck b c i j p q)

@@ -1,31 +1,30 @@
--- 01, "Doing an event" and "Synchronisation": schedule_events, the five executions and a step, in the orders of event.rs. Assumes nothing: these are definitions.
+-- For the inner functions, which do one part of an execution or of a start each: the same orders as Rows has, as calls within calls. No promise of a public call speaks of them:
+-- `execute-is` and `begin-is` (proofs, Performs) say that `execution` is `execute` and `beginning` is `begin`. Assumes nothing: these are definitions.
 use Prim.Native.Nat.{ℕ, zero, suc}
-use mathlib.Core.Bool.{cond}
 use mathlib.Core.List.{List, [], _∷_}
-use lib.Dec.{eqb}
-use lib.ListN.{length}
+use lib.ListN.{length, getD}
 use lib.Ieee.{Float, binary64, add}
-use Rattle.halting.specs.Out.{Out, then, each, eachOf}
+use Rattle.halting.specs.Out.{Out, out, then, each, eachOf}
+use Rattle.order.specs.Numbers.{fzero}
 use Rattle.myvec.specs.declared.MyVec.{MyVec}
 use Rattle.model.specs.declared.Domain.{Domain}
 use Rattle.model.specs.declared.Particle.{Particle}
 use Rattle.model.specs.declared.Place.{Place}
-use Rattle.model.specs.declared.Plan.{Plan}
 use Rattle.model.specs.declared.Event.{Event}
 use Rattle.model.specs.declared.Event.the-variants.{InterParticleCollision, MoveToNeighbour, MoveOutOfCell, WallReflection, Synchronisation}
+use Rattle.model.specs.Grid.{cells}
 use Rattle.model.specs.Stepping.{grainOf, stepped}
+use Rattle.model.specs.FromPToC.{cellsOfGrain}
 use Rattle.model.specs.Collision.{collision}
 use Rattle.model.specs.Moves.{toNeighbour, outOfCell}
 use Rattle.model.specs.Walls.{wall}
-use Rattle.model.specs.Events.{placeOf, eventOf}
-use Rattle.model.specs.State.{State, grain, home, listed, marked}
-use Rattle.model.specs.Acts.{store, insert, put, cancel, enter, leave, head, taken}
+use Rattle.model.specs.Events.{placeOf}
+use Rattle.model.specs.State.{State, zeroG, grain, home, listed}
+use Rattle.model.specs.Acts.{store, insert, put, cancel, enter, leave}
+use Rattle.model.specs.Rows.{Finder, landed, others}
+use Rattle.model.specs.Start.{clear}
 
--- all but p, in order
-unfoldable pub others : ℕ → List ℕ → List ℕ
-others p [] = []
-others p (q ∷ qs) = cond (eqb p q) (others p qs) (q ∷ others p qs)
-
+-- ---- schedule_events
 -- a grain steps to the clock
 unfoldable pub stepGrain : ℕ → State → Out State
 stepGrain g s = store g (stepped (s .box) (s .clock) (grain s g)) s
@@ -33,9 +32,6 @@ stepGrain g s = store g (stepped (s .box) (s .clock) (grain s g)) s
 -- the scheduling of each kind, from the state
 abbrev pub scheduleCollision : ℕ → ℕ → ℕ → State → Out State
 scheduleCollision c p q s = put c (collision (s .box) (s .clock) c p q (grain s p) (grain s q)) s
-
-abbrev pub Finder : Type 0
-Finder = ℕ → Domain → Float → ℕ → ℕ → Particle → Plan
 
 abbrev pub scheduleBy : Finder → ℕ → ℕ → ℕ → State → Out State
 scheduleBy f c p d s = put c (f d (s .box) (s .clock) c p (grain s p)) s
@@ -57,9 +53,6 @@ unfoldable pub scheduleEvents : ℕ → ℕ → State → Out State
 scheduleEvents p c s = scheduleWith p c (others p (listed s c)) s
 
 -- ---- the five executions
-abbrev pub landed : MyVec → Float → Particle → Particle
-landed x t p = grainOf x (p .vel) t (p .val)
-
 -- in each cell that lists p, in order: its events are scheduled, its events are cancelled
 unfoldable pub again : ℕ → State → Out State
 again p s = eachOf (λ c. scheduleEvents p c) (home s p) s
@@ -88,50 +81,29 @@ syncAt t = placeOf (record { time = t; event = Synchronisation })
 unfoldable pub doSync : Float → State → Out State
 doSync rate s = then (each stepGrain (length (s .grains)) 0 s) (λ u. insert 0 (syncAt (add binary64 (s .clock) rate)) u)
 
-abbrev pub execute : Float → Event → State → Out State
-execute rate (InterParticleCollision p q x y v w k) s = doCollision p q (grainOf x v (s .clock) k) (grainOf y w (s .clock) k) s
-execute rate (MoveToNeighbour p x k) s = doNeighbour p x k s
-execute rate (MoveOutOfCell p x k) s = doOut p x k s
-execute rate (WallReflection p x v w) s = doWall p (grainOf x v (s .clock) w) s
-execute rate Synchronisation s = doSync rate s
+abbrev pub execution : Float → Event → State → Out State
+execution rate (InterParticleCollision p q x y v w k) s = doCollision p q (grainOf x v (s .clock) k) (grainOf y w (s .clock) k) s
+execution rate (MoveToNeighbour p x k) s = doNeighbour p x k s
+execution rate (MoveOutOfCell p x k) s = doOut p x k s
+execution rate (WallReflection p x v w) s = doWall p (grainOf x v (s .clock) w) s
+execution rate Synchronisation s = doSync rate s
 
--- ---- a step: remove the head, update the heap, set the clock (`taken`), execute; a refusal is marked
-pub data Stepped : Type 0 where
-  done synchronised : Stepped
-  halted : ℕ → Stepped
+-- ---- a start
+-- a grain's numbers, its time 0, and its entries
+unfoldable pub goesIn : List Particle → ℕ → State → Out State
+goesIn gs i s = let p = getD gs i zeroG in then (store i (grainOf (p .pos) (p .vel) fzero (p .val)) s) (λ u. eachOf (λ c. enter i c) (cellsOfGrain (u .box) p) u)
 
-pub record Moved : Type 0 where
-  pub how : Stepped
-  pub state : State
+-- init_events in one cell
+unfoldable pub pairs : ℕ → List ℕ → State → Out State
+pairs c [] s = out 0 s
+pairs c (p ∷ qs) s = then (eachOf (λ q. scheduleCollision c p q) qs s) (pairs c qs)
 
-abbrev pub movedTo : Stepped → State → Moved
-movedTo h s = record { how = h; state = s }
+abbrev pub syncIn : ℕ → State → Out State
+syncIn zero s = insert 0 (syncAt fzero) s
+syncIn (suc c) s = out 0 s
 
-abbrev pub wasSync : Event → Stepped
-wasSync (InterParticleCollision p q x y v w k) = done
-wasSync (MoveToNeighbour p x k) = done
-wasSync (MoveOutOfCell p x k) = done
-wasSync (WallReflection p x v w) = done
-wasSync Synchronisation = synchronised
+unfoldable pub initCell : ℕ → State → Out State
+initCell c s = then (syncIn c s) (λ u. then (pairs c (listed u c) u) (λ w. eachOf (λ p. boundaries c p) (listed w c) w))
 
-abbrev pub finish : ℕ → State → Event → Moved
-finish zero s e = movedTo (wasSync e) s
-finish (suc r) s e = movedTo (halted (suc r)) (marked (suc r) s)
-
-abbrev pub finished : Out State → Event → Moved
-finished o e = finish (o .num) (o .st) e
-
-abbrev pub headEvent : State → Event
-headEvent s = eventOf ((head s) .kind) (head s)
-
-unfoldable pub event : Float → State → Out State
-event rate s = execute rate (headEvent s) (taken s)
-
-unfoldable pub step : Float → State → Moved
-step rate s = finished (event rate s) (headEvent s)
-
--- the step was done whole
-abbrev pub Whole : Stepped → Type 0
-Whole done = Unit {0}
-Whole synchronised = Unit {0}
-Whole (halted r) = ⊥
+unfoldable pub beginning : Domain → ℕ → List Particle → Out State
+beginning b room gs = then (each (goesIn gs) (length gs) 0 (clear b room (length gs))) (λ s. each initCell (cells b) 0 s)

@@ -6,7 +6,7 @@ use mathlib.Core.List.{List, [], _∷_}
 use lib.Dec.{eqb}
 use lib.Ieee.{Float, le, lt}
 use lib.Ieee.Scale.{finite}
-use Rattle.order.specs.Numbers.{fzero, last}
+use Rattle.order.specs.Numbers.{fzero, f64Max}
 use Rattle.myvec.specs.declared.MyVec.{MyVec}
 use Rattle.myvec.specs.Vec.{vec}
 use Rattle.model.specs.declared.Event.{Event}
@@ -67,7 +67,7 @@ goneBy g (x ∷ xs) = cond (names (eventOf (x .kind) x) g) (suc (goneBy g xs)) (
 
 -- an event in front of others: its time is f64::MAX where there is none
 abbrev pub headTime : List Place → Float
-headTime [] = last
+headTime [] = f64Max
 headTime (x ∷ xs) = x .time
 
 abbrev pub headPlace : List Place → Place
@@ -79,4 +79,4 @@ abbrev pub fineV : MyVec → Bool
 fineV v = finite (v .x) && finite (v .y)
 
 unfoldable pub finePlace : Place → Bool
-finePlace s = (finite (s .time) && lt (s .time) last) && (fineV (s .a) && (fineV (s .b) && (fineV (s .c) && (fineV (s .d) && finite (s .val)))))
+finePlace s = (finite (s .time) && lt (s .time) f64Max) && (fineV (s .a) && (fineV (s .b) && (fineV (s .c) && (fineV (s .d) && finite (s .val)))))

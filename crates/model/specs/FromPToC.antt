@@ -4,9 +4,10 @@ use mathlib.Core.Bool.{cond}
 use mathlib.Core.List.{List, [], _∷_, _++_, map}
 use lib.IntN.{pos}
 use lib.Ieee.{Float, binary64, add, sub, div, lt, toUnsigned, ofInt}
-use Rattle.order.specs.Numbers.{fzero, half, one, maxOf, minOf}
-use Rattle.myvec.specs.declared.MyVec.{MyVec}
+use Rattle.order.specs.Numbers.{fzero, one, maxOf, minOf}
 use Rattle.model.specs.declared.Domain.{Domain}
+use Rattle.model.specs.declared.Particle.{Particle}
+use Rattle.model.specs.Constants.{radiusOf}
 use Rattle.model.specs.Grid.{lengthOf, across, cellAt}
 
 -- k numbers from i on, and the numbers from lo to below hi
@@ -30,19 +31,19 @@ endCell l n max = toUnsigned 64 (minOf (add binary64 (div binary64 max (width l 
 abbrev pub kernel : Float → ℕ → Float → Float → List ℕ
 kernel l n min max = between (firstCell l n min) (endCell l n max)
 
--- the cells of one direction that a grain at x touches, those at the low edge first where it lies across both
-unfoldable pub reached : Float → ℕ → Float → List ℕ
-reached l n x =
-    let min = sub binary64 x half in
-    let max = add binary64 x half in
+-- the cells of one direction that a grain of radius rad at x touches, those at the low edge first where it lies across both
+unfoldable pub reached : Float → ℕ → Float → Float → List ℕ
+reached l n rad x =
+    let min = sub binary64 x rad in
+    let max = add binary64 x rad in
     cond (lt min fzero) (kernel l n fzero max ++ kernel l n (add binary64 l min) l)
     (cond (lt l max) (kernel l n fzero (sub binary64 max l) ++ kernel l n min l)
     (kernel l n min max))
 
 -- for each index in direction 1, each in direction 0
-unfoldable pub rows : Domain → List ℕ → List ℕ → List ℕ
-rows b is [] = []
-rows b is (j ∷ js) = map (λ (i : ℕ). cellAt b i j) is ++ rows b is js
+unfoldable pub cellsAt : Domain → List ℕ → List ℕ → List ℕ
+cellsAt b is [] = []
+cellsAt b is (j ∷ js) = map (λ (i : ℕ). cellAt b i j) is ++ cellsAt b is js
 
-unfoldable pub cellsOfGrain : Domain → MyVec → List ℕ
-cellsOfGrain b x = rows b (reached (lengthOf 0 b) (across 0 b) (x .x)) (reached (lengthOf 1 b) (across 1 b) (x .y))
+unfoldable pub cellsOfGrain : Domain → Particle → List ℕ
+cellsOfGrain b p = cellsAt b (reached (lengthOf 0 b) (across 0 b) (radiusOf p) (p .pos .x)) (reached (lengthOf 1 b) (across 1 b) (radiusOf p) (p .pos .y))

@@ -5,12 +5,12 @@ use mathlib.Core.Bool.{Bool, true, false, cond}
 use lib.Dec.{eqb}
 use lib.IntN.{pos}
 use lib.Ieee.{Float, binary64, mul, div, ofInt, toUnsigned}
-use Rattle.order.specs.Numbers.{three}
 use Rattle.myvec.specs.declared.MyVec.{MyVec}
 use Rattle.myvec.specs.Vec.{along}
 use Rattle.model.specs.declared.Domain.{Domain}
 use Rattle.model.specs.declared.CellPosition.{CellPosition}
 use Rattle.model.specs.declared.CellPosition.the-variants.{NegativeEdge, Centre, PositiveEdge}
+use Rattle.model.specs.Constants.{cellSize, fewestAcross}
 
 abbrev pub boxOf : MyVec → Bool → Bool → Domain
 boxOf l p0 p1 = record { lengths = l; periodic0 = p0; periodic1 = p1 }
@@ -22,9 +22,9 @@ abbrev pub periodic : ℕ → Domain → Bool
 periodic zero b = b .periodic0
 periodic (suc d) b = b .periodic1
 
--- cells per direction: the larger of 3 and length / 3 cut to a whole number
+-- cells per direction: the larger of 3 and length / 3 (the cell size) cut to a whole number
 abbrev pub cellsOf : Float → ℕ
-cellsOf length = max 3 (toUnsigned 64 (div binary64 length three))
+cellsOf length = max fewestAcross (toUnsigned 64 (div binary64 length cellSize))
 
 unfoldable pub across : ℕ → Domain → ℕ
 across d b = cellsOf (lengthOf d b)
@@ -50,16 +50,16 @@ low d b c = edge d b (index d b c)
 abbrev pub high : ℕ → Domain → ℕ → Float
 high d b c = edge d b (index d b c + 1)
 
--- neighbours, which wrap at both edges
-abbrev pub shifted : ℕ → Domain → ℕ → ℕ → ℕ
-shifted zero b c k = cellAt b ((index 0 b c + k) % across 0 b) (index 1 b c)
-shifted (suc d) b c k = cellAt b (index 0 b c) ((index 1 b c + k) % across 1 b)
+-- the cell k on from c, and the neighbours, which wrap at both edges
+abbrev pub cellOn : ℕ → Domain → ℕ → ℕ → ℕ
+cellOn zero b c k = cellAt b ((index 0 b c + k) % across 0 b) (index 1 b c)
+cellOn (suc d) b c k = cellAt b (index 0 b c) ((index 1 b c + k) % across 1 b)
 
 abbrev pub below : ℕ → Domain → ℕ → ℕ
-below d b c = shifted d b c (across d b - 1)
+below d b c = cellOn d b c (across d b - 1)
 
 abbrev pub above : ℕ → Domain → ℕ → ℕ
-above d b c = shifted d b c 1
+above d b c = cellOn d b c 1
 
 -- position: NegativeEdge at 0, PositiveEdge at n - 1, else Centre
 unfoldable pub position : ℕ → Domain → ℕ → CellPosition

@@ -20,9 +20,9 @@ use Rattle.model.specs.declared.Event.the-variants.{Synchronisation}
 use Rattle.model.specs.Events.{zeroV, placeOf, eventOf, names}
 use Rattle.model.specs.State.{State, grain}
 use Rattle.model.specs.Acts.{first, taken}
-use Rattle.model.specs.Doing.{headEvent}
+use Rattle.model.specs.Execute.{headEvent}
 use Rattle.model.specs.Collision.{collision}
-use Rattle.model.specs.Rows.{finder, Rule, pair, bound, sync, within, Act, moving, turning, trying, cancelling, entering, leaving, perform, Acts, ended, act, actsOf, startActs}
+use Rattle.model.specs.Rows.{finder, Rule, pair, bound, sync, about, Act, moving, turning, trying, cancelling, entering, leaving, perform, Acts, ended, act, actsOf, startActs}
 use Rattle.model.specs.Start.{clear}
 use Rattle.model.specs.Check.{runAll}
 use Rattle.model.specs.Reached.{Call, Reached, steps}
@@ -41,13 +41,13 @@ abbrev pub onto : ℕ → Act → (History → History) → History → History
 onto zero a k h = k (did a ∷ h)
 onto (suc r) a k h = h
 
-unfoldable pub done : Acts → State → History → History
-done ended s h = h
-done (act a f) s h = let u = (perform a s) .st in onto ((perform a s) .num) a (done (f u) u) h
+unfoldable pub rowDone : Acts → State → History → History
+rowDone ended s h = h
+rowDone (act a f) s h = let u = (perform a s) .st in onto ((perform a s) .num) a (rowDone (f u) u) h
 
 -- a step takes the head out and does its event's acts; n steps; the steps that a run counts; a start
 unfoldable pub stepDone : Float → State → History → History
-stepDone rate s h = done (actsOf rate (headEvent s) (taken s)) (taken s) (took (first s) ∷ h)
+stepDone rate s h = rowDone (actsOf rate (headEvent s) (taken s)) (taken s) (took (first s) ∷ h)
 
 unfoldable pub stepsDone : Float → ℕ → State → History → History
 stepsDone rate zero s h = h
@@ -58,7 +58,7 @@ callsDone [] s h = h
 callsDone (k ∷ ks) s h = let r = runAll (k .rate) (k .budget) s in callsDone ks (r .state) (stepsDone (k .rate) (r .count) s h)
 
 unfoldable pub startDone : Domain → ℕ → List Particle → History
-startDone b room gs = let s = clear b room (length gs) in done (startActs b gs s) s []
+startDone b room gs = let s = clear b room (length gs) in rowDone (startActs b gs s) s []
 
 -- of a reached state: its start, then its runs
 abbrev pub history : (s : State) → Reached s → History
@@ -152,7 +152,7 @@ AtClock s g = (grain s g) .time ≡ s .clock
 abbrev pub Honest : Act → State → Type 0
 Honest (moving i x t) s = Unit {0}
 Honest (turning i p) s = Unit {0}
-Honest (trying c r x) s = Sought r c s x × ((g : ℕ) → within r g ≡ true → AtClock s g)
+Honest (trying c r x) s = Sought r c s x × ((g : ℕ) → about r g ≡ true → AtClock s g)
 Honest (cancelling i k) s = Unit {0}
 Honest (entering i k) s = Unit {0}
 Honest (leaving i k) s = Unit {0}

@@ -1,4 +1,5 @@
--- Document 01 as definitions, a file for each of its sections. The heap's and the square root's stand in their own crates.
+-- Document 01 as definitions, its constants and a file for each of its sections. The heap's and the square root's stand in their own crates. Doing is for the inner functions alone.
+pub mod Constants
 pub mod Sizes
 pub mod Grid
 pub mod Stepping
@@ -10,12 +11,12 @@ pub mod Walls
 pub mod Events
 pub mod State
 pub mod Acts
-pub mod Doing
 pub mod Rows
+pub mod Execute
 pub mod Run
 pub mod Start
+pub mod Doing
 pub mod Standing
-pub mod Sound
 pub mod Check
 pub mod Reached
 pub mod History

@@ -15,7 +15,7 @@ use Rattle.model.specs.Events.{placeOf}
 use Rattle.model.specs.State.{State, listed, has}
 use Rattle.model.specs.declared.Bound.{Bound}
 use Rattle.model.specs.declared.Bound.the-variants.{ToNeighbour, OutOfCell, Wall}
-use Rattle.model.specs.Rows.{Rule, pair, bound, sync, within, moving, turning, trying, cancelling, entering, leaving}
+use Rattle.model.specs.Rows.{Rule, pair, bound, sync, about, moving, turning, trying, cancelling, entering, leaving}
 use Rattle.model.specs.History.{Deed, did, took, History, latest, lastOf, turned, Dated, dated-at, dated}
 
 -- ---- when a grain last entered a cell
@@ -28,8 +28,8 @@ enters g c (did (entering i k)) = eqb i g && eqb k c
 enters g c (did (leaving i k)) = false
 enters g c (took k) = false
 
-abbrev pub entered : History → ℕ → ℕ → ℕ
-entered h g c = latest (enters g c) h
+abbrev pub arrived : History → ℕ → ℕ → ℕ
+arrived h g c = latest (enters g c) h
 
 -- ---- when a rule was last tried in a cell
 -- the same rule: a pair in either order
@@ -114,7 +114,7 @@ Stays h c r Refused = ⊥
 
 -- the rule was last tried after the last change of velocity of every grain that it is about, and after each entered the cell
 pub record Watched (h : History) (c : ℕ) (r : Rule) : Type 0 where
-  pub since : (g : ℕ) → within r g ≡ true → (turned h g < tried h c r) × (entered h g c < tried h c r)
+  pub since : (g : ℕ) → about r g ≡ true → (turned h g < tried h c r) × (arrived h g c < tried h c r)
   pub stays : Stays h c r (found h c r)
 
 -- the rules that concern a cell: a collision of any two different grains that it lists, the bounds in both directions of any that it lists
@@ -159,7 +159,7 @@ pub record Owed (h : History) (s : State) (c : ℕ) (d : Dated) : Type 0 where
   pub owes : Owes s c rule
   pub finds : lastOf Nothing planOf (asks c rule) h ≡ Due event
   pub is : d ≡ dated-at (placeOf event) (asked h c rule)
-  pub since : (g : ℕ) → within rule g ≡ true → entered h g c < d .by
+  pub since : (g : ℕ) → about rule g ≡ true → arrived h g c < d .by
 
 abbrev pub NothingElse : History → State → Type 0
 NothingElse h s = (c : ℕ) → c < cells (s .box) → All (Owed h s c) (dated h c)

@@ -7,7 +7,7 @@ use lib.Ieee.{Float}
 use Rattle.model.specs.declared.Domain.{Domain}
 use Rattle.model.specs.declared.Particle.{Particle}
 use Rattle.model.specs.State.{State}
-use Rattle.model.specs.Doing.{step}
+use Rattle.model.specs.Execute.{step}
 use Rattle.model.specs.Start.{start, started}
 use Rattle.model.specs.Check.{Fits, runAll}
 

@@ -1,7 +1,7 @@
 -- 01's acts as data, and every execution and a start as a row of them, in 01's order. Assumes nothing: these are definitions.
 use Prim.Native.Nat.{ℕ, zero, suc}
 use mathlib.Core.List.{List, [], _∷_}
-use mathlib.Core.Bool.{Bool, false, _||_}
+use mathlib.Core.Bool.{Bool, false, _||_, cond}
 use lib.Dec.{eqb}
 use lib.ListN.{length, getD}
 use lib.Ieee.{Float, binary64, add, sub}
@@ -24,7 +24,6 @@ use Rattle.model.specs.Grid.{cells}
 use Rattle.model.specs.FromPToC.{cellsOfGrain}
 use Rattle.model.specs.State.{State, zeroG, grain, home, listed}
 use Rattle.model.specs.Acts.{store, put, cancel, enter, leave}
-use Rattle.model.specs.Doing.{Finder, others, landed}
 
 -- what a scheduling looks for: a collision of two grains; what a grain meets at its cell's bounds in a direction (entry, leaving or wall); the next synchronisation
 pub data Rule : Type 0 where
@@ -33,10 +32,13 @@ pub data Rule : Type 0 where
   sync : Rule
 
 -- the grains that a rule is about
-abbrev pub within : Rule → ℕ → Bool
-within (pair p q) g = eqb p g || eqb q g
-within (bound b p d) g = eqb p g
-within sync g = false
+abbrev pub about : Rule → ℕ → Bool
+about (pair p q) g = eqb p g || eqb q g
+about (bound b p d) g = eqb p g
+about sync g = false
+
+abbrev pub Finder : Type 0
+Finder = ℕ → Domain → Float → ℕ → ℕ → Particle → Plan
 
 abbrev pub finder : Bound → Finder
 finder ToNeighbour = toNeighbour
@@ -50,6 +52,9 @@ pub data Act : Type 0 where
   turning : ℕ → Particle → Act
   trying : ℕ → Rule → Plan → Act
   cancelling entering leaving : ℕ → ℕ → Act
+
+abbrev pub landed : MyVec → Float → Particle → Particle
+landed x t p = grainOf x (p .vel) t (p .val)
 
 abbrev pub perform : Act → State → Out State
 perform (moving g x t) s = store g (landed x t (grain s g)) s
@@ -109,6 +114,11 @@ finding b c p d s = only (trying c (bound b p d) (finder b d (s .box) (s .clock)
 abbrev pub bounding : ℕ → ℕ → State → Acts
 bounding c p = inTurn (finding ToNeighbour c p) 2 0 ⨟ inTurn (finding OutOfCell c p) 2 0 ⨟ inTurn (finding Wall c p) 2 0
 
+-- all but p, in order
+unfoldable pub others : ℕ → List ℕ → List ℕ
+others p [] = []
+others p (q ∷ qs) = cond (eqb p q) (others p qs) (q ∷ others p qs)
+
 -- schedule_events of p in cell c: the others that it lists step, then collisions with them, then boundaries
 abbrev pub scheduling : ℕ → ℕ → State → Acts
 scheduling p c s = let qs = others p (listed s c) in (ofEach stepping qs ⨟ ofEach (colliding c p) qs ⨟ bounding c p) s
@@ -136,7 +146,7 @@ actsOf rate Synchronisation s = (inTurn stepping (length (s .grains)) 0 ⨟ only
 -- ---- the acts of a start, in 01's order
 -- a grain's numbers, then its entries
 abbrev pub goes : List Particle → ℕ → State → Acts
-goes gs i = let p = getD gs i zeroG in only (turning i (grainOf (p .pos) (p .vel) fzero (p .val))) ⨟ (λ u. ofEach (λ c. only (entering i c)) (cellsOfGrain (u .box) (p .pos)) u)
+goes gs i = let p = getD gs i zeroG in only (turning i (grainOf (p .pos) (p .vel) fzero (p .val))) ⨟ (λ u. ofEach (λ c. only (entering i c)) (cellsOfGrain (u .box) p) u)
 
 -- each with those after it
 unfoldable pub pairing : ℕ → List ℕ → State → Acts

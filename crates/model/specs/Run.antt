@@ -2,7 +2,7 @@
 use Prim.Native.Nat.{ℕ, zero, suc}
 use lib.Ieee.{Float}
 use Rattle.model.specs.State.{State}
-use Rattle.model.specs.Doing.{Stepped, done, halted, step}
+use Rattle.model.specs.Execute.{Stepped, done, halted, step}
 
 pub data How : Type 0 where
   synchronised spent : How

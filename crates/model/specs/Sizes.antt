@@ -5,21 +5,35 @@ use mathlib.Core.Bool.{Bool, _&&_, cond}
 use lib.Dec.{leb}
 use lib.ListN.{length}
 use lib.Ieee.{Float, binary64, sub, neg, le}
-use Rattle.order.specs.Numbers.{fzero, half, one, nine, fortyeight, fastest, finest, coarsest}
+use Rattle.order.specs.Numbers.{fzero}
+use Rattle.myvec.specs.Vec.{along}
 use Rattle.model.specs.declared.Domain.{Domain}
 use Rattle.model.specs.declared.Particle.{Particle}
+use Rattle.model.specs.Constants.{shortest, longest, finest, coarsest, radiusOf, fastest, leastVal, greatestVal}
 use Rattle.model.specs.Grid.{periodic, lengthOf}
 
 abbrev pub within : Float → Float → Float → Bool
 within lo hi x = le lo x && le x hi
 
 -- box length, each direction: 9 to 48, ends accepted
+abbrev pub lengthOk : Float → Bool
+lengthOk l = within shortest longest l
+
 abbrev pub boxOk : Domain → Bool
-boxOk b = within nine fortyeight (lengthOf 0 b) && within nine fortyeight (lengthOf 1 b)
+boxOk b = lengthOk (lengthOf 0 b) && lengthOk (lengthOf 1 b)
 
 -- grains: 0 to 256; events a cell holds: 16 to 256
+abbrev pub mostGrains : ℕ
+mostGrains = 256
+
+abbrev pub leastRoom : ℕ
+leastRoom = 16
+
+abbrev pub mostRoom : ℕ
+mostRoom = 256
+
 abbrev pub countsOk : ℕ → ℕ → Bool
-countsOk room grains = leb grains 256 && (leb 16 room && leb room 256)
+countsOk room grains = leb grains mostGrains && (leb leastRoom room && leb room mostRoom)
 
 -- grains a cell lists, and cells a grain lists
 abbrev pub memberRoom : ℕ
@@ -32,15 +46,20 @@ homeRoom = 8
 abbrev pub rated : Float → Bool
 rated rate = within finest coarsest rate
 
--- start position: 0 to length where periodic, 0.5 to length - 0.5 where wall-bounded
-abbrev pub placeOk : ℕ → Domain → Float → Bool
-placeOk d b x = cond (periodic d b) (within fzero (lengthOf d b) x) (within half (sub binary64 (lengthOf d b) half) x)
+-- start position: 0 to length where periodic; 0.5 to length - 0.5 (by the grain's radius) where wall-bounded
+abbrev pub placeOk : ℕ → Domain → Particle → Bool
+placeOk d b p =
+    let x = along d (p .pos) in
+    cond (periodic d b) (within fzero (lengthOf d b) x) (within (radiusOf p) (sub binary64 (lengthOf d b) (radiusOf p)) x)
 
 -- start velocity, each component: -1024 to 1024; value: 0 to 1
+abbrev pub speedOk : Float → Bool
+speedOk v = within (neg fastest) fastest v
+
 abbrev pub grainOk : Domain → Particle → Bool
 grainOk b p =
-    (placeOk 0 b (p .pos .x) && placeOk 1 b (p .pos .y)) &&
-    ((within (neg fastest) fastest (p .vel .x) && within (neg fastest) fastest (p .vel .y)) && within fzero one (p .val))
+    (placeOk 0 b p && placeOk 1 b p) &&
+    ((speedOk (p .vel .x) && speedOk (p .vel .y)) && within leastVal greatestVal (p .val))
 
 -- the lowest grain whose numbers are out of range, and how many there are if none is
 unfoldable pub firstBad : Domain → List Particle → ℕ

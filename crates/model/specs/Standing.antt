@@ -5,9 +5,10 @@ use mathlib.Core.List.{List, [], _∷_}
 use mathlib.Core.Bool.{true, false}
 use lib.Dec.{T, eqb}
 use lib.ListN.{length, getD}
-use lib.Ieee.{Float, le}
+use lib.Ieee.{Float, le, lt}
 use lib.Ieee.Scale.{finite}
 use Rattle.halting.specs.Every.{All}
+use Rattle.order.specs.Numbers.{f64Max}
 use Rattle.scheduler.specs.Standing.{Inverse, Ordered}
 use Rattle.model.specs.declared.Place.{Place}
 use Rattle.model.specs.declared.Event.{Event}
@@ -17,8 +18,6 @@ use Rattle.model.specs.Grid.{cells}
 use Rattle.model.specs.Events.{eventOf, finePlace}
 use Rattle.model.specs.State.{Row, none, State, grain, home, listed, queue, heads, has}
 use Rattle.model.specs.Acts.{fineGrain}
-use lib.Ieee.{lt}
-use Rattle.order.specs.Numbers.{last}
 
 -- ---- lists
 -- no number twice
@@ -97,7 +96,7 @@ pub record Standing (s : State) : Type 0 where
   pub cell-data : (s .sched .cells ≡ cells (s .box)) × (length (s .members) ≡ cells (s .box)) × (length (s .queues) ≡ cells (s .box))
   -- "each event list in time order, every time at least the clock and below f64::MAX"
   pub time-order : EachCell s (λ c. Rising (s .clock) (queue s c))
-  pub times-below : EachEvent s (λ c e. T (lt (e .time) last))
+  pub times-below : EachEvent s (λ c e. T (lt (e .time) f64Max))
   -- "each grain's time at most the clock"
   pub grain-times : EachGrain s (λ g. T (le ((grain s g) .time) (s .clock)))
   -- "heap and lookups inverse"

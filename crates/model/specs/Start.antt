@@ -1,23 +1,20 @@
 -- 01, start: checks 1, 2, 4 in that order; then grains go in by index, each to its cells in the order of from_p_to_c; then init_events.
 -- Assumes nothing: these are definitions.
-use Prim.Native.Nat.{ℕ, zero, suc}
-use mathlib.Core.Bool.{cond}
-use mathlib.Core.List.{List, [], _∷_}
+use Prim.Native.Nat.{ℕ}
+use mathlib.Core.Bool.{Bool, cond}
+use mathlib.Core.List.{List, []}
 use lib.Dec.{eqb}
-use lib.ListN.{length, getD, replicate}
-use Rattle.halting.specs.Out.{Out, out, then, each, eachOf}
+use lib.ListN.{length, replicate}
+use Rattle.halting.specs.Out.{Out}
 use Rattle.order.specs.Numbers.{fzero}
 use Rattle.scheduler.specs.Heap.{start as startHeap}
 use Rattle.model.specs.declared.Domain.{Domain}
 use Rattle.model.specs.declared.Particle.{Particle}
 use Rattle.model.specs.Sizes.{memberRoom, homeRoom, boxOk, countsOk, firstBad}
 use Rattle.model.specs.Grid.{cells}
-use Rattle.model.specs.Stepping.{grainOf}
-use Rattle.model.specs.FromPToC.{cellsOfGrain}
 use Rattle.model.specs.Events.{zeroP}
-use Rattle.model.specs.State.{Row, row, State, zeroG, listed, marked}
-use Rattle.model.specs.Acts.{store, insert, enter}
-use Rattle.model.specs.Doing.{scheduleCollision, boundaries, syncAt}
+use Rattle.model.specs.State.{Row, row, State, zeroG, marked}
+use Rattle.model.specs.Rows.{doing, startActs}
 
 -- ---- an accepted start clears every place
 abbrev pub empty : {A : Type 0} → ℕ → A → Row A
@@ -36,24 +33,9 @@ clear b room n = record {
   sched = startHeap (cells b);
 }
 
--- a grain's numbers, its time 0, and its entries
-unfoldable pub goesIn : List Particle → ℕ → State → Out State
-goesIn gs i s = let p = getD gs i zeroG in then (store i (grainOf (p .pos) (p .vel) fzero (p .val)) s) (λ u. eachOf (λ c. enter i c) (cellsOfGrain (u .box) (p .pos)) u)
-
--- init_events in one cell
-unfoldable pub pairs : ℕ → List ℕ → State → Out State
-pairs c [] s = out 0 s
-pairs c (p ∷ qs) s = then (eachOf (λ q. scheduleCollision c p q) qs s) (pairs c qs)
-
-abbrev pub syncIn : ℕ → State → Out State
-syncIn zero s = insert 0 (syncAt fzero) s
-syncIn (suc c) s = out 0 s
-
-unfoldable pub initCell : ℕ → State → Out State
-initCell c s = then (syncIn c s) (λ u. then (pairs c (listed u c) u) (λ w. eachOf (λ p. boundaries c p) (listed w c) w))
-
+-- then the acts of a start, in 01's order (Rows)
 unfoldable pub begin : Domain → ℕ → List Particle → Out State
-begin b room gs = then (each (goesIn gs) (length gs) 0 (clear b room (length gs))) (λ s. each initCell (cells b) 0 s)
+begin b room gs = let s = clear b room (length gs) in doing (startActs b gs s) s
 
 -- the answer: refused by 1, 2 or 4 (with the grain's index), all stays; else the state, its mark the number of a halt or 0
 pub data Begun : Type 0 where
@@ -63,6 +45,14 @@ pub data Begun : Type 0 where
 abbrev pub startedAt : Out State → Begun
 startedAt o = started (marked (o .num) (o .st))
 
+-- the checks in 01's order: what is given by the number that refuses, else what is behind them
+abbrev pub startChecks : {A : Type 0} → Bool → Bool → Bool → (ℕ → A) → A → A
+startChecks box counts grains by else = cond box (cond counts (cond grains else (by 4)) (by 2)) (by 1)
+
+-- the grain that a refusal names: by 4 the lowest one out of range, 0 beside the others
+abbrev pub blamed : Domain → List Particle → ℕ → ℕ
+blamed b gs r = cond (eqb r 4) (firstBad b gs) 0
+
 unfoldable pub start : Domain → ℕ → List Particle → Begun
 start b room gs =
-    cond (boxOk b) (cond (countsOk room (length gs)) (cond (eqb (firstBad b gs) (length gs)) (startedAt (begin b room gs)) (refused 4 (firstBad b gs))) (refused 2 0)) (refused 1 0)
+    startChecks (boxOk b) (countsOk room (length gs)) (eqb (firstBad b gs) (length gs)) (λ r. refused r (blamed b gs r)) (startedAt (begin b room gs))

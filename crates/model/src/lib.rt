@@ -1,5 +1,6 @@
 // The types of document 01 that code and definitions share: the box, a grain, a pending event, the place that holds one, and the answers.
 ghost use mathlib.Core.Path.{_≡_};
+ghost use Rattle.model.specs.Constants.{radiusOf};
 ghost use Rattle.model.specs.Grid.{boxOf};
 ghost use Rattle.model.specs.Stepping.{grainOf};
 use myvec::MyVec;
@@ -35,6 +36,7 @@ pub struct Particle {
 }
 
 impl Particle {
+    // Every grain's radius.
     pub const RADIUS: f64 = 0.5;
 
     pub fn new(pos: MyVec, vel: MyVec, time: f64, val: f64) -> Self
@@ -46,6 +48,13 @@ impl Particle {
             time,
             val,
         }
+    }
+
+    // The radius of this grain.
+    pub fn radius(self) -> f64
+        ensures { λ r. ⌜ r ≡ radiusOf self ⌝ }
+    {
+        Self::RADIUS
     }
 }
 

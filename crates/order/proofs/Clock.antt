@@ -7,15 +7,13 @@ use native.Mathlib.Omega.{arith}
 use mathlib.Core.Bool.{Bool, true, false, not, _&&_, cond}
 use lib.IntN.{ℤ, pos}
 use lib.Dec.{T, T-not, ltb, ltb→lt}
-use lib.Ieee.{Float, nan, inf, fin, Format, prec, emax, low, up, down, odd, units, round, neg, sum, add, le, lt, isNan, fits}
+use lib.Ieee.{Float, nan, inf, fin, Format, prec, emax, low, up, down, odd, units, round, neg, sum, add, le, lt, isNan, fits, ofBits}
 use lib.Ieee.Fits.{down-pos, round-is, neg-fits}
 use lib.Ieee.Order.{round-mono}
 use lib.Ieee.Scale.{finite}
+use Rattle.order.specs.Numbers.{fzero}
 use Rattle.order.proofs.Order.{Leq, le→leq, leq→le, not-lt→le}
 use Rattle.order.proofs.Value.{round-own}
-
-abbrev pub fzero : Float
-fzero = fin false 0 (pos 0)
 
 -- ---- a sign goes through rounding
 odd-neg : (d q k l : ℕ) → odd d true q k l ≡ neg (odd d false q k l)
@@ -117,6 +115,7 @@ sum-up f true m e false b k K F h = go (ltb (m * up e * k) b) (ltb b (m * up e *
 
 -- what le fzero says of a number
 from-zero : (t : Bool) (n : ℕ) (d : ℤ) (k : ℕ) → T (le fzero (fin t n d)) → Leq false 0 t (n * up d * k)
+unfolding ofBits
 from-zero false n d k h = omega arith
 from-zero true n d k h = size (n * up d) k (le→leq false 0 (pos 0) true n d h)
   where
@@ -127,6 +126,7 @@ from-zero true n d k h = size (n * up d) k (le→leq false 0 (pos 0) true n d h)
         is-zero a z q = omega arith
 
 pub add-up : (f : Format) (x y : Float) → T (fits f x) → T (finite x) → T (le fzero y) → T (le x (add f x y))
+unfolding ofBits
 add-up f nan y F p h = absurd p
 add-up f (inf s) y F p h = absurd p
 add-up f (fin s m e) nan F p h = absurd (unfold le in h)
@@ -153,4 +153,5 @@ finite-no-nan (inf s) h = tt
 finite-no-nan (fin s m e) h = tt
 
 pub clock-on : (f : Format) (x y : Float) → T (fits f x) → T (finite x) → T (not (lt y fzero)) → T (not (isNan (add f x y))) → T (le x (add f x y))
+unfolding ofBits
 clock-on f x y F p h k = add-up f x y F p (not-lt→le y fzero (right-no-nan f x y k) (unfold isNan in tt) h)

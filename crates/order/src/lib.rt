@@ -1,1 +1,1 @@
-// No code: the floats that the rules name are in specs/Numbers.antt, the laws of floats in proofs/.
+// No code: numbers as floats are in specs/Numbers.antt, the laws of floats in proofs/.

@@ -5,13 +5,15 @@ use mathlib.Core.Bool.{Bool, true, false, cond}
 use mathlib.Core.List.{List, [], _∷_, _++_, map, append-nil, append-assoc}
 use native.Mathlib.Nat.{sub-self}
 use lib.Ieee.{Float, binary64, add, sub, lt}
-use Rattle.order.specs.Numbers.{fzero, half}
+use Rattle.order.specs.Numbers.{fzero}
 use Rattle.myvec.specs.declared.MyVec.{MyVec}
 use Rattle.myvec.specs.Vec.{vec, vadd, vscale}
 use Rattle.model.specs.declared.Domain.{Domain}
+use Rattle.model.specs.declared.Particle.{Particle}
+use Rattle.model.specs.Constants.{radiusOf}
 use Rattle.model.specs.Grid.{lengthOf, across, cellAt}
 use Rattle.model.specs.Stepping.{wrapped, newPos}
-use Rattle.model.specs.FromPToC.{upFrom, between, reached, rows, cellsOfGrain}
+use Rattle.model.specs.FromPToC.{upFrom, between, reached, cellsAt, cellsOfGrain}
 use Rattle.particle.specs.declared.Span.{Span}
 use Rattle.particle.specs.declared.Spans.{Spans}
 use Rattle.particle.specs.Spans.{cellsIn, joined, alone, spansOf}
@@ -38,17 +40,19 @@ by-tests true c p q r s t = refl
 by-tests false true p q r s t = refl
 by-tests false false p q r s t = alone-list t
 
-pub spans-list : (l : Float) (n : ℕ) (x : Float) → cellsIn (spansOf l n x) ≡ reached l n x
+pub spans-list : (l : Float) (n : ℕ) (rad x : Float) → cellsIn (spansOf l n rad x) ≡ reached l n rad x
 unfolding spansOf reached
-spans-list l n x = by-tests (lt (sub binary64 x half) fzero) (lt l (add binary64 x half)) _ _ _ _ _
+spans-list l n rad x = by-tests (lt (sub binary64 x rad) fzero) (lt l (add binary64 x rad)) _ _ _ _ _
 
 -- each span of direction 1, and in it each span of direction 0
-pub grain-list : (b : Domain) (x : MyVec)
-    → rows b (cellsIn (spansOf (lengthOf 0 b) (across 0 b) (x .x))) (cellsIn (spansOf (lengthOf 1 b) (across 1 b) (x .y))) ≡ cellsOfGrain b x
+pub grain-list : (b : Domain) (p : Particle)
+    → cellsAt b (cellsIn (spansOf (lengthOf 0 b) (across 0 b) (radiusOf p) (p .pos .x))) (cellsIn (spansOf (lengthOf 1 b) (across 1 b) (radiusOf p) (p .pos .y)))
+    ≡ cellsOfGrain b p
 unfolding cellsOfGrain
-grain-list b x = λ i. rows b (spans-list (lengthOf 0 b) (across 0 b) (x .x) i) (spans-list (lengthOf 1 b) (across 1 b) (x .y) i)
+grain-list b p = λ i.
+    cellsAt b (spans-list (lengthOf 0 b) (across 0 b) (radiusOf p) (p .pos .x) i) (spans-list (lengthOf 1 b) (across 1 b) (radiusOf p) (p .pos .y) i)
 
-pub rows-append : (b : Domain) (is js ks : List ℕ) → rows b is (js ++ ks) ≡ rows b is js ++ rows b is ks
-unfolding rows
+pub rows-append : (b : Domain) (is js ks : List ℕ) → cellsAt b is (js ++ ks) ≡ cellsAt b is js ++ cellsAt b is ks
+unfolding cellsAt
 rows-append b is [] ks = refl
-rows-append b is (j ∷ js) ks = ap (λ (l : List ℕ). map (λ (i : ℕ). cellAt b i j) is ++ l) (rows-append b is js ks) ∙ sym (append-assoc (map (λ (i : ℕ). cellAt b i j) is) (rows b is js) (rows b is ks))
+rows-append b is (j ∷ js) ks = ap (λ (l : List ℕ). map (λ (i : ℕ). cellAt b i j) is ++ l) (rows-append b is js ks) ∙ sym (append-assoc (map (λ (i : ℕ). cellAt b i j) is) (cellsAt b is js) (cellsAt b is ks))

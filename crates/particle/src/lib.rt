@@ -2,13 +2,12 @@
 ghost use mathlib.Core.Path.{_≡_};
 ghost use mathlib.Core.Bool.{_&&_};
 ghost use Prim.Native.Nat.{_≤_};
-ghost use lib.Ieee as Ieee;
 ghost use lib.Ieee.Scale.{finite};
-ghost use Rattle.order.specs.Numbers.{fastest, maxOf, minOf};
+ghost use Rattle.order.specs.Numbers.{maxOf, minOf};
 ghost use Rattle.model.specs.Stepping as stepping;
 ghost use Rattle.model.specs.Events.{fineV};
 ghost use Rattle.model.specs.Acts.{fineGrain};
-ghost use Rattle.model.specs.Sizes.{within, placeOk, grainOk};
+ghost use Rattle.model.specs.Sizes.{placeOk, speedOk, grainOk};
 ghost use Rattle.particle.specs.Spans.{spanOf, spansOf};
 ghost use Rattle.particle.specs.Spans as spans;
 use model::Domain;
@@ -78,35 +77,44 @@ pub fn fine_grain(p: Particle) -> bool
 
 // ---- what may be started
 
-// Whether a start position is in range in a direction.
-fn place_ok(domain: Domain, dim: usize, x: f64) -> bool
-    ensures { λ r. ⌜ r ≡ placeOk dim domain x ⌝ }
+// Whether a grain's start position is in range in a direction.
+fn place_ok(domain: Domain, dim: usize, p: Particle) -> bool
+    ensures { λ r. ⌜ r ≡ placeOk dim domain p ⌝ }
 {
     let length = domain.lengths.along(dim);
+    let x = p.pos.along(dim);
     if cell::periodic(domain, dim) {
-        cell::within(0.0, length, x)
-    } else {
-        cell::within(Particle::RADIUS, length - Particle::RADIUS, x)
+        return cell::within(0.0, length, x);
     }
+    let rad = p.radius();
+    cell::within(rad, length - rad, x)
 }
 
-fn pos_ok(domain: Domain, pos: MyVec) -> bool
-    ensures { λ r. ⌜ r ≡ (placeOk 0 domain (pos .x) && placeOk 1 domain (pos .y)) ⌝ }
+fn pos_ok(domain: Domain, p: Particle) -> bool
+    ensures { λ r. ⌜ r ≡ (placeOk 0 domain p && placeOk 1 domain p) ⌝ }
 {
-    place_ok(domain, 0, pos.x) && place_ok(domain, 1, pos.y)
+    place_ok(domain, 0, p) && place_ok(domain, 1, p)
 }
+
+// The fastest start in a direction, either way.
+const FASTEST: f64 = 1024.0;
 
 fn vel_ok(vel: MyVec) -> bool
-    ensures { λ r. ⌜ r ≡ (within (Ieee.neg fastest) fastest (vel .x) && within (Ieee.neg fastest) fastest (vel .y)) ⌝ }
+    ensures { λ r. ⌜ r ≡ (speedOk (vel .x) && speedOk (vel .y)) ⌝ }
 {
-    cell::within(-1024.0, 1024.0, vel.x) && cell::within(-1024.0, 1024.0, vel.y)
+    cell::within(-FASTEST, FASTEST, vel.x) && cell::within(-FASTEST, FASTEST, vel.y)
 }
+
+// The range of a value.
+const LEAST_VAL: f64 = 0.0;
+
+const GREATEST_VAL: f64 = 1.0;
 
 // Whether all start numbers of a grain are in range: refusal 4 where not.
 pub fn grain_ok(domain: Domain, p: Particle) -> bool
     ensures { λ r. ⌜ r ≡ grainOk domain p ⌝ }
 {
-    pos_ok(domain, p.pos) && (vel_ok(p.vel) && cell::within(0.0, 1.0, p.val))
+    pos_ok(domain, p) && (vel_ok(p.vel) && cell::within(LEAST_VAL, GREATEST_VAL, p.val))
 }
 
 // ---- from_p_to_c
@@ -174,13 +182,13 @@ fn alone(p: Span) -> Spans
     }
 }
 
-// The cells of one direction that a grain at pos touches, those at the low edge first where it lies across both.
-pub fn touched(length: f64, n: usize, pos: f64) -> Spans
+// The cells of one direction that a grain of radius rad at pos touches, those at the low edge first where it lies across both.
+pub fn touched(length: f64, n: usize, rad: f64, pos: f64) -> Spans
     requires { ⌜ n ≤ 256 ⌝ }
-    ensures { λ r. ⌜ r ≡ spansOf length n pos ⌝ }
+    ensures { λ r. ⌜ r ≡ spansOf length n rad pos ⌝ }
 {
-    let min = pos - Particle::RADIUS;
-    let max = pos + Particle::RADIUS;
+    let min = pos - rad;
+    let max = pos + rad;
     if min < 0.0 {
         return joined(
             kernel(length, n, 0.0, max),

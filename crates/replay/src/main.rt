@@ -10,12 +10,12 @@
 // A start and each run write a line: the answer, and a checksum of every place of the tables lent. The tables are not cleared in between.
 ghost use Prim.Native.Nat.{_<_, _≤_};
 use libc::STDOUT_FILENO;
-use listing_text::bits_of_float;
-use listing_text::float_of_bits;
 use model::Domain;
 use model::Report;
 use model::Started;
 use myvec::MyVec;
+use text::bits_of_float;
+use text::float_of_bits;
 use words::next;
 
 // ---- what is read

@@ -1,9 +1,9 @@
 // Compares the square root with a second program's answers (tools/roots): a line of standard input has a float's bits and its root's,
 // a NaN's for a root that is refused. Writes how many were compared, and how many differ.
 ghost use Prim.Native.Nat.{_≤_};
-use listing_text::bits_of_float;
-use listing_text::float_of_bits;
 use root::Root;
+use text::bits_of_float;
+use text::float_of_bits;
 use words::Word;
 
 // Whether the square root of x's float has the bits y; it is refused where they are a NaN's.

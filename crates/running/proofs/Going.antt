@@ -14,14 +14,15 @@ use Rattle.model.specs.declared.Event.the-variants.{InterParticleCollision, Mov
 use Rattle.model.specs.declared.Report.the-variants.{Synchronised, Spent, Refused}
 use Rattle.model.specs.Sizes.{rated}
 use Rattle.model.specs.State.{State, marked}
-use Rattle.model.specs.Sound.{Stands}
-use Rattle.model.specs.Doing.{Moved, movedTo, done, halted, Whole, finish, headEvent, event, step}
-use Rattle.model.specs.Doing as doing
+use Rattle.model.proofs.Sound.{Stands}
+use Rattle.model.specs.Execute.{Moved, movedTo, done, halted, finish, headEvent, event, step}
+use Rattle.model.specs.Execute as doing
 use Rattle.model.specs.Run.{spent, refused, onward, runFrom}
 use Rattle.model.specs.Run as run
 use Rattle.model.specs.Reports.{ranOf}
 use Rattle.halting.proofs.Bools.{clash}
-use Rattle.model.proofs.Steps.{step-stands}
+use Rattle.model.proofs.Stands.{stands}
+use Rattle.model.proofs.Steps.{Whole, step-stands}
 use Rattle.model.proofs.Whole.{rated-later}
 use Rattle.tables.specs.declared.Sizes.{Sizes}
 use Rattle.tables.specs.Holds.{Holds}
@@ -82,7 +83,7 @@ module _ {z : Sizes} {b : Domain} {g : Grid} {rate : Float} {budget : ℕ} {s : 
   left-first h = record {
     now = s;
     held = record { listed = h .holds .listed; seen = record { at = (h .box, h .clock); grained = h .holds .grained; queued = h .holds .queued } };
-    stands = h .stands;
+    stands = stands s (h .fitted) (h .stands);
     left = ap (λ (n : ℕ). runFrom rate n 0 s) (sub-zero budget);
   }
 

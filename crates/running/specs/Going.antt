@@ -7,7 +7,8 @@ use Rattle.model.specs.declared.Domain.{Domain}
 use Rattle.model.specs.declared.Report.{Report}
 use Rattle.model.specs.declared.Report.the-variants as report
 use Rattle.model.specs.State.{State}
-use Rattle.model.specs.Sound.{Stands}
+use Rattle.model.specs.Standing.{Standing}
+use Rattle.model.specs.Check.{Fitted}
 use Rattle.model.specs.Run.{Ran}
 use Rattle.model.specs.Reports.{told}
 use Rattle.tables.specs.declared.Sizes.{Sizes}
@@ -29,7 +30,8 @@ pub record Lent (z : Sizes) (b : Domain) (t : Float) (lists : List ℕ) (grains 
   pub holds : Holds z lists grains queue events order s
   pub box : s .box ≡ b
   pub clock : s .clock ≡ t
-  pub stands : Stands s
+  pub stands : Standing s
+  pub fitted : Fitted s
 
 -- the report is the run's, and the parts hold the state that it left
 pub record Gone (z : Sizes) (b : Domain) (lists : List ℕ) (grains : List Float) (queue : List ℕ) (events : List Float) (order : List ℕ) (r : Report) (ran : Ran) : Type 0 where

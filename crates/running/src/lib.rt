@@ -5,7 +5,7 @@ ghost use Rattle.model.specs.Sizes.{rated};
 ghost use Rattle.model.specs.State.{State};
 ghost use Rattle.model.specs.Run.{runFrom};
 ghost use Rattle.tables.specs.Decode.{tables, decoded};
-ghost use Rattle.checks.specs.Held.{Answered};
+ghost use Rattle.checks.specs.Answered.{Answered};
 ghost use Rattle.step.specs.World.{Some, Placed};
 ghost use Rattle.running.specs.Going.{clockOf, markOf, Lent, Gone};
 ghost use Rattle.running.specs.Ran.{toldTables, leaving};
@@ -15,8 +15,8 @@ use layout::LISTS_HEAD;
 use layout::ORDER;
 use model::Domain;
 use model::Report;
-use myvec::MyVec;
 use tables::Sizes;
+use tables::headers;
 
 // The clock that a run with this report leaves.
 pub fn clock_of(report: Report) -> f64
@@ -113,17 +113,10 @@ pub fn work(
         ≡ leaving (runFrom rate budget 0 (decoded (tables (now (lists .entry)) (now (grains .entry)) (now (queue .entry)) (now (events .entry)) (now (order .entry)))))
         (tables (now (lists .entry)) (now (grains .entry)) (now (queue .entry)) (now (events .entry)) (now (order .entry))) ⌝ }
 {
-    let z = checks::sizes_of(lists);
-    let domain = Domain {
-        lengths: MyVec {
-            x: grains[0],
-            y: grains[1],
-        },
-        periodic0: lists[4] == 1,
-        periodic1: lists[5] == 1,
-    };
+    let z = headers::sizes_of(lists);
+    let domain = headers::domain_of(lists, grains);
     let grid = Grid::new(domain);
-    let clock = grains[2];
+    let clock = headers::clock(grains);
     let need = tables::lengths::needed(z);
     let lists_end = need.lists;
     let grains_end = need.grains;
@@ -142,7 +135,7 @@ pub fn work(
         rate,
         budget,
     );
-    lists[0] = mark_of(report);
-    grains[2] = clock_of(report);
+    headers::set_mark(lists, mark_of(report));
+    headers::set_clock(grains, clock_of(report));
     report
 }

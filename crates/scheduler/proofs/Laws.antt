@@ -13,7 +13,7 @@ use Rattle.scheduler.specs.declared.Scheduler.{Scheduler}
 use Rattle.scheduler.specs.Heap.{timeIn, timeAt, swapAt, childIn, childOf, down, downshifted, parent, parentIn, parentOf, up, upshifted}
 use Rattle.scheduler.specs.Inside.{Fit}
 use Rattle.halting.proofs.Bools.{differ}
-use Rattle.order.specs.Numbers.{last}
+use Rattle.order.specs.Numbers.{f64Max}
 
 -- below the length the default is not read
 pub getD-any : {A : Type 0} (l : List A) (i : ℕ) (d e : A) → i < length l → getD l i d ≡ getD l i e
@@ -26,7 +26,7 @@ pub time-in : (h : ℕ → Float) (s : Scheduler) (i : ℕ) → i < s .cells →
 unfolding timeIn
 time-in h s i lt′ = simp (lt-ltb i (s .cells) lt′)
 
-pub time-out : (h : ℕ → Float) (s : Scheduler) (i : ℕ) → s .cells ≤ i → timeAt h s i ≡ last
+pub time-out : (h : ℕ → Float) (s : Scheduler) (i : ℕ) → s .cells ≤ i → timeAt h s i ≡ f64Max
 unfolding timeIn
 time-out h s i le′ = simp (le-ltb i (s .cells) le′)
 
@@ -66,7 +66,7 @@ module _ (h : ℕ → Float) (s : Scheduler) (p : ℕ) where
   pub child-after : p ≤ childOf h s p
   child-after = child-elim (λ q. p ≤ q) (λ a b. omega arith) (λ a b c. omega arith) (λ a b. omega arith)
 
-  -- and in use, if no head time is above `last`
+  -- and in use, if no head time is above `f64Max`
   pub child-in : Fit h s → p < s .cells → (childOf h s p ≡ p → ⊥) → childOf h s p < s .cells
   child-in f in′ = child-elim (λ q. (q ≡ p → ⊥) → q < s .cells)
       (λ a b n. below (2 * p + 1) a)
@@ -75,11 +75,11 @@ module _ (h : ℕ → Float) (s : Scheduler) (p : ℕ) where
     where
       below : (i : ℕ) → lt (timeAt h s i) tp ≡ true → i < s .cells
       below i a = elim (decLe (s .cells) i) [
-        | yes o ↦ differ a (ap (λ (x : Float). lt x tp) (time-out h s i o) ∙ ap (λ (x : Float). lt last x) (time-in h s p in′) ∙ f .top (getD (s .heap) p 0))
+        | yes o ↦ differ a (ap (λ (x : Float). lt x tp) (time-out h s i o) ∙ ap (λ (x : Float). lt f64Max x) (time-in h s p in′) ∙ f .top (getD (s .heap) p 0))
         | no n ↦ omega arith
       ]
 
-pub last-top : lt last last ≡ false
+pub last-top : lt f64Max f64Max ≡ false
 unfolding lt ofBits
 last-top = refl
 
@@ -88,9 +88,9 @@ last-top = refl
 pub child-out : (h : ℕ → Float) (s : Scheduler) (p : ℕ) → s .cells ≤ p → childOf h s p ≡ p
 unfolding childIn
 child-out h s p o =
-    let a : timeAt h s p ≡ last = time-out h s p o in
-    let b : timeAt h s (2 * p + 1) ≡ last = time-out h s (2 * p + 1) (omega arith) in
-    let c : timeAt h s (2 * p + 2) ≡ last = time-out h s (2 * p + 2) (omega arith) in
+    let a : timeAt h s p ≡ f64Max = time-out h s p o in
+    let b : timeAt h s (2 * p + 1) ≡ f64Max = time-out h s (2 * p + 1) (omega arith) in
+    let c : timeAt h s (2 * p + 2) ≡ f64Max = time-out h s (2 * p + 2) (omega arith) in
     simp (a, b, c, last-top)
 
 pub down-stays : (h : ℕ → Float) (k : ℕ) (s : Scheduler) (p : ℕ) → childOf h s p ≡ p → down h k s p ≡ s

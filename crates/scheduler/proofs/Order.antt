@@ -9,7 +9,7 @@ use lib.Ieee.{Float, ofBits, lt, le, isNan}
 use Rattle.scheduler.specs.declared.Scheduler.{Scheduler}
 use Rattle.scheduler.specs.Heap.{timeAt, swapAt, childOf, down, downshifted, parent, parentOf, up, upshifted, updated}
 use Rattle.scheduler.specs.Inside.{Fit}
-use Rattle.order.specs.Numbers.{last}
+use Rattle.order.specs.Numbers.{f64Max}
 use Rattle.scheduler.specs.Standing.{Inverse, Ordered, Real}
 use Rattle.scheduler.proofs.Laws.{time-in, time-out, child-in, child-out, child-elim, down-stays, down-goes, up-stays, up-goes, parent-elim}
 use Rattle.order.proofs.Compare.{not-later, lt-asym, lt-irrefl, le-not-lt, lt-of-not-le}
@@ -74,7 +74,7 @@ module _ (n : ℕ) (t t′ : ℕ → Float) (real : (i : ℕ) → isNan (t i) �
   }
 
 -- ---- the times of a scheduler's indices
-pub last-real : isNan last ≡ false
+pub last-real : isNan f64Max ≡ false
 unfolding isNan ofBits
 last-real = refl
 

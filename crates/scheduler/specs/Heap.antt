@@ -1,17 +1,17 @@
 -- 01, "Heap (scheduler.rs)": the heap of cell numbers with its lookups, and what one shift and one update make of it.
--- `h` gives each cell's head time, `last` (f64::MAX) where its list is empty. Assumes nothing: these are definitions.
+-- `h` gives each cell's head time, `f64Max` where its list is empty. Assumes nothing: these are definitions.
 use mathlib.Core.Bool.{cond, _&&_}
 use mathlib.Core.List.{List}
 use Prim.Native.Nat.{ℕ, zero, suc, _+_, _-_, _*_, _/_}
 use lib.ListN.{getD, set, replicate}
 use lib.Dec.{ltb, eqb}
 use lib.Ieee.{Float, lt, le}
-use Rattle.order.specs.Numbers.{last}
+use Rattle.order.specs.Numbers.{f64Max}
 use Rattle.scheduler.specs.declared.Scheduler.{Scheduler}
 
--- the head time at a heap index; an index past the end reads `last`
+-- the head time at a heap index; an index past the end reads `f64Max`
 unfoldable pub timeIn : (ℕ → Float) → List ℕ → ℕ → ℕ → Float
-timeIn h heap n i = cond (ltb i n) (h (getD heap i 0)) last
+timeIn h heap n i = cond (ltb i n) (h (getD heap i 0)) f64Max
 
 abbrev pub timeAt : (ℕ → Float) → Scheduler → ℕ → Float
 timeAt h s i = timeIn h (s .heap) (s .cells) i

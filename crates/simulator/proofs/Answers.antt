@@ -17,7 +17,7 @@ use Rattle.model.proofs.Never.{no-8-or-9-at-start}
 use Rattle.tables.specs.declared.Sizes.{Sizes}
 use Rattle.tables.specs.Decode.{Tables}
 use Rattle.checks.proofs.Needs.{allowed}
-use Rattle.starting.specs.Inputs.{inputsOf}
+use Rattle.tables.specs.Inputs.{inputsOf}
 use Rattle.starting.specs.Cleared.{sizesFor}
 use Rattle.simulator.specs.Start.{fits, StartedWith, with, byMark, leaving, startAll, StartPromise}
 

@@ -11,7 +11,7 @@ use Rattle.chunks.specs.Flat.{flat}
 use Rattle.chunks.proofs.Laws.{length-flat, row-long}
 use Rattle.model.specs.Grid.{cells, boxOf}
 use Rattle.model.specs.State.{State}
-use Rattle.model.specs.Sound.{Sound}
+use Rattle.model.proofs.Sound.{Sound}
 use Rattle.model.specs.Check as model
 use Rattle.halting.proofs.Bools.{and-l, and-r}
 use Rattle.model.proofs.Whole.{sound-sized}
@@ -22,9 +22,10 @@ use Rattle.tables.specs.Layout.{grainReals, rowNums, queueNums, queueReals, ord
 use Rattle.tables.specs.Holds.{Holds}
 use Rattle.acts.proofs.FromSound.{sound-held}
 use Rattle.tables.specs.Decode.{Tables, flag, sizesOf, decoded}
-use Rattle.checks.specs.Check.{Sized, sized, legible, standing}
+use Rattle.checks.specs.Check.{sized, legible, standing}
+use Rattle.checks.specs.Inside.{Sized}
 use Rattle.tables.specs.Lengths.{listsNeed, grainsNeed, queueNeed, eventsNeed}
-use Rattle.checks.specs.Held.{Hold}
+use Rattle.checks.proofs.Hold.{Hold}
 use Rattle.checks.proofs.Holding.{side-rows}
 use Rattle.checks.proofs.Stages.{means-sized}
 use Rattle.tables.proofs.ListLaws.{lists-long as listed-long}
@@ -32,7 +33,7 @@ use Rattle.tables.proofs.Runs.{rows-nums-wide, rows-reals-wide}
 use Rattle.checks.proofs.Back.{read-back}
 use Rattle.checks.proofs.Again.{legible-held}
 use Rattle.tables.specs.Encode.{over, flagged, listsHead, grainsHead, sizesIn, encoded}
-use Rattle.checks.proofs.Over.{over-again}
+use Rattle.tables.proofs.Over.{over-again}
 
 -- ---- what a state of these sizes needs of the tables
 pub record Long (z : Sizes) (t : Tables) : Type 0 where

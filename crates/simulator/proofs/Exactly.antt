@@ -26,7 +26,7 @@ use Rattle.model.proofs.Allowed.{LowestBad, lowest-named}
 use Rattle.tables.specs.Decode.{Tables, mark, decoded}
 use Rattle.checks.specs.Check.{sized, standing, checked}
 use Rattle.checks.proofs.Cut.{cut-long}
-use Rattle.starting.specs.Inputs.{inputAt, inputsOf}
+use Rattle.tables.specs.Inputs.{inputAt, inputsOf}
 use Rattle.starting.specs.Cleared.{sizesFor}
 use Rattle.starting.proofs.InputLaws.{bad-most}
 use Rattle.simulator.specs.Start.{fits, StartedWith, with, byMark, leaving, startAll}

@@ -6,9 +6,9 @@ use mathlib.Core.Bool.{true}
 use lib.Ieee.{Float}
 use Rattle.model.specs.declared.Report.the-variants.{Refused}
 use Rattle.model.specs.State.{State}
-use Rattle.model.specs.Sound.{Sound, Stands}
+use Rattle.model.proofs.Sound.{Sound, Stands}
 use Rattle.model.specs.Acts.{taken}
-use Rattle.model.specs.Doing.{headEvent}
+use Rattle.model.specs.Execute.{headEvent}
 use Rattle.model.specs.Run.{refused, Ran, runFrom}
 use Rattle.model.specs.Check as model
 use Rattle.model.specs.Reached.{steps}

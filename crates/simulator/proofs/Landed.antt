@@ -18,7 +18,7 @@ use Rattle.model.specs.declared.Started.the-variants as answer
 use Rattle.model.specs.Grid.{cells}
 use Rattle.model.specs.Sizes.{boxOk, countsOk, rated}
 use Rattle.model.specs.State.{State, zeroG}
-use Rattle.model.specs.Sound.{Sound, Stands}
+use Rattle.model.proofs.Sound.{Sound, Stands}
 use Rattle.model.specs.Run.{synchronised, spent, refused, Ran, runFrom}
 use Rattle.model.specs.Start.{Begun, started, start, clear, begin}
 use Rattle.model.specs.Start as begun
@@ -41,7 +41,7 @@ use Rattle.tables.specs.Decode.{Tables, mark, decoded}
 use Rattle.checks.specs.Check.{sized, standing, checked}
 use Rattle.tables.specs.Lengths.{listsNeed, grainsNeed, queueNeed, eventsNeed, long}
 use Rattle.checks.proofs.Cut.{cut-long}
-use Rattle.starting.specs.Inputs.{inputAt, inputsOf}
+use Rattle.tables.specs.Inputs.{inputAt, inputsOf}
 use Rattle.tables.specs.Encode.{sizesIn, encoded}
 use Rattle.starting.specs.Cleared.{sizesFor, cleared}
 use Rattle.simulator.specs.Start.{fits, StartedWith, with, byNumber, leaving, startAll, StartPromise}

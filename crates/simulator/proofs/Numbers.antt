@@ -25,7 +25,7 @@ use Rattle.model.proofs.Exactly.{Exactly}
 use Rattle.tables.specs.Decode.{Tables, mark, decoded}
 use Rattle.checks.specs.Check.{sized, legible, standing, checked}
 use Rattle.checks.proofs.Accepts.{fitted}
-use Rattle.starting.specs.Inputs.{inputsOf}
+use Rattle.tables.specs.Inputs.{inputsOf}
 use Rattle.running.specs.Ran.{RanTables, toldTables}
 use Rattle.simulator.specs.Start.{startAll}
 use Rattle.simulator.specs.Run.{byCheck, runTables, RunPromise}

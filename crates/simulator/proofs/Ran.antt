@@ -8,7 +8,7 @@ use lib.Ieee.{Float}
 use Rattle.model.specs.Grid.{cells}
 use Rattle.model.specs.Sizes.{rated}
 use Rattle.model.specs.State.{State}
-use Rattle.model.specs.Sound.{Sound, Stands}
+use Rattle.model.proofs.Sound.{Sound, Stands}
 use Rattle.model.specs.Run.{How, synchronised, spent, refused, Ran, runFrom}
 use Rattle.model.specs.Check.{halt, refusal, runAll}
 use Rattle.model.specs.Check as model

@@ -8,7 +8,7 @@ use Rattle.model.specs.declared.Report.the-variants.{Refused}
 use Rattle.model.specs.Run.{runFrom}
 use Rattle.model.proofs.Allowed.{budgets}
 use Rattle.tables.specs.Decode.{Tables, decoded}
-use Rattle.checks.specs.Held.{Answered}
+use Rattle.checks.specs.Answered.{Answered}
 use Rattle.running.specs.Ran.{toldTables, leaving}
 use Rattle.simulator.specs.Run.{byCheck, runTables, Owned, RunPromise}
 

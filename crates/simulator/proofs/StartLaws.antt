@@ -22,7 +22,7 @@ use Rattle.tables.specs.declared.Sizes.{Sizes}
 use Rattle.tables.specs.Decode.{Tables}
 use Rattle.tables.specs.Lengths.{long, listsNeed, grainsNeed, queueNeed, eventsNeed}
 use Rattle.checks.proofs.Cut.{cut-long}
-use Rattle.starting.specs.Inputs.{inputAt, inputsOf}
+use Rattle.tables.specs.Inputs.{inputAt, inputsOf}
 use Rattle.tables.specs.Encode.{encoded}
 use Rattle.starting.specs.Cleared.{sizesFor, cleared}
 use Rattle.simulator.specs.Start.{fits, with, byMark, leaving, startAll}

@@ -9,7 +9,7 @@ use Rattle.model.specs.Check.{refusal}
 use Rattle.model.specs.Reached.{most}
 use Rattle.tables.specs.Decode.{Tables, decoded}
 use Rattle.checks.specs.Check.{checked}
-use Rattle.checks.specs.Held.{Floats}
+use Rattle.checks.specs.Answered.{Floats}
 use Rattle.running.specs.Ran.{RanTables, beside, toldTables, leaving}
 
 -- by the number that refuses it, 0 for none

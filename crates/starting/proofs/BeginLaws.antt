@@ -3,7 +3,7 @@ use Prim.Native.Nat.{ℕ, _+_, _-_, _*_, _≤_}
 use mathlib.Core.Path.{_≡_, refl, sym, ap, _∙_, subst}
 use mathlib.Core.List.{List, [], _++_}
 use native.Mathlib.Omega.{arith}
-use lib.ListN.{length, set, replicate, length-replicate}
+use lib.ListN.{length, replicate, length-replicate}
 use lib.Ieee.{Float}
 use borrow.Rule.Slice.PartMut.{midOf, putMid}
 use Rattle.order.specs.Numbers.{fzero}
@@ -13,8 +13,10 @@ use Rattle.scheduler.specs.Heap.{start as startHeap}
 use Rattle.model.specs.declared.Domain.{Domain}
 use Rattle.model.specs.Grid.{cells}
 use Rattle.model.specs.State.{State, marked}
-use Rattle.model.specs.Start.{clear, goesIn, initCell, begin}
+use Rattle.model.specs.Start.{clear, begin}
+use Rattle.model.specs.Doing.{goesIn, initCell, beginning}
 use Rattle.model.proofs.Grid.{cells-max}
+use Rattle.model.proofs.Performs as performs
 use Rattle.cell.specs.declared.Grid.{Grid}
 use Rattle.tables.specs.declared.Sizes.{Sizes}
 use Rattle.tables.specs.Layout.{orderBytes, rowNums, grainReals, queueNums, queueReals}
@@ -27,11 +29,12 @@ use Rattle.checks.proofs.Needs.{Ends, ends-of}
 use Rattle.acts.proofs.InTurn.{told-stop, told-on}
 use Rattle.step.specs.declared.World.{World}
 use Rattle.step.specs.World.{Held, Says, Does, worldAt}
-use Rattle.starting.specs.Inputs.{inputAt, inputsOf}
+use Rattle.tables.specs.Inputs.{inputAt, inputsOf}
 use Rattle.starting.specs.Grains.{InBoth, BothTold, Going}
-use Rattle.tables.specs.Encode.{listsHead, grainsHead, over, sizesIn, encoded}
+use Rattle.tables.specs.Encode.{listsHead, grainsHead, over, sizesIn, withMark, encoded}
+use Rattle.starting.specs.Cleared.{headed}
 use Rattle.starting.specs.Begin.{Startable, Filling, Began}
-use Rattle.checks.proofs.Over.{over-part, over-put, over-again, over-front, same-part}
+use Rattle.tables.proofs.Over.{over-part, over-put, over-again, over-front, same-part}
 use Rattle.starting.proofs.Zeros.{start-long, cleared-held}
 use Rattle.starting.proofs.OnlyIn.{OnlyIn, all-only, in-along}
 
@@ -56,9 +59,10 @@ module _ {z : Sizes} {w : World} (inputs : List Float) {l : List ℕ} {t : List 
   }
 
   begin-is : begin (w .domain) (z .room) (inputsOf (z .grains) inputs) ≡ then (allIn z w inputs) (λ s. each initCell (z .cells) 0 s)
-  unfolding begin
+  unfolding beginning
   begin-is =
-      ap (λ (n : ℕ). then (each (goesIn (inputsOf (z .grains) inputs)) n 0 (clear (w .domain) (z .room) n)) (λ s. each initCell (cells (w .domain)) 0 s)) (cut-long inputAt 5 (z .grains) inputs)
+      performs.begin-is (w .domain) (z .room) (inputsOf (z .grains) inputs)
+      ∙ ap (λ (n : ℕ). then (each (goesIn (inputsOf (z .grains) inputs)) n 0 (clear (w .domain) (z .room) n)) (λ s. each initCell (cells (w .domain)) 0 s)) (cut-long inputAt 5 (z .grains) inputs)
       ∙ ap (λ (n : ℕ). then (each (goesIn (inputsOf (z .grains) inputs)) n 0 (blank z w)) (λ s. each initCell (cells (w .domain)) 0 s)) (let h : z .grains ≡ z .grains - 0 = omega arith in h)
       ∙ ap (λ (n : ℕ). then (allIn z w inputs) (λ s. each initCell n 0 s)) (F .placed .cells-are)
 
@@ -95,6 +99,28 @@ module _ {z : Sizes} {w : World} (inputs : List Float) {l : List ℕ} {t : List 
 
 -- ---- the tables around the parts
 module _ {z : Sizes} {b : Domain} {g : Grid} {ni nl ng nq ne no : ℕ} (S : Startable z b g ni nl ng nq ne no) where
+  pub few-cells : z .cells ≤ 256
+  few-cells = subst (λ (n : ℕ). n ≤ 256) (sym (S .cells-are)) (cells-max b (S .laid .box))
+
+  pub ends : {n : Lengths} → n ≡ lengthsFor z → Ends n nl ng nq ne
+  ends e = ends-of z _ e (S .lists-long) (S .grains-long) (S .queue-long) (S .events-long)
+
+module _ {z : Sizes} {b : Domain} {g : Grid} {ni : ℕ} (tab : Tables) (S : Startable z b g ni (length (tab .lists)) (length (tab .grains)) (length (tab .queue)) (length (tab .events)) (length (tab .order))) where
+  abbrev nl : ℕ
+  nl = length (tab .lists)
+
+  abbrev ng : ℕ
+  ng = length (tab .grains)
+
+  abbrev nq : ℕ
+  nq = length (tab .queue)
+
+  abbrev ne : ℕ
+  ne = length (tab .events)
+
+  abbrev no : ℕ
+  no = length (tab .order)
+
   abbrev lists₀ : List ℕ
   lists₀ = over (listsHead 0 z b) (replicate nl 0)
 
@@ -116,14 +142,8 @@ module _ {z : Sizes} {b : Domain} {g : Grid} {ni nl ng nq ne no : ℕ} (S : Star
   abbrev eventsLong : ℕ
   eventsLong = z .cells * (z .room * 10) - 0
 
-  pub few-cells : z .cells ≤ 256
-  few-cells = subst (λ (n : ℕ). n ≤ 256) (sym (S .cells-are)) (cells-max b (S .laid .box))
-
-  pub ends : {n : Lengths} → n ≡ lengthsFor z → Ends n nl ng nq ne
-  ends e = ends-of z _ e (S .lists-long) (S .grains-long) (S .queue-long) (S .events-long)
-
   order-full : length (orderBytes (startHeap (z .cells))) ≡ 512
-  order-full = start-long (z .cells) few-cells
+  order-full = start-long (z .cells) (few-cells S)
 
   lists-part : midOf 6 listsLong lists₀ ≡ replicate (z .grains * 9 + z .cells * 33) 0
   lists-part =
@@ -144,7 +164,22 @@ module _ {z : Sizes} {b : Domain} {g : Grid} {ni nl ng nq ne no : ℕ} (S : Star
   order-part : midOf 0 (512 - 0) order₀ ≡ orderBytes (startHeap (z .cells))
   order-part = over-front (orderBytes (startHeap (z .cells))) (replicate no 0) (512 - 0) order-full
 
-  module _ {l : List ℕ} {t : List Float} {q : List ℕ} {e : List Float} {o : List ℕ} (el : l ≡ lists₀) (et : t ≡ grains₀) (eq : q ≡ replicate nq 0) (ee : e ≡ replicate ne fzero) (eo : o ≡ order₀) where
+  module _ {l : List ℕ} {t : List Float} {q : List ℕ} {e : List Float} {o : List ℕ} (H : tables l t q e o ≡ headed z b tab) where
+    el : l ≡ lists₀
+    el = ap (λ (u : Tables). u .lists) H
+
+    et : t ≡ grains₀
+    et = ap (λ (u : Tables). u .grains) H
+
+    eq : q ≡ replicate nq 0
+    eq = ap (λ (u : Tables). u .queue) H
+
+    ee : e ≡ replicate ne fzero
+    ee = ap (λ (u : Tables). u .events) H
+
+    eo : o ≡ order₀
+    eo = ap (λ (u : Tables). u .order) H
+
     abbrev L : List ℕ
     L = midOf 6 listsLong l
 
@@ -198,10 +233,10 @@ module _ {z : Sizes} {b : Domain} {g : Grid} {ni nl ng nq ne no : ℕ} (S : Star
           let h = told .1 .seen in
           λ i. record { grains = (sym (h .grained .many)) i; cells = (sym (h .queued .heap .cells-is)) i; room = (sym (h .queued .room-is)) i }
 
-      lists-end : set (putMid 6 listsLong l l′) 0 r ≡ over (listsHead (a .num) (sizesIn end) (end .box) ++ (flat rowNums (end .homes) ++ flat rowNums (end .members))) (replicate nl 0)
+      lists-end : withMark r (putMid 6 listsLong l l′) ≡ over (listsHead (a .num) (sizesIn end) (end .box) ++ (flat rowNums (end .homes) ++ flat rowNums (end .members))) (replicate nl 0)
       lists-end =
-          ap (λ (m : List ℕ). set (putMid 6 listsLong m l′) 0 r) el
-          ∙ ap (λ (m : List ℕ). set m 0 r) (over-put (listsHead 0 z b) l′ (replicate nl 0) 6 listsLong refl (kl ∙ ap length part-l ∙ length-replicate (z .grains * 9 + z .cells * 33) 0 ∙ (let k : z .grains * 9 + z .cells * 33 ≡ listsLong = omega arith in k)))
+          ap (λ (m : List ℕ). withMark r (putMid 6 listsLong m l′)) el
+          ∙ ap (withMark r) (over-put (listsHead 0 z b) l′ (replicate nl 0) 6 listsLong refl (kl ∙ ap length part-l ∙ length-replicate (z .grains * 9 + z .cells * 33) 0 ∙ (let k : z .grains * 9 + z .cells * 33 ≡ listsLong = omega arith in k)))
           ∙ λ i. over (listsHead (told .0 i) (sizes-end i) (sym (told .1 .seen .at .0) i) ++ told .1 .listed .is i) (replicate nl 0)
 
       grains-end : putMid 3 grainsLong t t′ ≡ over (grainsHead (end .box) (end .clock) ++ flat grainReals (end .grains)) (replicate ng fzero)
@@ -228,12 +263,6 @@ module _ {z : Sizes} {b : Domain} {g : Grid} {ni nl ng nq ne no : ℕ} (S : Star
           ∙ over-again (orderBytes (startHeap (z .cells))) o′ (replicate no 0) (512 - 0) order-full (ko ∙ ap length part-o ∙ order-full)
           ∙ ap (λ (m : List ℕ). over m (replicate no 0)) (told .1 .seen .queued .heap .is)
 
-      pub begun : (tab : Tables) → length (tab .lists) ≡ nl → length (tab .grains) ≡ ng → length (tab .queue) ≡ nq → length (tab .events) ≡ ne → length (tab .order) ≡ no
-          → Began a r tab (tables (set (putMid 6 listsLong l l′) 0 r) (putMid 3 grainsLong t t′) (putMid 0 queueLong q q′) (putMid 0 eventsLong e e′) (putMid 0 (512 - 0) o o′))
+      pub begun : Began a r tab (tables (withMark r (putMid 6 listsLong l l′)) (putMid 3 grainsLong t t′) (putMid 0 queueLong q q′) (putMid 0 eventsLong e e′) (putMid 0 (512 - 0) o o′))
       unfolding encoded
-      begun tab p₁ p₂ p₃ p₄ p₅ = record {
-        number = told .0;
-        left =
-            (λ i. tables (lists-end i) (grains-end i) (queue-end i) (events-end i) (order-end i))
-            ∙ λ i. encoded end (tables (replicate (sym p₁ i) 0) (replicate (sym p₂ i) fzero) (replicate (sym p₃ i) 0) (replicate (sym p₄ i) fzero) (replicate (sym p₅ i) 0));
-      }
+      begun = record { number = told .0; left = λ i. tables (lists-end i) (grains-end i) (queue-end i) (events-end i) (order-end i) }

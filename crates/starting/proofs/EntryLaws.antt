@@ -9,7 +9,7 @@ use Rattle.halting.proofs.All.{all-after}
 use Rattle.halting.specs.Out.{Out, next, then, eachOf}
 use Rattle.model.specs.declared.Domain.{Domain}
 use Rattle.model.specs.Grid.{across}
-use Rattle.model.specs.FromPToC.{upFrom, between, rows}
+use Rattle.model.specs.FromPToC.{upFrom, between, cellsAt}
 use Rattle.model.specs.State.{State}
 use Rattle.model.specs.Acts.{enter}
 use Rattle.particle.specs.declared.Spans.{Spans}
@@ -61,8 +61,8 @@ module _ (n0 : ℕ) where
     grid-two y = grid-append (between (y .a0) (y .b0)) (between (y .a1) (y .b1))
 
 -- they are the rule's
-pub rows-grid : (b : Domain) (is js : List ℕ) → rows b is js ≡ gridCells (across 0 b) is js
-unfolding rows gridCells
+pub rows-grid : (b : Domain) (is js : List ℕ) → cellsAt b is js ≡ gridCells (across 0 b) is js
+unfolding cellsAt gridCells
 rows-grid b is [] = refl
 rows-grid b is (j ∷ js) = ap (λ (l : List ℕ). rowCells (across 0 b) is j ++ l) (rows-grid b is js)
 

@@ -10,15 +10,15 @@ use borrow.Author.Tests.{eq-eqb}
 use Rattle.order.specs.Numbers.{fzero}
 use Rattle.halting.specs.Every.{All}
 use Rattle.halting.specs.Out.{Out, then, eachOf}
-use Rattle.myvec.specs.declared.MyVec.{MyVec}
 use Rattle.model.specs.declared.Domain.{Domain}
 use Rattle.model.specs.declared.Particle.{Particle}
+use Rattle.model.specs.Constants.{radiusOf}
 use Rattle.model.specs.Grid.{lengthOf, across, cells}
 use Rattle.model.specs.Stepping.{grainOf}
 use Rattle.model.specs.FromPToC.{cellsOfGrain}
 use Rattle.model.specs.State.{State, zeroG, has}
 use Rattle.model.specs.Acts.{store, enter}
-use Rattle.model.specs.Start.{goesIn}
+use Rattle.model.specs.Doing.{goesIn}
 use Rattle.model.proofs.Grid.{Under, across-max, cells-under}
 use Rattle.cell.specs.declared.Grid.{Grid}
 use Rattle.cell.specs.Cell.{gridOf, Laid}
@@ -34,13 +34,13 @@ use Rattle.starting.specs.Grains.{InBoth, BothTold, Going}
 use Rattle.starting.proofs.EntryLaws.{rows-grid}
 
 -- ---- the cells
-pub cells-are : (b : Domain) (g : Grid) (pos : MyVec) (x y : Spans) → g ≡ gridOf b → x ≡ spansOf (lengthOf 0 b) (g .n0) (pos .x) → y ≡ spansOf (lengthOf 1 b) (g .n1) (pos .y)
-    → gridCells (g .n0) (cellsIn x) (cellsIn y) ≡ cellsOfGrain b pos
-cells-are b g pos x y e p q =
-    (λ i. gridCells (g .n0) (cellsIn (p i)) (cellsIn (q i)))
-    ∙ ap (λ (k : Grid). gridCells (k .n0) (cellsIn (spansOf (lengthOf 0 b) (k .n0) (pos .x))) (cellsIn (spansOf (lengthOf 1 b) (k .n1) (pos .y)))) e
-    ∙ sym (rows-grid b (cellsIn (spansOf (lengthOf 0 b) (across 0 b) (pos .x))) (cellsIn (spansOf (lengthOf 1 b) (across 1 b) (pos .y))))
-    ∙ grain-list b pos
+pub cells-are : (b : Domain) (g : Grid) (p : Particle) (rad : Float) (x y : Spans) → g ≡ gridOf b → rad ≡ radiusOf p
+    → x ≡ spansOf (lengthOf 0 b) (g .n0) rad (p .pos .x) → y ≡ spansOf (lengthOf 1 b) (g .n1) rad (p .pos .y) → gridCells (g .n0) (cellsIn x) (cellsIn y) ≡ cellsOfGrain b p
+cells-are b g p rad x y e f h k =
+    (λ i. gridCells (g .n0) (cellsIn (h i)) (cellsIn (k i)))
+    ∙ (λ i. gridCells (e i .n0) (cellsIn (spansOf (lengthOf 0 b) (e i .n0) (f i) (p .pos .x))) (cellsIn (spansOf (lengthOf 1 b) (e i .n1) (f i) (p .pos .y))))
+    ∙ sym (rows-grid b (cellsIn (spansOf (lengthOf 0 b) (across 0 b) (radiusOf p) (p .pos .x))) (cellsIn (spansOf (lengthOf 1 b) (across 1 b) (radiusOf p) (p .pos .y))))
+    ∙ grain-list b p
 
 under-every : (n : ℕ) (l : List ℕ) → Under n l → All (λ (c : ℕ). c < n) l
 unfolding has
@@ -58,14 +58,14 @@ under-every n (x ∷ l) u = (u x (first x), under-every n l (λ y h. u y (later 
         or-yes mathlib.Core.Bool.false = refl
 
 module _ {z : Sizes} {b : Domain} {g : Grid} {inputs : List Float} {l : List ℕ} {t : List Float} (G : Going z b g inputs l t) where
-  pub enters-all : (i : ℕ) (pos : MyVec) (x y : Spans) → i < z .grains → x ≡ spansOf (lengthOf 0 b) (g .n0) (pos .x) → y ≡ spansOf (lengthOf 1 b) (g .n1) (pos .y)
-      → Enters z l i (gridCells (g .n0) (cellsIn x) (cellsIn y))
-  enters-all i pos x y h p q = record {
+  pub enters-all : (i : ℕ) (p : Particle) (rad : Float) (x y : Spans) → i < z .grains → rad ≡ radiusOf p
+      → x ≡ spansOf (lengthOf 0 b) (g .n0) rad (p .pos .x) → y ≡ spansOf (lengthOf 1 b) (g .n1) rad (p .pos .y) → Enters z l i (gridCells (g .n0) (cellsIn x) (cellsIn y))
+  enters-all i p rad x y h f j k = record {
     lists = (G .held .0, G .held .1 .lists);
     ranged = G .ranged;
     known = h;
     below = subst (λ (n : ℕ). All (λ (c : ℕ). c < n) (gridCells (g .n0) (cellsIn x) (cellsIn y))) (sym (G .cells-are))
-        (subst (All (λ (c : ℕ). c < cells b)) (sym (cells-are b g pos x y (G .laid .grid) p q)) (under-every (cells b) (cellsOfGrain b pos) (cells-under b pos (G .laid .box))));
+        (subst (All (λ (c : ℕ). c < cells b)) (sym (cells-are b g p rad x y (G .laid .grid) f j k)) (under-every (cells b) (cellsOfGrain b p) (cells-under b p (G .laid .box))));
   }
 
 pub grid-few : (b : Domain) (g : Grid) → Laid b g → (g .n0 ≤ 16) × (g .n1 ≤ 16)
@@ -77,11 +77,11 @@ going-on G u U = record { held = (u, U); ranged = G .ranged; laid = G .laid; cel
 
 -- ---- the grain's numbers stored, refused or done, and its cells entered
 module _ (gs : List Particle) (i : ℕ) (p : Particle) where
-  goes-is : p ≡ getD gs i zeroG → grainOf (p .pos) (p .vel) fzero (p .val) ≡ p → (s : State) → goesIn gs i s ≡ then (store i p s) (λ u. eachOf (enter i) (cellsOfGrain (u .box) (p .pos)) u)
+  goes-is : p ≡ getD gs i zeroG → grainOf (p .pos) (p .vel) fzero (p .val) ≡ p → (s : State) → goesIn gs i s ≡ then (store i p s) (λ u. eachOf (enter i) (cellsOfGrain (u .box) p) u)
   unfolding goesIn
   goes-is e timed s =
-      ap (λ (q : Particle). then (store i (grainOf (q .pos) (q .vel) fzero (q .val)) s) (λ u. eachOf (enter i) (cellsOfGrain (u .box) (q .pos)) u)) (sym e)
-      ∙ ap (λ (q : Particle). then (store i q s) (λ u. eachOf (enter i) (cellsOfGrain (u .box) (p .pos)) u)) timed
+      ap (λ (q : Particle). then (store i (grainOf (q .pos) (q .vel) fzero (q .val)) s) (λ u. eachOf (enter i) (cellsOfGrain (u .box) q) u)) (sym e)
+      ∙ ap (λ (q : Particle). then (store i q s) (λ u. eachOf (enter i) (cellsOfGrain (u .box) p) u)) timed
 
   stored : {z : Sizes} {b : Domain} {l : List ℕ} {t t′ : List Float} {r : ℕ} → ((s : State) → InGrains z t s → GrainsTold z t′ r (store i p s)) → (s : State) → InBoth z b l t s → BothTold z b l t′ r (store i p s)
   stored {z} {b} {l} f s S =
@@ -95,13 +95,13 @@ module _ (gs : List Particle) (i : ℕ) (p : Particle) where
         },
       )
 
-  entered : {z : Sizes} {b : Domain} {l l′ : List ℕ} {t′ : List Float} {r : ℕ} (cs : List ℕ) → cs ≡ cellsOfGrain b (p .pos) → ((s : State) → InLists z l s → ListsTold z l′ r (eachOf (enter i) cs s))
-      → (u : State) → InBoth z b l t′ u → BothTold z b l′ t′ r (eachOf (enter i) (cellsOfGrain (u .box) (p .pos)) u)
+  entered : {z : Sizes} {b : Domain} {l l′ : List ℕ} {t′ : List Float} {r : ℕ} (cs : List ℕ) → cs ≡ cellsOfGrain b p → ((s : State) → InLists z l s → ListsTold z l′ r (eachOf (enter i) cs s))
+      → (u : State) → InBoth z b l t′ u → BothTold z b l′ t′ r (eachOf (enter i) (cellsOfGrain (u .box) p) u)
   entered {z} {b} {l′ = l′} {t′ = t′} {r = r} cs c f u U =
       let told = f u (U .lists) in
       let w = (eachOf (enter i) cs u) .st in
       let o : OnlyLists u w = touch-of OnlyLists lists-none lists-both (enter i) (λ c v. enter-only i c v) cs u in
-      subst (λ (k : List ℕ). BothTold z b l′ t′ r (eachOf (enter i) k u)) (c ∙ ap (λ (d : Domain). cellsOfGrain d (p .pos)) (sym (U .box))) (
+      subst (λ (k : List ℕ). BothTold z b l′ t′ r (eachOf (enter i) k u)) (c ∙ ap (λ (d : Domain). cellsOfGrain d p) (sym (U .box))) (
         told .0,
         record {
           lists = told .1;
@@ -114,11 +114,11 @@ module _ (gs : List Particle) (i : ℕ) (p : Particle) where
     pub goes-stop : {r : ℕ} → ((s : State) → InGrains z t s → GrainsTold z t′ r (store i p s)) → (r ≡ 0 → ⊥) → (s : State) → InBoth z b l t s → BothTold z b l t′ r (goesIn gs i s)
     goes-stop {r} f u s S =
         subst (λ (o : Out State). BothTold z b l t′ r o) (sym (goes-is e timed s))
-        (told-stop (InBoth z b l t′) (store i p s) (λ u. eachOf (enter i) (cellsOfGrain (u .box) (p .pos)) u) u (stored f s S))
+        (told-stop (InBoth z b l t′) (store i p s) (λ u. eachOf (enter i) (cellsOfGrain (u .box) p) u) u (stored f s S))
 
-    pub goes-on : {l′ : List ℕ} {r r′ : ℕ} (cs : List ℕ) → cs ≡ cellsOfGrain b (p .pos) → ((s : State) → InGrains z t s → GrainsTold z t′ r (store i p s)) → r ≡ 0
+    pub goes-on : {l′ : List ℕ} {r r′ : ℕ} (cs : List ℕ) → cs ≡ cellsOfGrain b p → ((s : State) → InGrains z t s → GrainsTold z t′ r (store i p s)) → r ≡ 0
         → ((s : State) → InLists z l s → ListsTold z l′ r′ (eachOf (enter i) cs s)) → (s : State) → InBoth z b l t s → BothTold z b l′ t′ r′ (goesIn gs i s)
     goes-on {l′} {r′ = r′} cs c f u k s S =
         subst (λ (o : Out State). BothTold z b l′ t′ r′ o) (sym (goes-is e timed s))
-        (told-on (InBoth z b l t′) (InBoth z b l′ t′) (store i p s) (λ u. eachOf (enter i) (cellsOfGrain (u .box) (p .pos)) u) u (stored f s S)
+        (told-on (InBoth z b l t′) (InBoth z b l′ t′) (store i p s) (λ u. eachOf (enter i) (cellsOfGrain (u .box) p) u) u (stored f s S)
         (entered cs c k ((store i p s) .st) (stored f s S .1)))

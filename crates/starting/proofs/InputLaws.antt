@@ -15,7 +15,7 @@ use Rattle.model.specs.Stepping.{grainOf}
 use Rattle.model.specs.State.{zeroG}
 use Rattle.chunks.proofs.Laws.{tail-is}
 use Rattle.checks.proofs.Cut.{cut-none, cut-step, cut-at, cut-long}
-use Rattle.starting.specs.Inputs.{inputAt, inputsOf}
+use Rattle.tables.specs.Inputs.{inputAt, inputsOf}
 
 pub input-read : (n : ℕ) (l : List Float) (i : ℕ) → i < n → inputAt (midOf (i * 5) (length l - i * 5) l) ≡ getD (inputsOf n l) i zeroG
 input-read n l i h = ap inputAt (tail-is (i * 5) l) ∙ sym (cut-at inputAt 5 n l i zeroG h)

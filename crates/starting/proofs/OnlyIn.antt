@@ -10,7 +10,7 @@ use Rattle.model.specs.State.{State, zeroG, withGrains, withLists}
 use Rattle.model.specs.Stepping.{grainOf}
 use Rattle.model.specs.FromPToC.{cellsOfGrain}
 use Rattle.model.specs.Acts.{store, enter}
-use Rattle.model.specs.Start.{goesIn}
+use Rattle.model.specs.Doing.{goesIn}
 use Rattle.acts.proofs.Touch.{OnlyGrains, OnlyLists, store-only, enter-only, touch-then, touch-of, touch-each}
 
 -- ---- u is s but for its grains and its lists
@@ -33,9 +33,9 @@ pub goesIn-only : (gs : List Particle) (i : ℕ) (s : State) → OnlyIn s ((goes
 unfolding goesIn
 goesIn-only gs i s =
     let p = getD gs i zeroG in
-    touch-then OnlyIn in-none in-both s (store i (grainOf (p .pos) (p .vel) fzero (p .val)) s) (λ u. eachOf (λ c. enter i c) (cellsOfGrain (u .box) (p .pos)) u)
+    touch-then OnlyIn in-none in-both s (store i (grainOf (p .pos) (p .vel) fzero (p .val)) s) (λ u. eachOf (λ c. enter i c) (cellsOfGrain (u .box) p) u)
     (grains-in s _ (store-only i (grainOf (p .pos) (p .vel) fzero (p .val)) s))
-    (λ u. touch-of OnlyIn in-none in-both (λ c. enter i c) (λ c w. lists-in w _ (enter-only i c w)) (cellsOfGrain (u .box) (p .pos)) u)
+    (λ u. touch-of OnlyIn in-none in-both (λ c. enter i c) (λ c w. lists-in w _ (enter-only i c w)) (cellsOfGrain (u .box) p) u)
 
 pub all-only : (gs : List Particle) (m i : ℕ) (s : State) → OnlyIn s ((each (goesIn gs) m i s) .st)
 all-only gs m i s = touch-each OnlyIn in-none in-both (goesIn gs) (goesIn-only gs) m i s

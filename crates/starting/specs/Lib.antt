@@ -1,6 +1,5 @@
--- The start numbers read as grains (Inputs), the tables with every place cleared (Cleared); inside a start, the cells that a grain enters (Entries),
+-- The tables with every place cleared (Cleared); inside a start, the cells that a grain enters (Entries),
 -- grains that go in (Grains), and an accepted start (Begin).
-pub mod Inputs
 pub mod Cleared
 pub mod Entries
 pub mod Grains

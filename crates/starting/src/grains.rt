@@ -2,8 +2,8 @@
 ghost use Prim.Native.Nat.{_-_, _<_, _≤_};
 ghost use Rattle.halting.specs.Out.{each};
 ghost use Rattle.model.specs.State.{State};
-ghost use Rattle.model.specs.Start.{goesIn};
-ghost use Rattle.starting.specs.Inputs.{inputsOf};
+ghost use Rattle.model.specs.Doing.{goesIn};
+ghost use Rattle.tables.specs.Inputs.{inputsOf};
 ghost use Rattle.starting.specs.Grains.{InBoth, BothTold, Going};
 use crate::entries;
 use crate::inputs;
@@ -30,8 +30,9 @@ fn goes_in(
     if stored != 0 {
         return stored;
     }
-    let x = particle::touched(domain.lengths.x, grid.n0, p.pos.x);
-    let y = particle::touched(domain.lengths.y, grid.n1, p.pos.y);
+    let rad = p.radius();
+    let x = particle::touched(domain.lengths.x, grid.n0, rad, p.pos.x);
+    let y = particle::touched(domain.lengths.y, grid.n1, rad, p.pos.y);
     entries::enter_all(lists, z, i, grid.n0, x, y)
 }
 

@@ -5,30 +5,11 @@ ghost use lib.ListN.{length, getD};
 ghost use Rattle.layout.specs.Widths.{inputWide};
 ghost use Rattle.model.specs.Sizes.{firstBad};
 ghost use Rattle.model.specs.State.{zeroG};
-ghost use Rattle.starting.specs.Inputs.{inputAt, inputsOf};
+ghost use Rattle.tables.specs.Inputs.{inputsOf};
 use layout::INPUT;
 use model::Domain;
 use model::Particle;
-use myvec::MyVec;
-
-// The first grain, at time 0.
-fn first_input(inputs: &[f64]) -> Particle
-    requires { ⌜ inputWide ≤ length (now inputs) ⌝ }
-    ensures { λ r. ⌜ r ≡ inputAt (now (inputs .entry)) ⌝ }
-{
-    Particle {
-        pos: MyVec {
-            x: inputs[0],
-            y: inputs[1],
-        },
-        vel: MyVec {
-            x: inputs[2],
-            y: inputs[3],
-        },
-        time: 0.0,
-        val: inputs[4],
-    }
-}
+use tables::grains::read_input;
 
 // Grain i of n.
 pub(crate) fn get_input(inputs: &[f64], n: usize, i: usize) -> Particle
@@ -36,7 +17,7 @@ pub(crate) fn get_input(inputs: &[f64], n: usize, i: usize) -> Particle
     ensures { λ r. ⌜ r ≡ getD (inputsOf n (now (inputs .entry))) i zeroG ⌝ }
 {
     let a = i * INPUT;
-    first_input(&inputs[a..])
+    read_input(&inputs[a..])
 }
 
 // The lowest of n grains whose numbers are out of range, and n if none is.
@@ -47,7 +28,7 @@ pub fn first_bad(domain: Domain, inputs: &[f64], n: usize) -> usize
     if n == 0 {
         return 0;
     }
-    if !particle::grain_ok(domain, first_input(inputs)) {
+    if !particle::grain_ok(domain, read_input(inputs)) {
         return 0;
     }
     1 + first_bad(domain, &inputs[INPUT..], n - 1)

@@ -3,7 +3,7 @@ ghost use lib.ListN.{length};
 ghost use Rattle.model.specs.Start.{begin as beginIn};
 ghost use Rattle.step.specs.World.{Held, Says};
 ghost use Rattle.tables.specs.Decode.{tables};
-ghost use Rattle.starting.specs.Inputs.{inputsOf};
+ghost use Rattle.tables.specs.Inputs.{inputsOf};
 ghost use Rattle.starting.specs.Begin.{Filling, Startable, Began};
 use cell::Grid;
 use layout::GRAINS_HEAD;
@@ -13,6 +13,7 @@ use model::Domain;
 use step::World;
 use step::init;
 use tables::Sizes;
+use tables::headers;
 
 mod clear;
 mod entries;
@@ -58,11 +59,7 @@ pub fn begin(
         (tables (now (lists .entry)) (now (grains .entry)) (now (queue .entry)) (now (events .entry)) (now (order .entry)))
         (tables (now (lists .exit)) (now (grains .exit)) (now (queue .exit)) (now (events .exit)) (now (order .exit))) ⌝ }
 {
-    clear::clear_lists(lists, z, domain);
-    clear::clear_grains(grains, domain);
-    clear::clear_numbers(queue);
-    clear::clear_floats(events);
-    clear::clear_order(order, z.cells);
+    clear::clear(lists, grains, queue, events, order, z, domain);
     let need = tables::lengths::needed(z);
     let lists_end = need.lists;
     let grains_end = need.grains;
@@ -83,6 +80,6 @@ pub fn begin(
         z,
         w,
     );
-    lists[0] = number;
+    headers::set_mark(lists, number);
     number
 }

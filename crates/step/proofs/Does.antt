@@ -13,7 +13,7 @@ use borrow.Rule.Slice.PartMut.{midOf}
 use Rattle.halting.specs.Out.{Out, out, next, then, each, eachOf}
 use Rattle.halting.specs.Every.{All}
 use Rattle.model.specs.State.{State}
-use Rattle.model.specs.Doing.{others}
+use Rattle.model.specs.Rows.{others}
 use Rattle.acts.proofs.InTurn.{told-stop, told-on, of-none, of-stop, of-on, each-end, each-stop, each-on}
 use Rattle.step.specs.World.{Some, Says, Does, unless}
 

@@ -1,5 +1,5 @@
 -- What each execution does to the tables, from what its calls do. Assumes nothing.
-use Prim.Native.Nat.{ℕ, _-_}
+use Prim.Native.Nat.{ℕ}
 use mathlib.Core.Path.{_≡_, sym, ap, subst, _∙_}
 use mathlib.Core.List.{List}
 use lib.Ieee.{Float, binary64, add}
@@ -13,7 +13,8 @@ use Rattle.model.specs.declared.Event.the-variants.{InterParticleCollision, Mov
 use Rattle.model.specs.Stepping.{grainOf}
 use Rattle.model.specs.State.{State, home, listed, grain, zeroG}
 use Rattle.model.specs.Acts.{store, insert, cancel, enter, leave}
-use Rattle.model.specs.Doing.{stepGrain, landed, scheduleEvents, again, forget, syncAt, doCollision, doNeighbour, doOut, doWall, doSync, execute}
+use Rattle.model.specs.Doing.{stepGrain, scheduleEvents, again, forget, syncAt, doCollision, doNeighbour, doOut, doWall, doSync, execution}
+use Rattle.model.specs.Rows.{landed}
 use Rattle.tables.specs.declared.Sizes.{Sizes}
 use Rattle.tables.specs.Holds.{Grained, Queued, Told}
 use Rattle.acts.specs.Tell.{At, InLists, ListsTold, InGrains, GrainsTold, Pair}
@@ -190,29 +191,29 @@ lists-then {z} {l} rate s =
 
 module _ {z : Sizes} {w : World} {l : List ℕ} {g : List Float} {q : List ℕ} {e : List Float} {o : List ℕ} {Q : State → Type 0} {r : ℕ} (rate : Float) {ev : Event} where
   pub as-collision : {i j : ℕ} {x y v u : MyVec} {k : Float} {a b : Particle} → ev ≡ InterParticleCollision i j x y v u k → a ≡ grainOf x v (w .clock) k → b ≡ grainOf y u (w .clock) k
-      → Does (Held z w l g q e o) Q r (doCollision i j a b) → Does (λ s. Held z w l g q e o s × Apt z ev s) Q r (execute rate ev)
+      → Does (Held z w l g q e o) Q r (doCollision i j a b) → Does (λ s. Held z w l g q e o s × Apt z ev s) Q r (execution rate ev)
   as-collision {i} {j} {x} {y} {v} {u} {k} {a} {b} is A B d =
-      subst (λ (f : Event). Does (λ s. Held z w l g q e o s × Apt z f s) Q r (execute rate f)) (sym is) (record {
+      subst (λ (f : Event). Does (λ s. Held z w l g q e o s × Apt z f s) Q r (execution rate f)) (sym is) (record {
         says = λ s h.
             let t : s .clock ≡ w .clock = h .0 .seen .at .1 in
             subst (Says Q r) (λ n. doCollision i j ((A ∙ ap (λ (c : Float). grainOf x v c k) (sym t)) n) ((B ∙ ap (λ (c : Float). grainOf y u c k) (sym t)) n) s) (d .says s (h .0));
       })
 
-  pub as-neighbour : {i : ℕ} {x : MyVec} {k : ℕ} → ev ≡ MoveToNeighbour i x k → Does (Held z w l g q e o) Q r (doNeighbour i x k) → Does (λ s. Held z w l g q e o s × Apt z ev s) Q r (execute rate ev)
-  as-neighbour is d = subst (λ (f : Event). Does (λ s. Held z w l g q e o s × Apt z f s) Q r (execute rate f)) (sym is) (record { says = λ s h. d .says s (h .0) })
+  pub as-neighbour : {i : ℕ} {x : MyVec} {k : ℕ} → ev ≡ MoveToNeighbour i x k → Does (Held z w l g q e o) Q r (doNeighbour i x k) → Does (λ s. Held z w l g q e o s × Apt z ev s) Q r (execution rate ev)
+  as-neighbour is d = subst (λ (f : Event). Does (λ s. Held z w l g q e o s × Apt z f s) Q r (execution rate f)) (sym is) (record { says = λ s h. d .says s (h .0) })
 
-  pub as-out : {i : ℕ} {x : MyVec} {k : ℕ} → ev ≡ MoveOutOfCell i x k → Does (λ s. Held z w l g q e o s × Pair i k s) Q r (doOut i x k) → Does (λ s. Held z w l g q e o s × Apt z ev s) Q r (execute rate ev)
-  as-out is d = subst (λ (f : Event). Does (λ s. Held z w l g q e o s × Apt z f s) Q r (execute rate f)) (sym is) (record { says = λ s h. d .says s (h .0, h .1 .2) })
+  pub as-out : {i : ℕ} {x : MyVec} {k : ℕ} → ev ≡ MoveOutOfCell i x k → Does (λ s. Held z w l g q e o s × Pair i k s) Q r (doOut i x k) → Does (λ s. Held z w l g q e o s × Apt z ev s) Q r (execution rate ev)
+  as-out is d = subst (λ (f : Event). Does (λ s. Held z w l g q e o s × Apt z f s) Q r (execution rate f)) (sym is) (record { says = λ s h. d .says s (h .0, h .1 .2) })
 
   pub as-wall : {i : ℕ} {x v : MyVec} {k : Float} {a : Particle} → ev ≡ WallReflection i x v k → a ≡ grainOf x v (w .clock) k → Does (Held z w l g q e o) Q r (doWall i a)
-      → Does (λ s. Held z w l g q e o s × Apt z ev s) Q r (execute rate ev)
+      → Does (λ s. Held z w l g q e o s × Apt z ev s) Q r (execution rate ev)
   as-wall {i} {x} {v} {k} is A d =
-      subst (λ (f : Event). Does (λ s. Held z w l g q e o s × Apt z f s) Q r (execute rate f)) (sym is) (record {
+      subst (λ (f : Event). Does (λ s. Held z w l g q e o s × Apt z f s) Q r (execution rate f)) (sym is) (record {
         says = λ s h. let t : s .clock ≡ w .clock = h .0 .seen .at .1 in subst (Says Q r) (λ n. doWall i ((A ∙ ap (λ (c : Float). grainOf x v c k) (sym t)) n) s) (d .says s (h .0));
       })
 
 pub as-sync : {z : Sizes} {w : World} {l : List ℕ} {g g₁ : List Float} {q q₁ : List ℕ} {e e₁ : List Float} {o o₁ : List ℕ} {r : ℕ} (rate : Float) {ev : Event} → ev ≡ Synchronisation → Does (Seen z w g q e o) (Seen z w g₁ q₁ e₁ o₁) r (doSync rate)
-    → Does (λ s. Held z w l g q e o s × Apt z ev s) (Held z w l g₁ q₁ e₁ o₁) r (execute rate ev)
+    → Does (λ s. Held z w l g q e o s × Apt z ev s) (Held z w l g₁ q₁ e₁ o₁) r (execution rate ev)
 as-sync {z} {w} {l} {g} {g₁} {q} {q₁} {e} {e₁} {o} {o₁} {r} rate is d =
-    subst (λ (f : Event). Does (λ s. Held z w l g q e o s × Apt z f s) (Held z w l g₁ q₁ e₁ o₁) r (execute rate f)) (sym is)
+    subst (λ (f : Event). Does (λ s. Held z w l g q e o s × Apt z f s) (Held z w l g₁ q₁ e₁ o₁) r (execution rate f)) (sym is)
     (record { says = λ s h. seen-do (doSync rate) (λ u k. lists-then rate u k) d .says s (h .0) })

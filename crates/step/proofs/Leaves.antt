@@ -1,5 +1,5 @@
 -- How the tables go on holding the state after each kind of act, and what they give of one cell and one grain. Assumes nothing.
-use Prim.Native.Nat.{ℕ, _-_, _<_}
+use Prim.Native.Nat.{ℕ, _<_}
 use mathlib.Core.Path.{_≡_, subst}
 use mathlib.Core.List.{List}
 use native.Mathlib.Omega.{arith}
@@ -10,7 +10,8 @@ use Rattle.halting.proofs.All.{all-at}
 use Rattle.model.specs.declared.Plan.{Plan}
 use Rattle.model.specs.State.{State, Row, none, home, listed, grain}
 use Rattle.model.specs.Acts.{put}
-use Rattle.model.specs.Doing.{scheduleCollision, Finder, scheduleBy, boundaries}
+use Rattle.model.specs.Doing.{scheduleCollision, scheduleBy, boundaries}
+use Rattle.model.specs.Rows.{Finder}
 use Rattle.model.specs.Collision.{collision}
 use Rattle.model.specs.Moves.{toNeighbour, outOfCell}
 use Rattle.model.specs.Walls.{wall}
@@ -111,13 +112,13 @@ module _ {z : Sizes} {w : World} where
     );
   }
 
--- ---- the members of a cell are grains, the homes of a grain are cells
+-- ---- the members of a cell are grains, the homes of a grain are cells; m is the part of the lists where they stand
 module _ {z : Sizes} {l : List ℕ} (s : State) (h : Listed z l (s .homes) (s .members)) where
-  pub members-below : (c : ℕ) → c < z .cells → All (λ (q : ℕ). q < z .grains) (listed s c)
-  members-below c C = all-at (λ (r : Row ℕ). All (λ (x : ℕ). x < z .grains) (r .live)) (s .members) c none (h .members .below) (omega (arith, h .members .many))
+  pub members-below : {m : List ℕ} (c : ℕ) → c < z .cells → m ≡ listed s c → All (λ (q : ℕ). q < z .grains) m
+  members-below c C e = rw e (all-at (λ (r : Row ℕ). All (λ (x : ℕ). x < z .grains) (r .live)) (s .members) c none (h .members .below) (omega (arith, h .members .many)))
 
-  pub homes-below : (p : ℕ) → p < z .grains → All (λ (c : ℕ). c < z .cells) (home s p)
-  homes-below p P = all-at (λ (r : Row ℕ). All (λ (x : ℕ). x < z .cells) (r .live)) (s .homes) p none (h .homes .below) (omega (arith, h .homes .many))
+  pub homes-below : {m : List ℕ} (p : ℕ) → p < z .grains → m ≡ home s p → All (λ (c : ℕ). c < z .cells) m
+  homes-below p P e = rw e (all-at (λ (r : Row ℕ). All (λ (x : ℕ). x < z .cells) (r .live)) (s .homes) p none (h .homes .below) (omega (arith, h .homes .many)))
 
 -- ---- what the scheduling of one kind found goes in
 module _ {z : Sizes} {w : World} {g : List Float} {q q₁ : List ℕ} {e e₁ : List Float} {o o₁ : List ℕ} {r : ℕ} where

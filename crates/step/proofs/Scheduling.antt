@@ -1,5 +1,5 @@
 -- What each scheduling does to the tables, from what its calls do. Assumes nothing.
-use Prim.Native.Nat.{ℕ, zero, suc, _-_, _<_}
+use Prim.Native.Nat.{ℕ, zero, suc, _<_}
 use mathlib.Core.Path.{_≡_, sym, ap, subst, _∙_}
 use mathlib.Core.Bool.{Bool, cond}
 use mathlib.Core.List.{List}
@@ -15,17 +15,21 @@ use Rattle.model.specs.declared.Plan.{Plan}
 use Rattle.model.specs.Reports.{planTold}
 use Rattle.model.specs.State.{State, home, listed, grain, zeroG}
 use Rattle.model.specs.Acts.{put, cancel}
-use Rattle.model.specs.Doing.{others, stepGrain, scheduleCollision, Finder, scheduleBy, boundaries, scheduleWith, scheduleEvents, again, forget}
+use Rattle.model.specs.Doing.{stepGrain, scheduleCollision, scheduleBy, boundaries, scheduleWith, scheduleEvents, again, forget}
+use Rattle.model.specs.Rows.{others, Finder}
 use Rattle.model.specs.Collision.{collision}
 use Rattle.model.specs.Moves.{toNeighbour, outOfCell}
 use Rattle.model.specs.Walls.{wall}
 use Rattle.model.proofs.Answers.{one-plan}
 use Rattle.tables.specs.declared.Sizes.{Sizes}
 use Rattle.tables.specs.Holds.{Grained, Queued, Told}
+use Rattle.acts.specs.Tell.{At, InLists, InGrains, GrainsTold}
+use Rattle.acts.proofs.Frame.{queues-along}
+use Rattle.acts.proofs.Touch.{each-step-only}
 use Rattle.step.specs.declared.World.{World}
-use Rattle.step.specs.World.{Seen, Says, Does, Celled, unless}
+use Rattle.step.specs.World.{Seen, Held, Says, Does, Celled, unless}
 use Rattle.step.proofs.Does.{does-none, does-stop, does-on, does-as}
-use Rattle.step.proofs.Leaves.{put-does}
+use Rattle.step.proofs.Leaves.{seen-do, grains-do, stepped-only, put-does}
 
 -- ---- the one left out, and the others
 pub unless-out : {P : State → Type 0} (b : ℕ) (act : ℕ → State → Out State) (q : ℕ) → b ≡ q → Does P P 0 (unless b act q)
@@ -84,7 +88,20 @@ module _ {P Q : State → Type 0} {r : ℕ} (c p : ℕ) where
   unfolding boundaries
   bounds-third m n d e f = does-on m d (does-on n e f)
 
--- ---- schedule_events, over the part of the lists where the cell's grains stand
+-- ---- schedule_events: its two calls beside the lists, and in turn over the part of the lists where the cell's grains stand
+abbrev stepped : ℕ → List ℕ → ℕ → State → Out State
+stepped p l c s = then (eachOf (scheduleCollision c p) (others p l) s) (boundaries c p)
+
+module _ {z : Sizes} {w : World} {k : List ℕ} {g : List Float} {q : List ℕ} {e : List Float} {o : List ℕ} {r : ℕ} (p : ℕ) (l : List ℕ) where
+  pub others-held : {g₁ : List Float} → ((s : State) → InGrains z g s → At (w .domain) (w .clock) s → GrainsTold z g₁ r (eachOf stepGrain (others p l) s))
+      → Does (Held z w k g q e o) (Held z w k g₁ q e o) r (eachOf stepGrain (others p l))
+  others-held t = grains-do (eachOf stepGrain (others p l)) (λ s. each-step-only (others p l) s) t
+
+  pub stepped-held : {q₁ : List ℕ} {e₁ : List Float} {o₁ : List ℕ} {c i : ℕ} → c ≡ i → Does (Seen z w g q e o) (Seen z w g q₁ e₁ o₁) r (stepped p l c) → Does (Held z w k g q e o) (Held z w k g q₁ e₁ o₁) r (stepped p l i)
+  stepped-held {q₁} {e₁} {o₁} {c} n d =
+      subst (λ (j : ℕ). Does (Held z w k g q e o) (Held z w k g q₁ e₁ o₁) r (stepped p l j)) n
+      (seen-do (stepped p l c) (λ s h. queues-along (InLists z k) s ((stepped p l c s) .st) (stepped-only c p (others p l) s) h) d)
+
 same : (p c : ℕ) (l : List ℕ) (s : State) → l ≡ listed s c → scheduleWith p c (others p l) s ≡ scheduleEvents p c s
 unfolding scheduleEvents
 same p c l s e = ap (λ (m : List ℕ). scheduleWith p c (others p m) s) e
@@ -95,7 +112,7 @@ module _ {P Q : State → Type 0} {r : ℕ} (p c : ℕ) (l : List ℕ) (is : (s 
   events-stop n d = does-as (λ s h. same p c l s (is s h)) (does-stop (λ s u. then (eachOf (scheduleCollision c p) (others p l) u) (λ v. boundaries c p v)) n d)
 
   pub events-on : {P₁ : State → Type 0} {r₁ : ℕ} → r₁ ≡ 0 → Does P P₁ r₁ (eachOf stepGrain (others p l))
-      → Does P₁ Q r (λ s. then (eachOf (scheduleCollision c p) (others p l) s) (boundaries c p)) → Does P Q r (scheduleEvents p c)
+      → Does P₁ Q r (stepped p l c) → Does P Q r (scheduleEvents p c)
   unfolding scheduleWith
   events-on n d e = does-as (λ s h. same p c l s (is s h)) (does-on n d e)
 
@@ -108,11 +125,6 @@ module _ {P Q : State → Type 0} {r : ℕ} (p : ℕ) (l : List ℕ) (is : (s : 
   pub forget-does : Does P Q r (eachOf (λ c. cancel p c) l) → Does P Q r (forget p)
   unfolding forget
   forget-does d = does-as (λ s h. ap (λ (m : List ℕ). eachOf (λ c. cancel p c) m s) (is s h)) d
-
--- the same cell under another name
-pub at-index : {P Q : State → Type 0} {r : ℕ} (p : ℕ) (l : List ℕ) {c i : ℕ} → c ≡ i → Does P Q r (λ s. then (eachOf (scheduleCollision c p) (others p l) s) (boundaries c p))
-    → Does P Q r (λ s. then (eachOf (scheduleCollision i p) (others p l) s) (boundaries i p))
-at-index {P} {Q} {r} p l e d = subst (λ (k : ℕ). Does P Q r (λ s. then (eachOf (scheduleCollision k p) (others p l) s) (boundaries k p))) e d
 
 -- ---- the cell that is made of an index
 pub made-cell : {z : Sizes} {w : World} (i : ℕ) {c : Cell} → c ≡ cellOf (w .domain) i → i < z .cells → Celled z w c

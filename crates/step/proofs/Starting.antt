@@ -13,8 +13,8 @@ use Rattle.order.specs.Numbers.{fzero}
 use Rattle.model.specs.declared.Place.{Place}
 use Rattle.model.specs.State.{State, listed}
 use Rattle.model.specs.Acts.{insert}
-use Rattle.model.specs.Doing.{others, scheduleCollision, boundaries, syncAt}
-use Rattle.model.specs.Start.{pairs, syncIn, initCell}
+use Rattle.model.specs.Doing.{scheduleCollision, boundaries, syncAt, pairs, syncIn, initCell}
+use Rattle.model.specs.Rows.{others}
 use Rattle.tables.specs.declared.Sizes.{Sizes}
 use Rattle.tables.specs.Holds.{Queued}
 use Rattle.acts.specs.Tell.{InLists}

@@ -15,15 +15,17 @@ use Rattle.model.specs.Grid.{cells}
 use Rattle.model.specs.Events.{eventOf}
 use Rattle.model.specs.State.{State, listed, queue, has, requeued}
 use Rattle.model.specs.Acts.{first, head, taken}
-use Rattle.model.specs.Doing.{execute, headEvent, event, step}
-use Rattle.model.specs.Sound.{Named, Stands}
+use Rattle.model.specs.Doing.{execution}
+use Rattle.model.specs.Execute.{headEvent, event}
+use Rattle.model.proofs.Sound.{Named, Stands}
 use Rattle.model.proofs.Keeps.{head-held, first-in}
 use Rattle.model.proofs.Plans.{cells-some}
+use Rattle.model.proofs.Performs.{execute-is}
 use Rattle.model.proofs.Steps.{first-some}
 use Rattle.tables.specs.declared.Sizes.{Sizes}
 use Rattle.tables.specs.Holds.{Queued, Holds}
 use Rattle.acts.specs.Tell.{Pair}
-use Rattle.acts.proofs.Loaded.{heaped-long}
+use Rattle.tables.proofs.HeapLaws.{heaped-long}
 use Rattle.acts.proofs.Queues.{count-at}
 use Rattle.acts.proofs.Frame.{taken-all}
 use Rattle.step.specs.World.{Held, Says, Does, Apt, isSync, worldAt}
@@ -89,9 +91,9 @@ module _ {z : Sizes} {l : List ℕ} {g : List Float} {q q₁ : List ℕ} {e e₁
   pub taken-ready : Held z (worldAt b m (x .time)) l g q₁ e₁ o₁ (taken s) × Apt z ev (taken s)
   taken-ready = (taken-held s b m x h k i t, subst (λ (f : Event). Apt z f (taken s)) (sym event-is) (apt-taken z s (headEvent s) (head-apt s h st (ap cells k ∙ n))))
 
-  pub step-says : {Q : State → Type 0} {r : ℕ} (rate : Float) → Does (λ u. Held z (worldAt b m (x .time)) l g q₁ e₁ o₁ u × Apt z ev u) Q r (execute rate ev) → Says Q r (event rate s)
+  pub step-says : {Q : State → Type 0} {r : ℕ} (rate : Float) → Does (λ u. Held z (worldAt b m (x .time)) l g q₁ e₁ o₁ u × Apt z ev u) Q r (execution rate ev) → Says Q r (event rate s)
   unfolding event
-  step-says {Q} {r} rate d = subst (λ (f : Event). Says Q r (execute rate f (taken s))) event-is (d .says (taken s) taken-ready)
+  step-says {Q} {r} rate d = subst (Says Q r) (sym (execute-is rate (headEvent s) (taken s))) (subst (λ (f : Event). Says Q r (execution rate f (taken s))) event-is (d .says (taken s) taken-ready))
 
   pub step-sync : {c : Bool} → c ≡ isSync ev → c ≡ isSync (headEvent s)
   step-sync c = c ∙ ap isSync event-is

@@ -2,8 +2,7 @@
 ghost use Prim.Native.Nat.{ℕ, _-_, _<_, _≤_};
 ghost use Rattle.halting.specs.Out.{each, eachOf};
 ghost use Rattle.halting.specs.Every.{All};
-ghost use Rattle.model.specs.Doing.{boundaries};
-ghost use Rattle.model.specs.Start.{pairs as pairsIn, syncIn, initCell};
+ghost use Rattle.model.specs.Doing.{boundaries, pairs as pairsIn, syncIn, initCell};
 ghost use Rattle.tables.specs.Holds.{Ready, Queued};
 ghost use Rattle.step.specs.World.{Placed, Celled, Seen, Held, Some, Does};
 use crate::World;

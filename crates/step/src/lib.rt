@@ -1,8 +1,9 @@
 // schedule_events, the five executions, one step, and init_events, over the lent tables behind their headers.
 ghost use mathlib.Core.Path.{_≡_};
 ghost use Rattle.model.specs.State.{State};
-ghost use Rattle.model.specs.Doing.{headEvent, event as eventIn};
-ghost use Rattle.model.specs.Sound.{Stands};
+ghost use Rattle.model.specs.Execute.{headEvent, event as eventIn};
+ghost use Rattle.model.specs.Standing.{Standing};
+ghost use Rattle.model.specs.Check.{Fitted};
 ghost use Rattle.tables.specs.Holds.{Holds};
 ghost use Rattle.step.specs.World.{Placed, Held, Some, Says, isSync, worldAt};
 
@@ -75,8 +76,8 @@ pub fn step(
     grid: Grid,
     rate: f64,
 ) -> Stepped
-    requires { ⌜ Some (λ s. Holds z (now lists) (now grains) (now queue) (now events) (now order) s × (s .box ≡ domain) × Stands s) × Placed z domain grid ⌝ }
-    ensures { λ r. ⌜ ((s : State) → Holds z (now (lists .entry)) (now (grains .entry)) (now (queue .entry)) (now (events .entry)) (now (order .entry)) s → s .box ≡ domain → Stands s
+    requires { ⌜ Some (λ s. Holds z (now lists) (now grains) (now queue) (now events) (now order) s × (s .box ≡ domain) × Standing s × Fitted s) × Placed z domain grid ⌝ }
+    ensures { λ r. ⌜ ((s : State) → Holds z (now (lists .entry)) (now (grains .entry)) (now (queue .entry)) (now (events .entry)) (now (order .entry)) s → s .box ≡ domain → Standing s → Fitted s
         → Says (Held z (worldAt domain grid (r .clock)) (now (lists .exit)) (now (grains .exit)) (now (queue .exit)) (now (events .exit)) (now (order .exit))) (r .code) (eventIn rate s)
         × (r .sync ≡ isSync (headEvent s))) ⌝ }
 {

@@ -8,6 +8,7 @@ use lib.Ieee.{Float}
 use lib.ListN.{length, getD, set, length-set}
 use borrow.Rule.Slice.PartMut.{midOf, putMid}
 use Rattle.chunks.proofs.Laws.{row-long, row-get, row-put, chunk-in}
+use Rattle.layout.specs.Widths.{grainWide}
 use Rattle.model.specs.declared.Particle.{Particle}
 use Rattle.model.specs.State.{zeroG}
 use Rattle.tables.specs.declared.Sizes.{Sizes}
@@ -15,15 +16,15 @@ use Rattle.tables.specs.Layout.{grainReals}
 use Rattle.tables.specs.Holds.{Ranged, Grained}
 
 module _ {z : Sizes} {t : List Float} {gs : List Particle} (G : Grained z t gs) where
-  pub grains-long : length t ≡ z .grains * 6
-  grains-long = row-long grainReals 6 (λ p. refl) (lit< tt) gs (G .is) ∙ ap (λ (n : ℕ). n * 6) (G .many)
+  pub grains-long : length t ≡ z .grains * grainWide
+  grains-long = row-long grainReals grainWide (λ p. refl) (lit< tt) gs (G .is) ∙ ap (λ (n : ℕ). n * grainWide) (G .many)
 
   -- what reading or writing grain i asks
-  pub grain-fits : Ranged z → (i : ℕ) → i < z .grains → (i < 256) × (i * 6 + 6 ≤ length t)
-  grain-fits R i h = let k = grains-long in let c = chunk-in i (z .grains) 6 h in let m = R .grains-most in (omega arith, omega arith)
+  pub grain-fits : Ranged z → (i : ℕ) → i < z .grains → (i < 256) × (i * grainWide + grainWide ≤ length t)
+  grain-fits R i h = let k = grains-long in let c = chunk-in i (z .grains) grainWide h in let m = R .grains-most in (omega arith, omega arith)
 
-  pub grain-read : (i : ℕ) → i * 6 + 6 ≤ length t → midOf (i * 6) (i * 6 + 6 - i * 6) t ≡ grainReals (getD gs i zeroG)
-  grain-read i h = row-get grainReals 6 (λ p. refl) (lit< tt) gs i zeroG (G .is) h
+  pub grain-read : (i : ℕ) → i * grainWide + grainWide ≤ length t → midOf (i * grainWide) (i * grainWide + grainWide - i * grainWide) t ≡ grainReals (getD gs i zeroG)
+  grain-read i h = row-get grainReals grainWide (λ p. refl) (lit< tt) gs i zeroG (G .is) h
 
-  pub grain-written : (i : ℕ) (p : Particle) {ys : List Float} → i * 6 + 6 ≤ length t → ys ≡ grainReals p → Grained z (putMid (i * 6) (i * 6 + 6 - i * 6) t ys) (set gs i p)
-  grain-written i p h e = record { is = row-put grainReals 6 (λ p. refl) (lit< tt) gs i zeroG p (G .is) h e; many = length-set gs i p ∙ G .many }
+  pub grain-written : (i : ℕ) (p : Particle) {ys : List Float} → i * grainWide + grainWide ≤ length t → ys ≡ grainReals p → Grained z (putMid (i * grainWide) (i * grainWide + grainWide - i * grainWide) t ys) (set gs i p)
+  grain-written i p h e = record { is = row-put grainReals grainWide (λ p. refl) (lit< tt) gs i zeroG p (G .is) h e; many = length-set gs i p ∙ G .many }

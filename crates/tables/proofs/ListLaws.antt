@@ -6,19 +6,21 @@ use mathlib.Core.List.{List, [], _∷_, _++_, append-assoc, append-nil}
 use mathlib.Core.Bool.{Bool, true, false, cond}
 use lib.Dec.{eqb}
 use lib.ListN.{length, getD, set, take, drop, length-append, length-set}
-use lib.Seq.{getD-take, getD-drop}
 use borrow.Rule.Slice.PartMut.{midOf, putMid}
 use Rattle.halting.specs.Every.{All}
 use Rattle.chunks.specs.Flat.{flat}
 use Rattle.halting.proofs.All.{all-at, all-set, all-mid, all-to}
 use Rattle.chunks.proofs.Laws.{length-flat, length-front, flat-cut, flat-set, mid-at, put-at}
+use Rattle.layout.specs.Widths.{homeWide, membersWide, homeFrom, membersFrom}
 use Rattle.model.specs.Sizes.{memberRoom, homeRoom}
 use Rattle.model.specs.State.{Row, none, liveAt, has, but, pushed, pulled}
 use Rattle.model.proofs.Lists.{length-but}
 use Rattle.tables.specs.declared.Sizes.{Sizes}
+use Rattle.tables.specs.declared.parts.Part.{Part}
 use Rattle.tables.specs.Layout.{places, rowNums}
-use Rattle.tables.specs.Holds.{Rows, Listed}
-use Rattle.tables.proofs.RowLaws.{live-most}
+use Rattle.tables.specs.Parts.{homePart, memberPart, lent, back}
+use Rattle.tables.specs.Rows.{counted}
+use Rattle.tables.specs.Holds.{Ranged, Rows, Listed}
 
 -- ---- chunk c of a region of a table: what stands before the region, the region, what stands after it
 module _ {A B : Type 0} (f : A → List B) (w : ℕ) where
@@ -84,17 +86,6 @@ module _ {m w n : ℕ} {rs : List (Row ℕ)} (R : Rows m w n rs) where
       → putMid a k l ys ≡ pre ++ (flat rowNums (set rs i r) ++ post)
   family-put pre post i r a k h e p q f = region-put rowNums (suc w) pre post rs i none r a k rows-wide (rows-in i h) e p q f
 
-  -- its numbers in use, behind its count
-  pub family-live : (pre post : List ℕ) (i : ℕ) {l : List ℕ} (a k : ℕ) → i < m → l ≡ pre ++ (flat rowNums rs ++ post) → a ≡ length pre + i * suc w → k ≡ length (liveAt rs i) → midOf (a + 1) k l ≡ liveAt rs i
-  family-live pre post i a k h e p q =
-      let r = getD rs i none in
-      let before = pre ++ flat rowNums (take i rs) in
-      let after = flat rowNums (drop (suc i) rs) ++ post in
-      mid-at (before ++ length (r .live) ∷ []) (r .live) (r .spare ++ after) (a + 1) k
-      (region-cut rowNums (suc w) pre post rs i none (rows-in i h) e ∙ ap (λ (t : List ℕ). before ++ length (r .live) ∷ t) (append-assoc (r .live) (r .spare) after)
-      ∙ sym (append-assoc before (length (r .live) ∷ []) (r .live ++ (r .spare ++ after))))
-      (length-append before (length (r .live) ∷ []) ∙ ap (λ (t : ℕ). t + 1) (region-front rowNums (suc w) pre rs i a rows-wide (rows-in i h) p)) (sym q)
-
 -- ---- rows with one more, and with one less
 all-but : (P : ℕ → Type 0) (x : ℕ) (l : List ℕ) → All P l → All P (but x l)
 unfolding but
@@ -123,89 +114,67 @@ pushed-below n x r v h = all-mid (λ (y : ℕ). y < n) x (r .live) [] h (subst (
 pub pulled-below : (n x : ℕ) (r : Row ℕ) → Below n r → Below n (pulled x r)
 pulled-below n x r v = all-but (λ (y : ℕ). y < n) x (r .live) v
 
--- ---- the two families in one table: where grain g's row and cell c's row begin
-abbrev pub homeFrom : ℕ → ℕ
-homeFrom g = g * 9
+-- ---- the two families in one table: grain g's row and cell c's row, each at its part
 
-abbrev pub memberFrom : Sizes → ℕ → ℕ
-memberFrom z c = z .grains * 9 + c * 33
-
--- the parts as the code lends them, and puts them back
-abbrev pub homePart : ℕ → List ℕ → List ℕ
-homePart g l = midOf (homeFrom g) (homeFrom g + 9 - homeFrom g) l
-
-abbrev pub homeBack : ℕ → List ℕ → List ℕ → List ℕ
-homeBack g l ys = putMid (homeFrom g) (homeFrom g + 9 - homeFrom g) l ys
-
-abbrev pub memberPart : Sizes → ℕ → List ℕ → List ℕ
-memberPart z c l = midOf (memberFrom z c) (memberFrom z c + 33 - memberFrom z c) l
-
-abbrev pub memberBack : Sizes → ℕ → List ℕ → List ℕ → List ℕ
-memberBack z c l ys = putMid (memberFrom z c) (memberFrom z c + 33 - memberFrom z c) l ys
-
-mid-first : (a k : ℕ) (l : List ℕ) → 0 < k → getD (midOf a k l) 0 0 ≡ getD l a 0
-mid-first a k l h = getD-take k (drop a l) 0 0 h ∙ getD-drop a l 0 0 ∙ ap (λ (i : ℕ). getD l i 0) (omega arith)
+-- a part with some place, within the table and within the longest one
+abbrev pub Within : Part → List ℕ → Type 0
+Within p l = (p .from < p .to) × (p .to ≤ length l) × (p .to ≤ membersFrom 256 256)
 
 module _ {z : Sizes} {l : List ℕ} {hs ms : List (Row ℕ)} (S : Listed z l hs ms) where
-  homes-long : length (flat rowNums hs) ≡ z .grains * 9
+  homes-long : length (flat rowNums hs) ≡ homeFrom (z .grains)
   homes-long = rows-long (S .homes)
 
-  pub lists-long : length l ≡ z .grains * 9 + z .cells * 33
+  pub lists-long : length l ≡ membersFrom (z .grains) (z .cells)
   lists-long = ap length (S .is) ∙ length-append (flat rowNums hs) (flat rowNums ms) ∙ let a = homes-long in let b = rows-long (S .members) in omega arith
 
   at-members : l ≡ flat rowNums hs ++ (flat rowNums ms ++ [])
   at-members = S .is ∙ ap (λ (k : List ℕ). flat rowNums hs ++ k) (sym (append-nil (flat rowNums ms)))
 
-  -- each row lies within the table
-  pub home-in : (g : ℕ) → g < z .grains → homeFrom g + 9 ≤ length l
-  home-in g h = let k = lists-long in omega arith
+  module _ (g : ℕ) (h : g < z .grains) {p : Part} (e : p ≡ homePart g) where
+    home-from : p .from ≡ homeFrom g
+    home-from = ap (λ (q : Part). q .from) e
 
-  pub member-in : (c : ℕ) → c < z .cells → memberFrom z c + 33 ≤ length l
-  member-in c h = let k = lists-long in omega arith
+    home-wide : p .to - p .from ≡ homeWide
+    home-wide = let a = home-from in let b = ap (λ (q : Part). q .to) e in omega arith
 
-  -- the parts hold the rows
-  pub home-part : (g : ℕ) → g < z .grains → homePart g l ≡ rowNums (getD hs g none)
-  home-part g h = family-mid (S .homes) [] (flat rowNums ms) g (homeFrom g) (homeFrom g + 9 - homeFrom g) h (S .is) (omega arith) (omega arith)
+    -- the row lies within the table, and the part holds it
+    pub home-in : Ranged z → Within p l
+    home-in R = let a = home-from in let b = ap (λ (q : Part). q .to) e in let k = lists-long in (omega arith, omega arith, omega arith)
 
-  pub member-part : (c : ℕ) → c < z .cells → memberPart z c l ≡ rowNums (getD ms c none)
-  member-part c h = family-mid (S .members) (flat rowNums hs) [] c (memberFrom z c) (memberFrom z c + 33 - memberFrom z c) h at-members (let k = homes-long in omega arith) (omega arith)
+    pub home-part : lent p l ≡ rowNums (getD hs g none)
+    home-part = family-mid (S .homes) [] (flat rowNums ms) g (p .from) (p .to - p .from) h (S .is) (omega (arith, home-from)) home-wide
 
-  -- with another row put back, the table holds it in its place
-  pub home-back : (g : ℕ) (r : Row ℕ) {ys : List ℕ} → g < z .grains → ys ≡ rowNums r → Room homeRoom r → Below (z .cells) r → Listed z (homeBack g l ys) (set hs g r) ms
-  home-back g r h e v b = record {
-    is = family-put (S .homes) [] (flat rowNums ms) g r (homeFrom g) (homeFrom g + 9 - homeFrom g) h (S .is) (omega arith) (omega arith) e;
-    homes = rows-set (S .homes) g r v b;
-    members = S .members;
-  }
+    pub home-count : {n : ℕ} → n ≡ counted (lent p l) → n ≡ length (liveAt hs g)
+    home-count f = f ∙ ap counted home-part
 
-  pub member-back : (c : ℕ) (r : Row ℕ) {ys : List ℕ} → c < z .cells → ys ≡ rowNums r → Room memberRoom r → Below (z .grains) r → Listed z (memberBack z c l ys) hs (set ms c r)
-  member-back c r h e v b = record {
-    is = family-put (S .members) (flat rowNums hs) [] c r (memberFrom z c) (memberFrom z c + 33 - memberFrom z c) h at-members (let k = homes-long in omega arith) (omega arith) e
-        ∙ ap (λ (k : List ℕ). flat rowNums hs ++ k) (append-nil (flat rowNums (set ms c r)));
-    homes = S .homes;
-    members = rows-set (S .members) c r v b;
-  }
+    -- with another row put back, the table holds it in its place
+    pub home-back : (r : Row ℕ) {ys : List ℕ} → ys ≡ rowNums r → Room homeRoom r → Below (z .cells) r → Listed z (back p l ys) (set hs g r) ms
+    home-back r f v b = record {
+      is = family-put (S .homes) [] (flat rowNums ms) g r (p .from) (p .to - p .from) h (S .is) (omega (arith, home-from)) home-wide f;
+      homes = rows-set (S .homes) g r v b;
+      members = S .members;
+    }
 
-  -- the counts, where the code reads them
-  pub home-count : (g : ℕ) → g < z .grains → getD l (homeFrom g) 0 ≡ length (liveAt hs g)
-  home-count g h = sym (mid-first (homeFrom g) (homeFrom g + 9 - homeFrom g) l (omega arith)) ∙ ap (λ (k : List ℕ). getD k 0 0) (home-part g h)
+  module _ (c : ℕ) (h : c < z .cells) {p : Part} (e : p ≡ memberPart z c) where
+    member-from : p .from ≡ length (flat rowNums hs) + c * membersWide
+    member-from = ap (λ (q : Part). q .from) e ∙ (let k = homes-long in omega arith)
 
-  pub member-count : (c : ℕ) → c < z .cells → getD l (memberFrom z c) 0 ≡ length (liveAt ms c)
-  member-count c h = sym (mid-first (memberFrom z c) (memberFrom z c + 33 - memberFrom z c) l (omega arith)) ∙ ap (λ (k : List ℕ). getD k 0 0) (member-part c h)
+    member-wide : p .to - p .from ≡ membersWide
+    member-wide = let a = ap (λ (q : Part). q .from) e in let b = ap (λ (q : Part). q .to) e in omega arith
 
-  -- and they are within the rooms
-  pub home-most : (g : ℕ) → g < z .grains → length (liveAt hs g) ≤ homeRoom
-  home-most g h = let a = live-most (getD hs g none) in let b = row-room (S .homes) g h in omega arith
+    pub member-in : Ranged z → Within p l
+    member-in R = let a = ap (λ (q : Part). q .from) e in let b = ap (λ (q : Part). q .to) e in let k = lists-long in (omega arith, omega arith, omega arith)
 
-  pub member-most : (c : ℕ) → c < z .cells → length (liveAt ms c) ≤ memberRoom
-  member-most c h = let a = live-most (getD ms c none) in let b = row-room (S .members) c h in omega arith
+    pub member-part : lent p l ≡ rowNums (getD ms c none)
+    member-part = family-mid (S .members) (flat rowNums hs) [] c (p .from) (p .to - p .from) h at-members member-from member-wide
 
-  -- the numbers in use, as a part from behind the count
-  pub home-live : (g : ℕ) → g < z .grains → midOf (homeFrom g + 1) (homeFrom g + 1 + getD l (homeFrom g) 0 - (homeFrom g + 1)) l ≡ liveAt hs g
-  home-live g h =
-      family-live (S .homes) [] (flat rowNums ms) g (homeFrom g) (homeFrom g + 1 + getD l (homeFrom g) 0 - (homeFrom g + 1)) h (S .is) (omega arith) (let n = home-count g h in omega arith)
+    pub member-count : {n : ℕ} → n ≡ counted (lent p l) → n ≡ length (liveAt ms c)
+    member-count f = f ∙ ap counted member-part
 
-  pub member-live : (c : ℕ) → c < z .cells → midOf (memberFrom z c + 1) (memberFrom z c + 1 + getD l (memberFrom z c) 0 - (memberFrom z c + 1)) l ≡ liveAt ms c
-  member-live c h =
-      family-live (S .members) (flat rowNums hs) [] c (memberFrom z c) (memberFrom z c + 1 + getD l (memberFrom z c) 0 - (memberFrom z c + 1)) h at-members (let k = homes-long in omega arith)
-      (let n = member-count c h in omega arith)
+    pub member-back : (r : Row ℕ) {ys : List ℕ} → ys ≡ rowNums r → Room memberRoom r → Below (z .grains) r → Listed z (back p l ys) hs (set ms c r)
+    member-back r f v b = record {
+      is = family-put (S .members) (flat rowNums hs) [] c r (p .from) (p .to - p .from) h at-members member-from member-wide f
+          ∙ ap (λ (k : List ℕ). flat rowNums hs ++ k) (append-nil (flat rowNums (set ms c r)));
+      homes = S .homes;
+      members = rows-set (S .members) c r v b;
+    }

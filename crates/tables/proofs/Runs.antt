@@ -16,11 +16,12 @@ use Rattle.halting.specs.Every.{All}
 use Rattle.halting.proofs.All.{all-to}
 use Rattle.chunks.specs.Flat.{flat}
 use Rattle.chunks.proofs.Laws.{mid-tail, put-tail, row-long, row-get, row-put}
-use Rattle.order.specs.Numbers.{last}
+use Rattle.order.specs.Numbers.{f64Max}
+use Rattle.layout.specs.Widths.{placeNumsWide, placeRealsWide, queueWide, eventsWide}
 use Rattle.model.specs.declared.Place.{Place}
 use Rattle.model.specs.Events.{insertBy, zeroP, keepBy, goneBy, names, eventOf, fineV, finePlace}
 use Rattle.model.specs.State.{Row}
-use Rattle.model.specs.Sound.{Held, Queue}
+use Rattle.model.proofs.Sound.{Held, Queue}
 use Rattle.model.proofs.Queue.{fine-low, length-keep}
 use Rattle.tables.specs.Layout.{places, placeNums, placeReals, queueNums, queueReals}
 use Rattle.tables.specs.Holds.{Run, Good}
@@ -29,77 +30,77 @@ use Rattle.tables.specs.Places.{Passed, Keeping}
 -- ---- rule 5 of a place, in the order in which it is tested
 
 pub fine-is : (s : Place)
-    → finePlace s ≡ finite (s .time) && (lt (s .time) last && (fineV (s .a) && (fineV (s .b) && (fineV (s .c) && (fineV (s .d) && finite (s .val))))))
+    → finePlace s ≡ finite (s .time) && (lt (s .time) f64Max && (fineV (s .a) && (fineV (s .b) && (fineV (s .c) && (fineV (s .d) && finite (s .val))))))
 unfolding finePlace
-fine-is s = and-assoc (finite (s .time)) (lt (s .time) last) (fineV (s .a) && (fineV (s .b) && (fineV (s .c) && (fineV (s .d) && finite (s .val)))))
+fine-is s = and-assoc (finite (s .time)) (lt (s .time) f64Max) (fineV (s .a) && (fineV (s .b) && (fineV (s .c) && (fineV (s .d) && finite (s .val)))))
 
 -- ---- one place of a run
 
-module _ {ns : List ℕ} {rs : List Float} {ps : List Place} (h : Run ns rs ps) (i : ℕ) (m : i * 4 + 4 ≤ length ns) (n : i * 10 + 10 ≤ length rs) where
-  pub place-read : Run (midOf (i * 4) (i * 4 + 4 - i * 4) ns) (midOf (i * 10) (i * 10 + 10 - i * 10) rs) (getD ps i zeroP ∷ [])
+module _ {ns : List ℕ} {rs : List Float} {ps : List Place} (h : Run ns rs ps) (i : ℕ) (m : i * placeNumsWide + placeNumsWide ≤ length ns) (n : i * placeRealsWide + placeRealsWide ≤ length rs) where
+  pub place-read : Run (midOf (i * placeNumsWide) (i * placeNumsWide + placeNumsWide - i * placeNumsWide) ns) (midOf (i * placeRealsWide) (i * placeRealsWide + placeRealsWide - i * placeRealsWide) rs) (getD ps i zeroP ∷ [])
   place-read = record {
-    nums-is = row-get placeNums 4 (λ p. refl) (lit< tt) ps i zeroP (h .nums-is) m;
-    reals-is = row-get placeReals 10 (λ p. refl) (lit< tt) ps i zeroP (h .reals-is) n;
+    nums-is = row-get placeNums placeNumsWide (λ p. refl) (lit< tt) ps i zeroP (h .nums-is) m;
+    reals-is = row-get placeReals placeRealsWide (λ p. refl) (lit< tt) ps i zeroP (h .reals-is) n;
   }
 
   pub place-written : {s : Place} {ns′ : List ℕ} {rs′ : List Float} → Run ns′ rs′ (s ∷ [])
-      → Run (putMid (i * 4) (i * 4 + 4 - i * 4) ns ns′) (putMid (i * 10) (i * 10 + 10 - i * 10) rs rs′) (set ps i s)
+      → Run (putMid (i * placeNumsWide) (i * placeNumsWide + placeNumsWide - i * placeNumsWide) ns ns′) (putMid (i * placeRealsWide) (i * placeRealsWide + placeRealsWide - i * placeRealsWide) rs rs′) (set ps i s)
   place-written {s} k = record {
-    nums-is = row-put placeNums 4 (λ p. refl) (lit< tt) ps i zeroP s (h .nums-is) m (k .nums-is);
-    reals-is = row-put placeReals 10 (λ p. refl) (lit< tt) ps i zeroP s (h .reals-is) n (k .reals-is);
+    nums-is = row-put placeNums placeNumsWide (λ p. refl) (lit< tt) ps i zeroP s (h .nums-is) m (k .nums-is);
+    reals-is = row-put placeReals placeRealsWide (λ p. refl) (lit< tt) ps i zeroP s (h .reals-is) n (k .reals-is);
   }
 
 flat-append : {A B : Type 0} (enc : A → List B) (xs ys : List A) → flat enc (xs ++ ys) ≡ flat enc xs ++ flat enc ys
 flat-append enc [] ys = refl
 flat-append {B = B} enc (x ∷ xs) ys = ap (λ (l : List B). enc x ++ l) (flat-append enc xs ys) ∙ sym (append-assoc (enc x) (flat enc xs) (flat enc ys))
 
-pub nums-long : (ps : List Place) → length (flat placeNums ps) ≡ length ps * 4
-nums-long ps = row-long placeNums 4 (λ x. refl) (omega arith) ps refl
+pub nums-long : (ps : List Place) → length (flat placeNums ps) ≡ length ps * placeNumsWide
+nums-long ps = row-long placeNums placeNumsWide (λ x. refl) (omega arith) ps refl
 
-pub reals-long : (ps : List Place) → length (flat placeReals ps) ≡ length ps * 10
-reals-long ps = row-long placeReals 10 (λ x. refl) (omega arith) ps refl
+pub reals-long : (ps : List Place) → length (flat placeReals ps) ≡ length ps * placeRealsWide
+reals-long ps = row-long placeReals placeRealsWide (λ x. refl) (omega arith) ps refl
 
 -- ---- rows of events
-pub row-nums-long : (room : ℕ) (r : Row Place) → length (places r) ≡ room → length (queueNums r) ≡ room * 4 + 1
+pub row-nums-long : (room : ℕ) (r : Row Place) → length (places r) ≡ room → length (queueNums r) ≡ queueWide room
 row-nums-long room r f = let e = nums-long (places r) in omega (arith, e, f)
 
-pub row-reals-long : (room : ℕ) (r : Row Place) → length (places r) ≡ room → length (queueReals r) ≡ room * 10
+pub row-reals-long : (room : ℕ) (r : Row Place) → length (places r) ≡ room → length (queueReals r) ≡ eventsWide room
 row-reals-long room r f = let e = reals-long (places r) in omega (arith, e, f)
 
 module _ (room : ℕ) (qs : List (Row Place)) (g : All (Good room) qs) where
-  pub rows-nums-wide : All (λ (r : Row Place). length (queueNums r) ≡ room * 4 + 1) qs
-  rows-nums-wide = all-to (Good room) (λ (r : Row Place). length (queueNums r) ≡ room * 4 + 1) qs (λ r k. row-nums-long room r (k .full)) g
+  pub rows-nums-wide : All (λ (r : Row Place). length (queueNums r) ≡ queueWide room) qs
+  rows-nums-wide = all-to (Good room) (λ (r : Row Place). length (queueNums r) ≡ queueWide room) qs (λ r k. row-nums-long room r (k .full)) g
 
-  pub rows-reals-wide : All (λ (r : Row Place). length (queueReals r) ≡ room * 10) qs
-  rows-reals-wide = all-to (Good room) (λ (r : Row Place). length (queueReals r) ≡ room * 10) qs (λ r k. row-reals-long room r (k .full)) g
+  pub rows-reals-wide : All (λ (r : Row Place). length (queueReals r) ≡ eventsWide room) qs
+  rows-reals-wide = all-to (Good room) (λ (r : Row Place). length (queueReals r) ≡ eventsWide room) qs (λ r k. row-reals-long room r (k .full)) g
 
 -- a sound queue is a good row
 pub good-of : (n c : ℕ) (m : List ℕ) {t : Float} {room : ℕ} (r : Row Place) → Queue t room n c m r → Good room r
 good-of n c m r q = record {
   full = length-append (r .live) (r .spare) ∙ q .full;
-  tops = all-to (Held n c m) (λ (p : Place). lt last (p .time) ≡ false) (r .live) (λ p h. fine-low p (h .fine)) (q .held);
+  tops = all-to (Held n c m) (λ (p : Place). lt f64Max (p .time) ≡ false) (r .live) (λ p h. fine-low p (h .fine)) (q .held);
 }
 
 -- ---- the tables behind some places
 module _ (k : ℕ) (front ps : List Place) {ns : List ℕ} {rs : List Float} (e : length front ≡ k) (h : Run ns rs (front ++ ps)) where
-  nums-front : length (flat placeNums front) ≡ k * 4
-  nums-front = nums-long front ∙ ap (λ (n : ℕ). n * 4) e
+  nums-front : length (flat placeNums front) ≡ k * placeNumsWide
+  nums-front = nums-long front ∙ ap (λ (n : ℕ). n * placeNumsWide) e
 
-  reals-front : length (flat placeReals front) ≡ k * 10
-  reals-front = reals-long front ∙ ap (λ (n : ℕ). n * 10) e
+  reals-front : length (flat placeReals front) ≡ k * placeRealsWide
+  reals-front = reals-long front ∙ ap (λ (n : ℕ). n * placeRealsWide) e
 
-  pub behind : Run (midOf (k * 4) (length ns - k * 4) ns) (midOf (k * 10) (length rs - k * 10) rs) ps
+  pub behind : Run (midOf (k * placeNumsWide) (length ns - k * placeNumsWide) ns) (midOf (k * placeRealsWide) (length rs - k * placeRealsWide) rs) ps
   behind = record {
-    nums-is = mid-tail (flat placeNums front) (flat placeNums ps) (k * 4) (h .nums-is ∙ flat-append placeNums front ps) nums-front;
-    reals-is = mid-tail (flat placeReals front) (flat placeReals ps) (k * 10) (h .reals-is ∙ flat-append placeReals front ps) reals-front;
+    nums-is = mid-tail (flat placeNums front) (flat placeNums ps) (k * placeNumsWide) (h .nums-is ∙ flat-append placeNums front ps) nums-front;
+    reals-is = mid-tail (flat placeReals front) (flat placeReals ps) (k * placeRealsWide) (h .reals-is ∙ flat-append placeReals front ps) reals-front;
   }
 
   pub put-behind : {ns′ : List ℕ} {rs′ : List Float} {qs : List Place} → Run ns′ rs′ qs
-      → Run (putMid (k * 4) (length ns - k * 4) ns ns′) (putMid (k * 10) (length rs - k * 10) rs rs′) (front ++ qs)
+      → Run (putMid (k * placeNumsWide) (length ns - k * placeNumsWide) ns ns′) (putMid (k * placeRealsWide) (length rs - k * placeRealsWide) rs rs′) (front ++ qs)
   put-behind {ns′} {rs′} {qs} r = record {
-    nums-is = put-tail (flat placeNums front) (flat placeNums ps) (k * 4) ns′ (h .nums-is ∙ flat-append placeNums front ps) nums-front
+    nums-is = put-tail (flat placeNums front) (flat placeNums ps) (k * placeNumsWide) ns′ (h .nums-is ∙ flat-append placeNums front ps) nums-front
         ∙ ap (λ (l : List ℕ). flat placeNums front ++ l) (r .nums-is) ∙ sym (flat-append placeNums front qs);
-    reals-is = put-tail (flat placeReals front) (flat placeReals ps) (k * 10) rs′ (h .reals-is ∙ flat-append placeReals front ps) reals-front
+    reals-is = put-tail (flat placeReals front) (flat placeReals ps) (k * placeRealsWide) rs′ (h .reals-is ∙ flat-append placeReals front ps) reals-front
         ∙ ap (λ (l : List Float). flat placeReals front ++ l) (r .reals-is) ∙ sym (flat-append placeReals front qs);
   }
 
@@ -205,11 +206,11 @@ pub free-first : (live rest : List Place) (x : Place) {ns : List ℕ} {rs : List
 free-first live rest x h = record { front = []; back = live; over = x; is = refl; many = refl; holds = h }
 
 -- the one before it moves up
-pub moved-up : {live rest : List Place} {i : ℕ} {ns ns′ : List ℕ} {rs rs′ : List Float} {last : Place} → Moved live rest i ns rs → 0 < i
-    → ((ps : List Place) → Run ns rs ps → last ≡ getD ps (i - 1) zeroP)
-    → ((ps : List Place) → Run ns rs ps → Run ns′ rs′ (set ps i last))
+pub moved-up : {live rest : List Place} {i : ℕ} {ns ns′ : List ℕ} {rs rs′ : List Float} {f64Max : Place} → Moved live rest i ns rs → 0 < i
+    → ((ps : List Place) → Run ns rs ps → f64Max ≡ getD ps (i - 1) zeroP)
+    → ((ps : List Place) → Run ns rs ps → Run ns′ rs′ (set ps i f64Max))
     → Moved live rest (i - 1) ns′ rs′
-moved-up {live} {rest} {i} {ns} {ns′} {rs} {rs′} {last} m p got put =
+moved-up {live} {rest} {i} {ns} {ns′} {rs} {rs′} {f64Max} m p got put =
     let e = ended (m .front) (let k = m .many in omega arith) in
     let t = m .back ++ rest in
     let k = ap length (e .is) in
@@ -218,7 +219,7 @@ moved-up {live} {rest} {i} {ns} {ns′} {rs} {rs′} {last} m p got put =
     let short : length (e .front) ≡ i - 1 = omega arith in
     let h : Run ns rs ((e .front ++ e .end ∷ []) ++ m .over ∷ t) = subst (λ (f : List Place). Run ns rs (f ++ m .over ∷ t)) (e .is) (m .holds) in
     let h₁ : Run ns rs (e .front ++ e .end ∷ m .over ∷ t) = subst (Run ns rs) (append-assoc (e .front) (e .end ∷ []) (m .over ∷ t)) h in
-    let same : last ≡ e .end = got (e .front ++ e .end ∷ m .over ∷ t) h₁ ∙ getD-at (e .front) (e .end) (m .over ∷ t) zeroP _ short in
+    let same : f64Max ≡ e .end = got (e .front ++ e .end ∷ m .over ∷ t) h₁ ∙ getD-at (e .front) (e .end) (m .over ∷ t) zeroP _ short in
     let long : length (e .front ++ e .end ∷ []) ≡ i = omega arith in
     record {
       front = e .front;
@@ -228,7 +229,7 @@ moved-up {live} {rest} {i} {ns} {ns′} {rs} {rs′} {last} m p got put =
       many = short;
       holds =
           subst (Run ns′ rs′)
-          (set-at (e .front ++ e .end ∷ []) (m .over) t last _ long ∙ ap (λ (y : Place). (e .front ++ e .end ∷ []) ++ y ∷ t) same
+          (set-at (e .front ++ e .end ∷ []) (m .over) t f64Max _ long ∙ ap (λ (y : Place). (e .front ++ e .end ∷ []) ++ y ∷ t) same
           ∙ append-assoc (e .front) (e .end ∷ []) (e .end ∷ t))
           (put ((e .front ++ e .end ∷ []) ++ m .over ∷ t) h);
     }
@@ -355,16 +356,16 @@ passed-all {s} m e p =
     }
 
 pub insert-ends : {s : Place} {live : List Place} {i n : ℕ} {ns ns′ : List ℕ} {rs rs′ : List Float} (rest : List Place) (x : Place) → Passed s live i → n ≡ length live
-    → ((live rest : List Place) (x : Place) → n - i ≡ length live → Run (midOf (i * 4) (length ns - i * 4) ns) (midOf (i * 10) (length rs - i * 10) rs) (live ++ x ∷ rest) → Run ns′ rs′ (s ∷ live ++ rest))
+    → ((live rest : List Place) (x : Place) → n - i ≡ length live → Run (midOf (i * placeNumsWide) (length ns - i * placeNumsWide) ns) (midOf (i * placeRealsWide) (length rs - i * placeRealsWide) rs) (live ++ x ∷ rest) → Run ns′ rs′ (s ∷ live ++ rest))
     → Run ns rs (live ++ x ∷ rest)
-    → Run (putMid (i * 4) (length ns - i * 4) ns ns′) (putMid (i * 10) (length rs - i * 10) rs rs′) (insertBy s live ++ rest)
+    → Run (putMid (i * placeNumsWide) (length ns - i * placeNumsWide) ns ns′) (putMid (i * placeRealsWide) (length rs - i * placeRealsWide) rs rs′) (insertBy s live ++ rest)
 insert-ends {s} {live} {i} {n} {ns} {ns′} {rs} {rs′} rest x m e push h =
     let k = ap length (m .is) in
     let l = length-append (m .front) (m .back) in
     let q = m .many in
     let cut : live ++ x ∷ rest ≡ m .front ++ (m .back ++ x ∷ rest) = ap (λ (f : List Place). f ++ x ∷ rest) (m .is) ∙ append-assoc (m .front) (m .back) (x ∷ rest) in
     let h₁ : Run ns rs (m .front ++ (m .back ++ x ∷ rest)) = subst (Run ns rs) cut h in
-    subst (Run (putMid (i * 4) (length ns - i * 4) ns ns′) (putMid (i * 10) (length rs - i * 10) rs rs′))
+    subst (Run (putMid (i * placeNumsWide) (length ns - i * placeNumsWide) ns ns′) (putMid (i * placeRealsWide) (length rs - i * placeRealsWide) rs rs′))
     (sym (append-assoc (m .front) (s ∷ m .back) rest) ∙ ap (λ (f : List Place). f ++ rest) (sym (m .goes)))
     (put-behind i (m .front) (m .back ++ x ∷ rest) (m .many) h₁ (push (m .back) rest x (omega arith) (behind i (m .front) (m .back ++ x ∷ rest) (m .many) h₁)))
 

@@ -2,7 +2,7 @@
 use Prim.Native.Nat.{ℕ}
 use mathlib.Core.List.{List, [], _∷_, _++_}
 use mathlib.Core.Bool.{Bool, true, false}
-use lib.ListN.{length, drop}
+use lib.ListN.{length, drop, set}
 use lib.Ieee.{Float}
 use Rattle.chunks.specs.Flat.{flat}
 use Rattle.model.specs.declared.Domain.{Domain}
@@ -26,6 +26,13 @@ listsHead m z b = m ∷ z .grains ∷ z .cells ∷ z .room ∷ flagged (b .perio
 -- of grains: the box's lengths, the clock
 abbrev pub grainsHead : Domain → Float → List Float
 grainsHead b t = b .lengths .x ∷ b .lengths .y ∷ t ∷ []
+
+-- another mark, another clock
+abbrev pub withMark : ℕ → List ℕ → List ℕ
+withMark m l = set l 0 m
+
+abbrev pub withClock : Float → List Float → List Float
+withClock t g = set g 2 t
 
 -- ---- some places in front, and beyond them what was there
 abbrev pub over : {A : Type 0} → List A → List A → List A

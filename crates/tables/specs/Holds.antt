@@ -8,7 +8,7 @@ use lib.Ieee.{Float, lt}
 use Rattle.halting.specs.Every.{All}
 use Rattle.chunks.specs.Flat.{flat}
 use Rattle.halting.specs.Out.{Out}
-use Rattle.order.specs.Numbers.{last}
+use Rattle.order.specs.Numbers.{f64Max}
 use Rattle.layout.specs.Widths.{heapWide}
 use Rattle.scheduler.specs.declared.Scheduler.{Scheduler}
 use Rattle.model.specs.declared.Particle.{Particle}
@@ -49,7 +49,7 @@ pub record Run (nums : List ℕ) (reals : List Float) (ps : List Place) : Type 0
 -- a row of `room` places, with no event later than f64::MAX
 pub record Good (room : ℕ) (r : Row Place) : Type 0 where
   pub full : length (places r) ≡ room
-  pub tops : All (λ (p : Place). lt last (p .time) ≡ false) (r .live)
+  pub tops : All (λ (p : Place). lt f64Max (p .time) ≡ false) (r .live)
 
 pub record Tabled (z : Sizes) (queue : List ℕ) (events : List Float) (qs : List (Row Place)) : Type 0 where
   pub queue-is : queue ≡ flat queueNums qs

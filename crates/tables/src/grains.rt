@@ -1,14 +1,15 @@
-// The grains' floats: position, velocity, time and value of each.
+// The grains' floats: position, velocity, time and value of each; and those that it starts with, all but the time.
 ghost use mathlib.Core.Path.{_≡_};
 ghost use Prim.Native.Nat.{_+_, _*_, _<_, _≤_};
 ghost use mathlib.Core.List.{List};
 ghost use lib.ListN.{length, set, getD};
-ghost use Rattle.layout.specs.Widths.{grainWide};
+ghost use Rattle.layout.specs.Widths.{grainWide, inputWide};
 ghost use Rattle.model.specs.declared.Particle.{Particle as Grain};
 ghost use Rattle.model.specs.State.{zeroG};
 ghost use Rattle.tables.specs.declared.Sizes.{Sizes as Counts};
 ghost use Rattle.tables.specs.Layout.{grainReals};
 ghost use Rattle.tables.specs.Holds.{Grained};
+ghost use Rattle.tables.specs.Inputs.{inputAt};
 use layout::GRAIN;
 use model::Particle;
 use myvec::MyVec;
@@ -36,6 +37,25 @@ pub fn write_grain(s: &mut [f64], p: Particle)
     s[3] = p.vel.y;
     s[4] = p.time;
     s[5] = p.val;
+}
+
+// The first grain of the start numbers, at time 0.
+pub fn read_input(inputs: &[f64]) -> Particle
+    requires { ⌜ inputWide ≤ length (now inputs) ⌝ }
+    ensures { λ r. ⌜ r ≡ inputAt (now (inputs .entry)) ⌝ }
+{
+    Particle {
+        pos: MyVec {
+            x: inputs[0],
+            y: inputs[1],
+        },
+        vel: MyVec {
+            x: inputs[2],
+            y: inputs[3],
+        },
+        time: 0.0,
+        val: inputs[4],
+    }
 }
 
 // Grain i of the table.

@@ -6,7 +6,31 @@ ghost use mathlib.Core.List.{List, _∷_, _++_};
 ghost use lib.ListN.{length, take};
 ghost use Rattle.model.specs.State.{Row, has, but, pushed, pulled};
 ghost use Rattle.tables.specs.Layout.{places, rowNums};
-ghost use Rattle.tables.specs.Rows.{InNums};
+ghost use Rattle.tables.specs.Parts.{lent};
+ghost use Rattle.tables.specs.Rows.{InNums, counted};
+use crate::parts::Part;
+
+// How many places of a row are in use: its first number. A row of events has it too.
+pub fn count_of(row: &[u64]) -> usize
+    requires { ⌜ 0 < length (now row) ⌝ }
+    ensures { λ n. ⌜ n ≡ counted (now (row .entry)) ⌝ }
+{
+    row[0] as usize
+}
+
+// Where the numbers in use stand, of the row at a part of a table.
+pub fn live_of(t: &[u64], p: Part) -> Part
+    requires { ⌜ ((r : Row ℕ) × (lent p (now t) ≡ rowNums r)) × (p .to ≤ length (now t)) ⌝ }
+    ensures { λ q. ⌜ (q .from ≤ q .to) × (q .to ≤ length (now (t .entry)))
+        × ((r : Row ℕ) → lent p (now (t .entry)) ≡ rowNums r → lent q (now (t .entry)) ≡ r .live) ⌝ }
+{
+    let at = p.from;
+    let n = t[at] as usize;
+    Part {
+        from: at + 1,
+        to: at + 1 + n,
+    }
+}
 
 // Is x among the first n?
 pub fn has(nums: &[u64], n: usize, x: u64) -> bool

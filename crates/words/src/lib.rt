@@ -2,7 +2,7 @@
 ghost use Prim.Native.Nat.{_≤_};
 use libc::STDIN_FILENO;
 use libc::STDOUT_FILENO;
-use listing_text::hex_value;
+use text::hex_value;
 
 // What is read: a word, something that is none, or the end.
 pub enum Word {

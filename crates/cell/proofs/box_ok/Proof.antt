@@ -1,20 +1,19 @@
 -- `box_ok` answers whether both lengths are in range. Assumes nothing.
 use borrow.Author.Needs.{needs}
-use Rattle.halting.proofs.Bools.{both, neither}
 use Rattle.cell.proofs.box_ok.Statement.{statement}
 use Rattle.cell.proofs.box_ok.Tie as tie
 
-within-requires : tie.Need-within-requires
-within-requires c κs = search needs
+length-ok-requires : tie.Need-length-ok-requires
+length-ok-requires c κs = search needs
 
-within-requires-2 : tie.Need-within-requires-2
-within-requires-2 c κs = search needs
+length-ok-requires-2 : tie.Need-length-ok-requires-2
+length-ok-requires-2 c κs = search needs
 
 returns : tie.Need-returns
-returns c = both _ _ _ _ (c .before .before .within .ensures) (c .before .if1 .taken) (c .within2 .ensures)
+returns c = cc
 
 returns-2 : tie.Need-returns-2
-returns-2 c = neither _ _ _ (c .before .within .ensures) (c .if1 .left)
+returns-2 c = cc
 
 pub box-ok-spec : {M : Type 1} → statement M
-box-ok-spec = tie.close (tie.spec within-requires within-requires-2 returns returns-2)
+box-ok-spec = tie.close (tie.spec length-ok-requires length-ok-requires-2 returns returns-2)

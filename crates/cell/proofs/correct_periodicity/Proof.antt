@@ -1,8 +1,5 @@
 -- The correction goes by the position. Assumes nothing.
-use mathlib.Core.Path.{sym, ap, _∙_}
 use borrow.Author.Needs.{needs}
-use Rattle.model.specs.Periodic.{corrected}
-use Rattle.model.specs.declared.CellPosition.{CellPosition}
 use Rattle.cell.proofs.correct_periodicity.Statement.{statement}
 use Rattle.cell.proofs.correct_periodicity.Tie as tie
 
@@ -22,13 +19,13 @@ nearer-requires-2 : tie.Need-nearer-requires-2
 nearer-requires-2 c κs = search needs
 
 returns : tie.Need-returns
-returns c = c .nearer .ensures ∙ sym (ap (λ (k : CellPosition). corrected (c .before .before .before .args .length) k (c .before .before .before .args .dpos)) (c .before .enum-told .given .1))
+returns c = cc
 
 returns-2 : tie.Need-returns-2
 returns-2 c = search needs
 
 returns-3 : tie.Need-returns-3
-returns-3 c = c .nearer2 .ensures ∙ sym (ap (λ (k : CellPosition). corrected (c .before .before .before .args .length) k (c .before .before .before .args .dpos)) (c .before .enum-told3 .given .1))
+returns-3 c = cc
 
 pub correct-periodicity-spec : {M : Type 1} → statement M
 correct-periodicity-spec =

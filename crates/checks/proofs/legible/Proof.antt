@@ -1,25 +1,20 @@
 -- `legible` meets its contract. Assumes nothing.
 use mathlib.Core.Path.{sym, ap, _∙_}
-use borrow.Author.Tests.{le-leb, lt-leb, not-true, not-false}
-use Rattle.chunks.proofs.Laws.{tail-long, tail-is}
+use borrow.Author.Tests.{not-true, not-false}
+use Rattle.chunks.proofs.Laws.{tail-is}
 use Prim.Native.Nat.{_+_, _*_}
 use Rattle.checks.specs.Check.{counted}
-use native.Mathlib.Omega.{arith}
 use borrow.Author.Needs.{needs}
 use Rattle.checks.proofs.legible.Statement.{statement}
 use Rattle.checks.proofs.legible.Tie as tie
 
-shared-slice-read-if1 : tie.Need-shared-slice-read-if1
-shared-slice-read-if1 c = search needs
+flags-fine-requires : tie.Need-flags-fine-requires
+flags-fine-requires c κs = search needs
 
 returns : tie.Need-returns
-returns c = rw (lt-leb _ _ (c .if1 .taken))
-
-shared-slice-read-if2 : tie.Need-shared-slice-read-if2
-shared-slice-read-if2 c = search needs
-
-returns-2 : tie.Need-returns-2
-returns-2 c = rw (le-leb _ _ (c .before .before .if1 .left), lt-leb _ _ (c .if2 .taken))
+returns c =
+    let f : tie.After-flags-fine = search in
+    rw (sym (f .flags-fine .ensures) ∙ not-true _ (c .if1 .taken))
 
 sub-counted : tie.Need-sub-counted
 sub-counted c = search needs
@@ -31,10 +26,18 @@ part-counted-end : tie.Need-part-counted-end
 part-counted-end c = search needs
 
 counted-requires : tie.Need-counted-requires
-counted-requires c κs = let b = c .before .before .before .before .before .before .before in let l = b .args .lists .now in (omega arith, (let e = tail-long 6 l in let k = b .pre .0 in omega arith))
+counted-requires c κs = search needs
 
-returns-3 : tie.Need-returns-3
-returns-3 c = rw (le-leb _ _ (c .before .before .before .before .before .if1 .left), le-leb _ _ (c .before .before .before .if2 .left), ap (counted 8 9 (c .before .before .before .before .before .before .before .before .before .args .z .grains)) (sym (tail-is 6 (c .before .before .before .before .before .before .before .before .before .args .lists .now))) ∙ sym (c .before .counted .ensures) ∙ not-true _ (c .if3 .taken))
+returns-2 : tie.Need-returns-2
+returns-2 c =
+    let c1 : tie.After-counted = search in
+    let else1 : tie.Else1 = search in
+    let f : tie.After-flags-fine = search in
+    let start : tie.Start = search in
+    rw (
+      sym (f .flags-fine .ensures) ∙ not-false _ (else1 .if1 .left),
+      ap (counted 8 9 (start .args .z .grains)) (sym (tail-is 6 (start .args .lists .now))) ∙ sym (c1 .counted .ensures) ∙ not-true _ (c .if2 .taken),
+    )
 
 mul-a : tie.Need-mul-a
 mul-a c = search needs
@@ -55,10 +58,23 @@ part-counted-end-2 : tie.Need-part-counted-end-2
 part-counted-end-2 c = search needs
 
 counted-requires-2 : tie.Need-counted-requires-2
-counted-requires-2 c κs = let b = c .before .before .before .before .before .before .before .before .before .before in let z = b .args .z in let l = b .args .lists .now in (omega arith, (let e = tail-long (6 + z .grains * 9) l in let k = b .pre .0 in omega arith))
+counted-requires-2 c κs = search needs
 
-returns-4 : tie.Need-returns-4
-returns-4 c = rw (le-leb _ _ (c .before .before .before .before .before .before .before .before .if1 .left), le-leb _ _ (c .before .before .before .before .before .before .if2 .left), ap (counted 8 9 (c .before .before .before .before .before .before .before .before .before .before .before .before .args .z .grains)) (sym (tail-is 6 (c .before .before .before .before .before .before .before .before .before .before .before .before .args .lists .now))) ∙ sym (c .before .before .before .before .counted .ensures) ∙ not-false _ (c .before .before .before .if3 .left), ap (counted 32 33 (c .before .before .before .before .before .before .before .before .before .before .before .before .args .z .cells)) (sym (tail-is (6 + c .before .before .before .before .before .before .before .before .before .before .before .before .args .z .grains * 9) (c .before .before .before .before .before .before .before .before .before .before .before .before .args .lists .now))) ∙ sym (c .before .counted2 .ensures) ∙ not-true _ (c .if4 .taken))
+returns-3 : tie.Need-returns-3
+returns-3 c =
+    let c2 : tie.After-counted2 = search in
+    let else2 : tie.Else2 = search in
+    let c1 : tie.After-counted = search in
+    let else1 : tie.Else1 = search in
+    let f : tie.After-flags-fine = search in
+    let start : tie.Start = search in
+    let z = start .args .z in
+    let l = start .args .lists .now in
+    rw (
+      sym (f .flags-fine .ensures) ∙ not-false _ (else1 .if1 .left),
+      ap (counted 8 9 (z .grains)) (sym (tail-is 6 l)) ∙ sym (c1 .counted .ensures) ∙ not-false _ (else2 .if2 .left),
+      ap (counted 32 33 (z .cells)) (sym (tail-is (6 + z .grains * 9) l)) ∙ sym (c2 .counted2 .ensures) ∙ not-true _ (c .if3 .taken),
+    )
 
 mul-w : tie.Need-mul-w
 mul-w c = search needs
@@ -67,24 +83,37 @@ add-w : tie.Need-add-w
 add-w c = search needs
 
 counted-requires-3 : tie.Need-counted-requires-3
-counted-requires-3 c κs = let b = c .before .before .before .before .before .before .before .before .before .before .before .before in (omega arith, b .pre .1)
+counted-requires-3 c κs = search needs
 
-returns-5 : tie.Need-returns-5
-returns-5 c = rw (le-leb _ _ (c .before .before .before .before .before .before .before .before .before .if1 .left), le-leb _ _ (c .before .before .before .before .before .before .before .if2 .left), ap (counted 8 9 (c .before .before .before .before .before .before .before .before .before .before .before .before .before .args .z .grains)) (sym (tail-is 6 (c .before .before .before .before .before .before .before .before .before .before .before .before .before .args .lists .now))) ∙ sym (c .before .before .before .before .before .counted .ensures) ∙ not-false _ (c .before .before .before .before .if3 .left), ap (counted 32 33 (c .before .before .before .before .before .before .before .before .before .before .before .before .before .args .z .cells)) (sym (tail-is (6 + c .before .before .before .before .before .before .before .before .before .before .before .before .before .args .z .grains * 9) (c .before .before .before .before .before .before .before .before .before .before .before .before .before .args .lists .now))) ∙ sym (c .before .before .counted2 .ensures) ∙ not-false _ (c .before .if4 .left)) (c .counted3 .ensures)
+returns-4 : tie.Need-returns-4
+returns-4 c =
+    let else3 : tie.Else3 = search in
+    let c2 : tie.After-counted2 = search in
+    let else2 : tie.Else2 = search in
+    let c1 : tie.After-counted = search in
+    let else1 : tie.Else1 = search in
+    let f : tie.After-flags-fine = search in
+    let start : tie.Start = search in
+    let z = start .args .z in
+    let l = start .args .lists .now in
+    rw (
+      sym (f .flags-fine .ensures) ∙ not-false _ (else1 .if1 .left),
+      ap (counted 8 9 (z .grains)) (sym (tail-is 6 l)) ∙ sym (c1 .counted .ensures) ∙ not-false _ (else2 .if2 .left),
+      ap (counted 32 33 (z .cells)) (sym (tail-is (6 + z .grains * 9) l)) ∙ sym (c2 .counted2 .ensures) ∙ not-false _ (else3 .if3 .left),
+    )
+    (c .counted3 .ensures)
 
 pub legible-spec : {M : Type 1} → statement M
 legible-spec =
     tie.close
     (tie.spec
-    shared-slice-read-if1
+    flags-fine-requires
     returns
-    shared-slice-read-if2
-    returns-2
     sub-counted
     part-counted-start
     part-counted-end
     counted-requires
-    returns-3
+    returns-2
     mul-a
     add-a
     mul-counted
@@ -92,8 +121,8 @@ legible-spec =
     part-counted-start-2
     part-counted-end-2
     counted-requires-2
-    returns-4
+    returns-3
     mul-w
     add-w
     counted-requires-3
-    returns-5)
+    returns-4)

@@ -1,6 +1,8 @@
 -- `sized` meets its contract. Assumes nothing.
-use borrow.Author.Tests.{le-leb, lt-leb}
+use mathlib.Core.Path.{sym, _∙_}
+use borrow.Author.Tests.{lt-leb, not-true, not-false}
 use Rattle.checks.specs.Check.{sizedBy}
+use Rattle.checks.proofs.Stages.{ranged-means, sized-no, sized-more}
 use borrow.Author.Needs.{needs}
 use Rattle.checks.proofs.sized.Statement.{statement}
 use Rattle.checks.proofs.sized.Tie as tie
@@ -9,66 +11,36 @@ returns : tie.Need-returns
 unfolding sizedBy
 returns c = rw (lt-leb _ _ (c .if1 .taken))
 
-shared-slice-read-if2 : tie.Need-shared-slice-read-if2
-shared-slice-read-if2 c = search needs
-
-returns-2 : tie.Need-returns-2
-unfolding sizedBy
-returns-2 c = rw (le-leb _ _ (c .before .before .if1 .left), lt-leb _ _ (c .if2 .taken))
-
-shared-slice-read-if3 : tie.Need-shared-slice-read-if3
-shared-slice-read-if3 c = search needs
-
-returns-3 : tie.Need-returns-3
-unfolding sizedBy
-returns-3 c = rw (le-leb _ _ (c .before .before .before .before .if1 .left), le-leb _ _ (c .before .before .if2 .left), lt-leb _ _ (c .if3 .taken))
-
-shared-slice-read-if4 : tie.Need-shared-slice-read-if4
-shared-slice-read-if4 c = search needs
-
-returns-4 : tie.Need-returns-4
-unfolding sizedBy
-returns-4 c = rw (le-leb _ _ (c .before .before .before .before .before .before .if1 .left), le-leb _ _ (c .before .before .before .before .if2 .left), le-leb _ _ (c .before .before .if3 .left), lt-leb _ _ (c .if4 .taken))
-
-shared-slice-read-if5 : tie.Need-shared-slice-read-if5
-shared-slice-read-if5 c = search needs
-
-returns-5 : tie.Need-returns-5
-unfolding sizedBy
-returns-5 c = rw (le-leb _ _ (c .before .before .before .before .before .before .before .before .if1 .left), le-leb _ _ (c .before .before .before .before .before .before .if2 .left), le-leb _ _ (c .before .before .before .before .if3 .left), le-leb _ _ (c .before .before .if4 .left), lt-leb _ _ (c .if5 .taken))
-
-shared-slice-read-if6 : tie.Need-shared-slice-read-if6
-shared-slice-read-if6 c = search needs
-
-returns-6 : tie.Need-returns-6
-unfolding sizedBy
-returns-6 c = rw (le-leb _ _ (c .before .before .before .before .before .before .before .before .before .before .if1 .left), le-leb _ _ (c .before .before .before .before .before .before .before .before .if2 .left), le-leb _ _ (c .before .before .before .before .before .before .if3 .left), le-leb _ _ (c .before .before .before .before .if4 .left), le-leb _ _ (c .before .before .if5 .left), lt-leb _ _ (c .if6 .taken))
-
 sizes-of-requires : tie.Need-sizes-of-requires
 sizes-of-requires c κs = search needs
 
-long-requires : tie.Need-long-requires
-long-requires c κs = rw (c .sizes-of .ensures) (c .before .before .before .before .before .before .before .before .before .if2 .left, c .before .before .before .before .before .if4 .left, c .before .if6 .left)
+ranged-requires : tie.Need-ranged-requires
+ranged-requires c κs = search needs
 
-returns-7 : tie.Need-returns-7
-unfolding sizedBy
-returns-7 c = rw (le-leb _ _ (c .before .before .before .before .before .before .before .before .before .before .before .before .if1 .left), le-leb _ _ (c .before .before .before .before .before .before .before .before .before .before .if2 .left), le-leb _ _ (c .before .before .before .before .before .before .before .before .if3 .left), le-leb _ _ (c .before .before .before .before .before .before .if4 .left), le-leb _ _ (c .before .before .before .before .if5 .left), le-leb _ _ (c .before .before .if6 .left)) (rw (c .before .sizes-of .ensures) at (c .long .ensures))
+returns-2 : tie.Need-returns-2
+returns-2 c =
+    let r : tie.After-ranged = search in
+    let z : tie.After-sizes-of = search in
+    let else1 : tie.Else1 = search in
+    let start : tie.Start = search in
+    let g = start .args in
+    sized-no (g .lists .now) (g .grains) (g .queue) (g .events) (g .order) (else1 .if1 .left) (z .sizes-of .ensures) (sym (r .ranged .ensures) ∙ not-true _ (c .if2 .taken))
+
+long-requires : tie.Need-long-requires
+long-requires c κs =
+    let r : tie.After-ranged = search in
+    let m = ranged-means _ (sym (r .ranged .ensures) ∙ not-false _ (c .if2 .left)) in
+    (m .0, m .2, m .4)
+
+returns-3 : tie.Need-returns-3
+returns-3 c =
+    let else2 : tie.Else2 = search in
+    let r : tie.After-ranged = search in
+    let z : tie.After-sizes-of = search in
+    let else1 : tie.Else1 = search in
+    let start : tie.Start = search in
+    let g = start .args in
+    sized-more (g .lists .now) (g .grains) (g .queue) (g .events) (g .order) (else1 .if1 .left) (z .sizes-of .ensures) (sym (r .ranged .ensures) ∙ not-false _ (else2 .if2 .left)) (c .long .ensures)
 
 pub sized-spec : {M : Type 1} → statement M
-sized-spec =
-    tie.close
-    (tie.spec
-    returns
-    shared-slice-read-if2
-    returns-2
-    shared-slice-read-if3
-    returns-3
-    shared-slice-read-if4
-    returns-4
-    shared-slice-read-if5
-    returns-5
-    shared-slice-read-if6
-    returns-6
-    sizes-of-requires
-    long-requires
-    returns-7)
+sized-spec = tie.close (tie.spec returns sizes-of-requires ranged-requires returns-2 long-requires returns-3)

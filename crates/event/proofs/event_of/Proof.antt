@@ -19,7 +19,10 @@ returns-4 : tie.Need-returns-4
 returns-4 c = sym (ap (λ (k : ℕ). eventOf k (c .before .before .before .before .before .args .s)) (c .match .keys4))
 
 returns-5 : tie.Need-returns-5
-returns-5 c = let s = c .before .before .before .before .before .args .s in sym (event-rest (s .kind) s (c .match .rest .0 .0 .0 .1) (c .match .rest .0 .0 .1) (c .match .rest .0 .1) (c .match .rest .1))
+returns-5 c =
+    let c5 = c .before .before .before .before .before in
+    let s = c5 .args .s in
+    sym (event-rest (s .kind) s (c .match .rest .0 .0 .0 .1) (c .match .rest .0 .0 .1) (c .match .rest .0 .1) (c .match .rest .1))
 
 pub event-of-spec : {M : Type 1} → statement M
 event-of-spec = tie.close (tie.spec returns returns-2 returns-3 returns-4 returns-5)

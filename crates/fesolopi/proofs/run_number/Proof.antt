@@ -1,4 +1,4 @@
--- `run_number`: 0, 11 or the refusal's. Assumes nothing.
+-- `run_number`: 0, `SPENT` or the refusal's. Assumes nothing.
 use borrow.Author.Needs.{needs}
 use Rattle.fesolopi.proofs.run_number.Statement.{statement}
 use Rattle.fesolopi.proofs.run_number.Tie as tie

@@ -18,7 +18,12 @@ cells-requires : tie.Need-cells-requires
 cells-requires c κs = narrow _ _ _ (c .before .before .box-ok .ensures) (c .before .if1 .left) (c .new .ensures)
 
 new-requires-2 : tie.Need-new-requires-2
-new-requires-2 c κs = in-box _ _ _ _ _ (c .before .before .before .before .box-ok .ensures) (c .before .before .before .if1 .left) (c .before .before .new .ensures) (c .before .cells .ensures) (c .if2 .taken)
+new-requires-2 c κs =
+    let c1 = c .before in
+    let c2 = c1 .before in
+    let c3 = c2 .before in
+    let c4 = c3 .before in
+    in-box _ _ _ _ _ (c4 .box-ok .ensures) (c3 .if1 .left) (c2 .new .ensures) (c1 .cells .ensures) (c .if2 .taken)
 
 returns-2 : tie.Need-returns-2
 returns-2 c = is-cell _ _ _ (c .new2 .ensures)

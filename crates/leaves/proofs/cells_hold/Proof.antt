@@ -71,7 +71,11 @@ float-of-bits-requires-2 : tie.Need-float-of-bits-requires-2
 float-of-bits-requires-2 c κs = search needs
 
 touched-requires-2 : tie.Need-touched-requires-2
-touched-requires-2 c κs = omega (arith, (narrow _ _ _ (c .before .before .before .before .before .box-ok .ensures) (c .before .before .before .before .if4 .left) (c .before .before .before .new2 .ensures)) .1)
+touched-requires-2 c κs =
+    let c3 = c .before .before .before in
+    let c4 = c3 .before in
+    let c5 = c4 .before in
+    omega (arith, (narrow _ _ _ (c5 .box-ok .ensures) (c4 .if4 .left) (c3 .new2 .ensures)) .1)
 
 small-requires : tie.Need-small-requires
 small-requires c κs = search needs
@@ -86,7 +90,16 @@ returns-6 : tie.Need-returns-6
 returns-6 c = search needs
 
 same-cells-requires : tie.Need-same-cells-requires
-same-cells-requires c κs = (c .before .before .before .before .small .ensures (not-false _ (c .before .before .before .if5 .left)), c .before .before .small2 .ensures (not-false _ (c .before .if6 .left)), (narrow _ _ _ (c .before .before .before .before .before .before .before .before .before .before .before .box-ok .ensures) (c .before .before .before .before .before .before .before .before .before .before .if4 .left) (c .before .before .before .before .before .before .before .before .before .new2 .ensures)) .0, omega (arith, c .before .before .before .before .before .before .before .before .before .before .before .before .before .before .before .before .before .before .if2 .left))
+same-cells-requires c κs =
+    let c1 = c .before in
+    let c2 = c1 .before in
+    let c3 = c2 .before in
+    let c4 = c3 .before in
+    let c9 = c4 .before .before .before .before .before in
+    let c10 = c9 .before in
+    let c11 = c10 .before in
+    let c18 = c11 .before .before .before .before .before .before .before in
+    (c4 .small .ensures (not-false _ (c3 .if5 .left)), c2 .small2 .ensures (not-false _ (c1 .if6 .left)), (narrow _ _ _ (c11 .box-ok .ensures) (c10 .if4 .left) (c9 .new2 .ensures)) .0, omega (arith, c18 .if2 .left))
 
 returns-7 : tie.Need-returns-7
 returns-7 c = search needs

@@ -14,13 +14,19 @@ returns : tie.Need-returns
 returns c = search needs
 
 collision-holds-requires : tie.Need-collision-holds-requires
-collision-holds-requires c κs = cell-named _ (c .before .before .before .before .args .named) _ (c .before .before .before .before .pre) (c .before .before .named .given .1)
+collision-holds-requires c κs =
+    let c2 = c .before .before in
+    let c4 = c2 .before .before in
+    cell-named _ (c4 .args .named) _ (c4 .pre) (c2 .named .given .1)
 
 returns-2 : tie.Need-returns-2
 returns-2 c = search needs
 
 border-holds-requires : tie.Need-border-holds-requires
-border-holds-requires c κs = cell-named _ (c .before .before .before .before .args .named) _ (c .before .before .before .before .pre) (c .before .before .named .given .1)
+border-holds-requires c κs =
+    let c2 = c .before .before in
+    let c4 = c2 .before .before in
+    cell-named _ (c4 .args .named) _ (c4 .pre) (c2 .named .given .1)
 
 returns-3 : tie.Need-returns-3
 returns-3 c = search needs

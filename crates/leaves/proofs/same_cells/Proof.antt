@@ -34,13 +34,21 @@ rem-cell-at : tie.Need-rem-cell-at Inv-loop μ-loop
 rem-cell-at c = search needs
 
 cell-at-requires : tie.Need-cell-at-requires Inv-loop μ-loop
-cell-at-requires c κs = (c .before .before .before .before .before .before .pre .0, omega (arith, mod-le (c .before .loop .k) (c .before .before .before .before .before .many .result)))
+cell-at-requires c κs =
+    let c1 = c .before in
+    let c5 = c1 .before .before .before .before in
+    let c6 = c5 .before in
+    (c6 .pre .0, omega (arith, mod-le (c1 .loop .k) (c5 .many .result)))
 
 div-cell-at : tie.Need-div-cell-at Inv-loop μ-loop
 div-cell-at c = search needs
 
 cell-at-requires-2 : tie.Need-cell-at-requires-2 Inv-loop μ-loop
-cell-at-requires-2 c κs = (c .before .before .before .before .before .before .before .pre .1, omega (arith, div-le-self (c .before .before .loop .k) (c .before .before .before .before .before .before .many .result)))
+cell-at-requires-2 c κs =
+    let c2 = c .before .before in
+    let c6 = c2 .before .before .before .before in
+    let c7 = c6 .before in
+    (c7 .pre .1, omega (arith, div-le-self (c2 .loop .k) (c6 .many .result)))
 
 mul-cell : tie.Need-mul-cell Inv-loop μ-loop
 mul-cell c = omega (arith, mul-le-mul (c .before .before .before .before .before .before .before .before .pre .2) (c .cell-at2 .ensures))

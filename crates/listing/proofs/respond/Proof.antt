@@ -14,7 +14,7 @@ write-answer-requires : tie.Need-write-answer-requires
 write-answer-requires c κs = search needs
 
 returns : tie.Need-returns
-returns c = due (c .before .before .before .read-all .ensures) (c .before .before .ended .ensures) (c .before .if1 .taken) (c .write-answer .ensures)
+returns c = due (c .before .before .before .read-all .ensures) (c .before .before .ended .ensures) (c .before .if1 .taken) (c .write-answer .ensures .1)
 
 slice-aggregate-fail : tie.Need-slice-aggregate-fail
 slice-aggregate-fail c = search needs

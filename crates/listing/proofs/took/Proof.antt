@@ -15,7 +15,10 @@ feed-all-requires : tie.Need-feed-all-requires
 feed-all-requires c κs = search needs
 
 returns : tie.Need-returns
-returns c = turn-took (toZ-ofZ (c .before .before .before .before .fits .got)) _ _ (c .before .before .before .before .args .buf .now) (c .before .before .hear .ensures .1) (c .feed-all .ensures)
+returns c =
+    let c2 = c .before .before in
+    let c4 = c2 .before .before in
+    turn-took (toZ-ofZ (c4 .fits .got)) _ _ (c4 .args .buf .now) (c2 .hear .ensures .1) (c .feed-all .ensures)
 
 pub took-spec : {M : Type 1} → statement M
 took-spec = tie.close (tie.spec hear-requires slice-aggregate-feed-all feed-all-requires returns)

@@ -19,11 +19,24 @@ is-finite-requires-2 c κs = search needs
 
 returns : tie.Need-returns
 unfolding fineGrain
-returns c = both _ _ _ _ (c .before .before .before .before .before .before .fine-vec .ensures) (c .before .before .before .before .before .if1 .taken) (both _ _ _ _ (c .before .before .before .before .fine-vec2 .ensures) (c .before .before .before .if2 .taken) (both _ _ _ _ (c .before .before .is-finite .ensures) (c .before .if3 .taken) (c .is-finite2 .ensures)))
+returns c =
+    let c1 = c .before in
+    let c2 = c1 .before in
+    let c3 = c2 .before in
+    let c4 = c3 .before in
+    let c5 = c4 .before in
+    let c6 = c5 .before in
+    both _ _ _ _ (c6 .fine-vec .ensures) (c5 .if1 .taken) (both _ _ _ _ (c4 .fine-vec2 .ensures) (c3 .if2 .taken) (both _ _ _ _ (c2 .is-finite .ensures) (c1 .if3 .taken) (c .is-finite2 .ensures)))
 
 returns-2 : tie.Need-returns-2
 unfolding fineGrain
-returns-2 c = both _ _ _ _ (c .before .before .before .before .before .fine-vec .ensures) (c .before .before .before .before .if1 .taken) (both _ _ _ _ (c .before .before .before .fine-vec2 .ensures) (c .before .before .if2 .taken) (neither _ _ _ (c .before .is-finite .ensures) (c .if3 .left)))
+returns-2 c =
+    let c1 = c .before in
+    let c2 = c1 .before in
+    let c3 = c2 .before in
+    let c4 = c3 .before in
+    let c5 = c4 .before in
+    both _ _ _ _ (c5 .fine-vec .ensures) (c4 .if1 .taken) (both _ _ _ _ (c3 .fine-vec2 .ensures) (c2 .if2 .taken) (neither _ _ _ (c1 .is-finite .ensures) (c .if3 .left)))
 
 returns-3 : tie.Need-returns-3
 unfolding fineGrain

@@ -20,7 +20,12 @@ new-requires : tie.Need-new-requires
 new-requires c κs = search needs
 
 returns : tie.Need-returns
-returns c = stepped-by _ _ _ _ _ _ _ _ _ (c .before .before .before .before .scaled .ensures) (c .before .before .before .add .ensures) (c .before .before .wrapped .ensures) (c .before .wrapped2 .ensures) (c .new .ensures)
+returns c =
+    let c1 = c .before in
+    let c2 = c1 .before in
+    let c3 = c2 .before in
+    let c4 = c3 .before in
+    stepped-by _ _ _ _ _ _ _ _ _ (c4 .scaled .ensures) (c3 .add .ensures) (c2 .wrapped .ensures) (c1 .wrapped2 .ensures) (c .new .ensures)
 
 pub get-new-pos-spec : {M : Type 1} → statement M
 get-new-pos-spec =

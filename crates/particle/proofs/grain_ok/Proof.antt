@@ -14,7 +14,12 @@ within-requires : tie.Need-within-requires
 within-requires c κs = search needs
 
 returns : tie.Need-returns
-returns c = both _ _ _ _ (c .before .before .before .before .pos-ok .ensures) (c .before .before .before .if1 .taken) (both _ _ _ _ (c .before .before .vel-ok .ensures) (c .before .if2 .taken) (c .within .ensures))
+returns c =
+    let c1 = c .before in
+    let c2 = c1 .before in
+    let c3 = c2 .before in
+    let c4 = c3 .before in
+    both _ _ _ _ (c4 .pos-ok .ensures) (c3 .if1 .taken) (both _ _ _ _ (c2 .vel-ok .ensures) (c1 .if2 .taken) (c .within .ensures))
 
 returns-2 : tie.Need-returns-2
 returns-2 c = both _ _ _ _ (c .before .before .before .pos-ok .ensures) (c .before .before .if1 .taken) (neither _ _ _ (c .before .vel-ok .ensures) (c .if2 .left))

@@ -31,7 +31,12 @@ joined-requires-2 c κs = search needs
 
 returns-2 : tie.Need-returns-2
 unfolding spansOf
-returns-2 c = left _ _ _ _ (c .before .before .before .before .if1 .left) (taken _ _ _ _ (c .before .before .before .if2 .taken) (joined-by _ _ _ _ _ (c .before .before .kernel3 .ensures) (c .before .kernel4 .ensures) (c .joined2 .ensures)))
+returns-2 c =
+    let c1 = c .before in
+    let c2 = c1 .before in
+    let c3 = c2 .before in
+    let c4 = c3 .before in
+    left _ _ _ _ (c4 .if1 .left) (taken _ _ _ _ (c3 .if2 .taken) (joined-by _ _ _ _ _ (c2 .kernel3 .ensures) (c1 .kernel4 .ensures) (c .joined2 .ensures)))
 
 kernel-requires-5 : tie.Need-kernel-requires-5
 kernel-requires-5 c κs = search needs

@@ -1,6 +1,5 @@
 -- `vel_ok` answers for both components. Assumes nothing.
 use borrow.Author.Needs.{needs}
-use Rattle.halting.proofs.Bools.{both, neither}
 use Rattle.particle.proofs.vel_ok.Statement.{statement}
 use Rattle.particle.proofs.vel_ok.Tie as tie
 
@@ -11,10 +10,10 @@ within-requires-2 : tie.Need-within-requires-2
 within-requires-2 c κs = search needs
 
 returns : tie.Need-returns
-returns c = both _ _ _ _ (c .before .before .within .ensures) (c .before .if1 .taken) (c .within2 .ensures)
+returns c = cc
 
 returns-2 : tie.Need-returns-2
-returns-2 c = neither _ _ _ (c .before .within .ensures) (c .if1 .left)
+returns-2 c = cc
 
 pub vel-ok-spec : {M : Type 1} → statement M
 vel-ok-spec = tie.close (tie.spec within-requires within-requires-2 returns returns-2)

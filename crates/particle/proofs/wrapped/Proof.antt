@@ -9,7 +9,7 @@ returns-2 : tie.Need-returns-2
 returns-2 c = simp (c .before .if1 .left, c .if2 .taken)
 
 returns-3 : tie.Need-returns-3
-returns-3 c = simp (c .before .if1 .left, c .if2 .left)
+returns-3 c = cc
 
 pub wrapped-spec : {M : Type 1} → statement M
 wrapped-spec = tie.close (tie.spec returns returns-2 returns-3)

@@ -36,16 +36,57 @@ downshift-child-requires : (t : ℕ) → downshift-lts.Need-child-requires (Rd t
 downshift-child-requires t c κs = search needs
 
 downshift-returns-2 : (t : ℕ) → downshift-lts.Need-returns-2 (Rd t) (downshift-at t) downshift.Post
-downshift-returns-2 t c = let b = c .before .before .before .before .before .before .before in let a = b .args in let h = headIn (a .times .now) (a .held .now) (a .room) in let s = made (a .heap .now) (a .lookups .now) (a .n) in let e : c .before .child .result ≡ childOf h s (a .p) = c .before .child .ensures in sym (downshifted-stays h s (a .p) (sym e ∙ c .if2 .taken))
+downshift-returns-2 t c =
+    let ch : downshift-lts.After-child (Rd t) (downshift-at t) downshift.Post = search in
+    let b : downshift-lts.Start (Rd t) (downshift-at t) downshift.Post = search in
+    let a = b .args in
+    let h = headIn (a .times .now) (a .held .now) (a .room) in
+    let s = made (a .heap .now) (a .lookups .now) (a .n) in
+    let e : ch .child .result ≡ childOf h s (a .p) = ch .child .ensures in
+    sym (downshifted-stays h s (a .p) (sym e ∙ c .if2 .taken))
 
 downshift-swap-requires : (t : ℕ) → downshift-lts.Need-swap-requires (Rd t) (downshift-at t) downshift.Post
-downshift-swap-requires t c κs = let b = c .before .before .before .before .before .before .before .before .before in let a = b .args in let h = headIn (a .times .now) (a .held .now) (a .room) in let s = made (a .heap .now) (a .lookups .now) (a .n) in let e : c .before .before .before .child .result ≡ childOf h s (a .p) = c .before .before .before .child .ensures in let l = child-in h s (a .p) (b .pre .1 .0) (c .before .before .before .before .before .before .if1 .left) (λ w. c .before .before .if2 .left (e ∙ w)) in let r = b .pre .1 .0 .room in (omega (arith, c .before .before .before .before .before .before .if1 .left), omega arith)
+downshift-swap-requires t c κs =
+    let else2 : downshift-lts.Else2 (Rd t) (downshift-at t) downshift.Post = search in
+    let ch : downshift-lts.After-child (Rd t) (downshift-at t) downshift.Post = search in
+    let else1 : downshift-lts.Else1 (Rd t) (downshift-at t) downshift.Post = search in
+    let b : downshift-lts.Start (Rd t) (downshift-at t) downshift.Post = search in
+    let a = b .args in
+    let h = headIn (a .times .now) (a .held .now) (a .room) in
+    let s = made (a .heap .now) (a .lookups .now) (a .n) in
+    let e : ch .child .result ≡ childOf h s (a .p) = ch .child .ensures in
+    let l = child-in h s (a .p) (b .pre .1 .0) (else1 .if1 .left) (λ w. else2 .if2 .left (e ∙ w)) in
+    let r = b .pre .1 .0 .room in
+    (omega (arith, else1 .if1 .left), omega arith)
 
 downshift-downshift-requires : (t : ℕ) → downshift-lts.Need-downshift-requires (Rd t) (downshift-at t) downshift.Post
-downshift-downshift-requires t c κs = let b = c .before .before .before .before .before .before .before .before .before .before .before .before in let a = b .args in let h = headIn (a .times .now) (a .held .now) (a .room) in let s = made (a .heap .now) (a .lookups .now) (a .n) in let e : c .before .before .before .before .before .before .child .result ≡ childOf h s (a .p) = c .before .before .before .before .before .before .child .ensures in let f = b .pre .1 .0 in let l = child-after h s (a .p) in (omega (arith, c .before .before .before .before .before .if2 .left, c .before .before .before .before .before .before .before .before .before .if1 .left), (record { room = f .room; top = f .top }, b .pre .1 .1))
+downshift-downshift-requires t c κs =
+    let else2 : downshift-lts.Else2 (Rd t) (downshift-at t) downshift.Post = search in
+    let ch : downshift-lts.After-child (Rd t) (downshift-at t) downshift.Post = search in
+    let else1 : downshift-lts.Else1 (Rd t) (downshift-at t) downshift.Post = search in
+    let b : downshift-lts.Start (Rd t) (downshift-at t) downshift.Post = search in
+    let a = b .args in
+    let h = headIn (a .times .now) (a .held .now) (a .room) in
+    let s = made (a .heap .now) (a .lookups .now) (a .n) in
+    let e : ch .child .result ≡ childOf h s (a .p) = ch .child .ensures in
+    let f = b .pre .1 .0 in
+    let l = child-after h s (a .p) in
+    (omega (arith, else2 .if2 .left, else1 .if1 .left), (record { room = f .room; top = f .top }, b .pre .1 .1))
 
 downshift-returns-3 : (t : ℕ) → downshift-lts.Need-returns-3 (Rd t) (downshift-at t) downshift.Post
-downshift-returns-3 t c = let b = c .before .before .before .before .before .before .before .before .before .before .before .before .before in let a = b .args in let h = headIn (a .times .now) (a .held .now) (a .room) in let s = made (a .heap .now) (a .lookups .now) (a .n) in let e : c .before .before .before .before .before .before .before .child .result ≡ childOf h s (a .p) = c .before .before .before .before .before .before .before .child .ensures in c .downshift .ensures ∙ ap (λ (x : Scheduler). downshifted h x (c .before .before .before .before .before .before .before .child .result)) (c .before .before .before .swap .ensures (a .n)) ∙ ap (λ (x : ℕ). downshifted h (swapAt s (a .p) x) x) e ∙ sym (downshifted-goes h s (a .p) (c .before .before .before .before .before .before .before .before .before .before .if1 .left) (λ w. c .before .before .before .before .before .before .if2 .left (e ∙ w)))
+downshift-returns-3 t c =
+    let sw : downshift-lts.After-swap (Rd t) (downshift-at t) downshift.Post = search in
+    let else2 : downshift-lts.Else2 (Rd t) (downshift-at t) downshift.Post = search in
+    let ch : downshift-lts.After-child (Rd t) (downshift-at t) downshift.Post = search in
+    let else1 : downshift-lts.Else1 (Rd t) (downshift-at t) downshift.Post = search in
+    let b : downshift-lts.Start (Rd t) (downshift-at t) downshift.Post = search in
+    let a = b .args in
+    let h = headIn (a .times .now) (a .held .now) (a .room) in
+    let s = made (a .heap .now) (a .lookups .now) (a .n) in
+    let e : ch .child .result ≡ childOf h s (a .p) = ch .child .ensures in
+    c .downshift .ensures ∙ ap (λ (x : Scheduler). downshifted h x (ch .child .result)) (sw .swap .ensures (a .n))
+    ∙ ap (λ (x : ℕ). downshifted h (swapAt s (a .p) x) x) e
+    ∙ sym (downshifted-goes h s (a .p) (else1 .if1 .left) (λ w. else2 .if2 .left (e ∙ w)))
 
 pub +downshift-spec : {M : Type 1} → statement M
 +downshift-spec = close μ-downshift λ t. downshift-lts.spec (Rd t)

@@ -32,16 +32,52 @@ upshift-parent-requires : (t : ℕ) → upshift-lts.Need-parent-requires (Rd t) 
 upshift-parent-requires t c κs = search needs
 
 upshift-returns : (t : ℕ) → upshift-lts.Need-returns (Rd t) (upshift-at t) upshift.Post
-upshift-returns t c = let b = c .before .before .before .before .before .before in let a = b .args in let h = headIn (a .times .now) (a .held .now) (a .room) in let s = made (a .heap .now) (a .lookups .now) (a .n) in let e : c .before .parent .result ≡ parentOf h s (a .c) = c .before .parent .ensures in sym (upshifted-stays h s (a .c) (sym e ∙ c .if1 .taken))
+upshift-returns t c =
+    let p : upshift-lts.After-parent (Rd t) (upshift-at t) upshift.Post = search in
+    let b : upshift-lts.Start (Rd t) (upshift-at t) upshift.Post = search in
+    let a = b .args in
+    let h = headIn (a .times .now) (a .held .now) (a .room) in
+    let s = made (a .heap .now) (a .lookups .now) (a .n) in
+    let e : p .parent .result ≡ parentOf h s (a .c) = p .parent .ensures in
+    sym (upshifted-stays h s (a .c) (sym e ∙ c .if1 .taken))
 
 upshift-swap-requires : (t : ℕ) → upshift-lts.Need-swap-requires (Rd t) (upshift-at t) upshift.Post
-upshift-swap-requires t c κs = let b = c .before .before .before .before .before .before .before .before in let a = b .args in let h = headIn (a .times .now) (a .held .now) (a .room) in let s = made (a .heap .now) (a .lookups .now) (a .n) in let e : c .before .before .before .parent .result ≡ parentOf h s (a .c) = c .before .before .before .parent .ensures in let l = parent-before h s (a .c) (λ w. c .before .before .if1 .left (e ∙ w)) in (omega (arith, b .pre .1 .0), omega (arith, b .pre .1 .0))
+upshift-swap-requires t c κs =
+    let else1 : upshift-lts.Else1 (Rd t) (upshift-at t) upshift.Post = search in
+    let p : upshift-lts.After-parent (Rd t) (upshift-at t) upshift.Post = search in
+    let b : upshift-lts.Start (Rd t) (upshift-at t) upshift.Post = search in
+    let a = b .args in
+    let h = headIn (a .times .now) (a .held .now) (a .room) in
+    let s = made (a .heap .now) (a .lookups .now) (a .n) in
+    let e : p .parent .result ≡ parentOf h s (a .c) = p .parent .ensures in
+    let l = parent-before h s (a .c) (λ w. else1 .if1 .left (e ∙ w)) in
+    (omega (arith, b .pre .1 .0), omega (arith, b .pre .1 .0))
 
 upshift-upshift-requires : (t : ℕ) → upshift-lts.Need-upshift-requires (Rd t) (upshift-at t) upshift.Post
-upshift-upshift-requires t c κs = let b = c .before .before .before .before .before .before .before .before .before .before .before in let a = b .args in let h = headIn (a .times .now) (a .held .now) (a .room) in let s = made (a .heap .now) (a .lookups .now) (a .n) in let e : c .before .before .before .before .before .before .parent .result ≡ parentOf h s (a .c) = c .before .before .before .before .before .before .parent .ensures in let l = parent-before h s (a .c) (λ w. c .before .before .before .before .before .if1 .left (e ∙ w)) in (omega (arith, b .pre .0), (b .pre .1 .0, b .pre .1 .1))
+upshift-upshift-requires t c κs =
+    let else1 : upshift-lts.Else1 (Rd t) (upshift-at t) upshift.Post = search in
+    let p : upshift-lts.After-parent (Rd t) (upshift-at t) upshift.Post = search in
+    let b : upshift-lts.Start (Rd t) (upshift-at t) upshift.Post = search in
+    let a = b .args in
+    let h = headIn (a .times .now) (a .held .now) (a .room) in
+    let s = made (a .heap .now) (a .lookups .now) (a .n) in
+    let e : p .parent .result ≡ parentOf h s (a .c) = p .parent .ensures in
+    let l = parent-before h s (a .c) (λ w. else1 .if1 .left (e ∙ w)) in
+    (omega (arith, b .pre .0), (b .pre .1 .0, b .pre .1 .1))
 
 upshift-returns-2 : (t : ℕ) → upshift-lts.Need-returns-2 (Rd t) (upshift-at t) upshift.Post
-upshift-returns-2 t c = let b = c .before .before .before .before .before .before .before .before .before .before .before .before in let a = b .args in let h = headIn (a .times .now) (a .held .now) (a .room) in let s = made (a .heap .now) (a .lookups .now) (a .n) in let e : c .before .before .before .before .before .before .before .parent .result ≡ parentOf h s (a .c) = c .before .before .before .before .before .before .before .parent .ensures in c .upshift .ensures ∙ ap (λ (x : Scheduler). upshifted h x (c .before .before .before .before .before .before .before .parent .result)) (c .before .before .before .swap .ensures (a .n)) ∙ ap (λ (x : ℕ). upshifted h (swapAt s (a .c) x) x) e ∙ sym (upshifted-goes h s (a .c) (λ w. c .before .before .before .before .before .before .if1 .left (e ∙ w)))
+upshift-returns-2 t c =
+    let sw : upshift-lts.After-swap (Rd t) (upshift-at t) upshift.Post = search in
+    let else1 : upshift-lts.Else1 (Rd t) (upshift-at t) upshift.Post = search in
+    let p : upshift-lts.After-parent (Rd t) (upshift-at t) upshift.Post = search in
+    let b : upshift-lts.Start (Rd t) (upshift-at t) upshift.Post = search in
+    let a = b .args in
+    let h = headIn (a .times .now) (a .held .now) (a .room) in
+    let s = made (a .heap .now) (a .lookups .now) (a .n) in
+    let e : p .parent .result ≡ parentOf h s (a .c) = p .parent .ensures in
+    c .upshift .ensures ∙ ap (λ (x : Scheduler). upshifted h x (p .parent .result)) (sw .swap .ensures (a .n))
+    ∙ ap (λ (x : ℕ). upshifted h (swapAt s (a .c) x) x) e
+    ∙ sym (upshifted-goes h s (a .c) (λ w. else1 .if1 .left (e ∙ w)))
 
 pub +upshift-spec : {M : Type 1} → statement M
 +upshift-spec = close μ-upshift λ t. upshift-lts.spec (Rd t)

@@ -4,7 +4,7 @@ use lib.ListN.{length, getD, List·getD-eq-default}
 use lib.Ieee.{nan}
 use borrow.Author.Tests.{eq-eqb, ne-eqb}
 use Rattle.scheduler.specs.Inside.{headIn}
-use Rattle.order.specs.Numbers.{last}
+use Rattle.order.specs.Numbers.{f64Max}
 use Rattle.layout.specs.Widths.{queueFrom, eventsFrom}
 use Rattle.scheduler.proofs.Laws.{getD-any}
 use native.Mathlib.Omega.{arith}
@@ -52,7 +52,7 @@ returns-3 c =
     let i = queueFrom (a .room) (a .cell) in
     let k = eventsFrom (a .room) (a .cell) in
     let some = ne-eqb (getD (a .held .now) i 0) 0 (rw (← q .queue-from .ensures) (e .before .if2 .left)) in
-    rw (e .events-from .ensures) (simp some (getD-any (a .times .now) k nan last (rw (← e .events-from .ensures) (c .before .if3 .taken))))
+    rw (e .events-from .ensures) (simp some (getD-any (a .times .now) k nan f64Max (rw (← e .events-from .ensures) (c .before .if3 .taken))))
 
 returns-4 : tie.Need-returns-4
 unfolding headIn
@@ -62,7 +62,7 @@ returns-4 c =
     let a = q .before .before .before .args in
     let i = queueFrom (a .room) (a .cell) in
     let some = ne-eqb (getD (a .held .now) i 0) 0 (rw (← q .queue-from .ensures) (e .before .if2 .left)) in
-    simp (some, List·getD-eq-default (a .times .now) last (subst (λ n. length (a .times .now) ≤ n) (e .events-from .ensures) (c .if3 .left)))
+    simp (some, List·getD-eq-default (a .times .now) f64Max (subst (λ n. length (a .times .now) ≤ n) (e .events-from .ensures) (c .if3 .left)))
 
 pub head-time-spec : {M : Type 1} → statement M
 head-time-spec =

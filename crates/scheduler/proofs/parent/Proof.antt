@@ -10,10 +10,18 @@ use Rattle.scheduler.proofs.parent.Statement.{statement}
 use Rattle.scheduler.proofs.parent.Tie as tie
 
 returns : tie.Need-returns
-returns c = let a = c .before .before .before .before .args in let h = headIn (a .times .now) (a .held .now) (a .room) in sym (parent-out h (a .heap .now) (a .cells) (a .c) (c .if1 .taken))
+returns c =
+    let b : tie.Start = search in
+    let a = b .args in
+    let h = headIn (a .times .now) (a .held .now) (a .room) in
+    sym (parent-out h (a .heap .now) (a .cells) (a .c) (c .if1 .taken))
 
 returns-2 : tie.Need-returns-2
-returns-2 c = let a = c .before .before .before .before .before .args in let h = headIn (a .times .now) (a .held .now) (a .room) in sym (parent-root h (a .heap .now) (a .cells) (a .c) (c .if2 .taken))
+returns-2 c =
+    let b : tie.Start = search in
+    let a = b .args in
+    let h = headIn (a .times .now) (a .held .now) (a .room) in
+    sym (parent-root h (a .heap .now) (a .cells) (a .c) (c .if2 .taken))
 
 sub-p : tie.Need-sub-p
 sub-p c = omega (arith, c .if2 .left)
@@ -25,10 +33,26 @@ time-in-requires-2 : tie.Need-time-in-requires-2
 time-in-requires-2 c κs = search needs
 
 returns-3 : tie.Need-returns-3
-returns-3 c = let a = c .before .before .before .before .before .before .before .before .args in let h = headIn (a .times .now) (a .held .now) (a .room) in let e : lt (timeIn h (a .heap .now) (a .cells) (a .c)) (timeIn h (a .heap .now) (a .cells) (parent (a .c))) ≡ true = rw (c .before .before .time-in .ensures, c .before .time-in2 .ensures) at (c .if3 .taken) in sym (parent-early h (a .heap .now) (a .cells) (a .c) (c .before .before .before .before .if1 .left) e)
+returns-3 c =
+    let ti2 : tie.After-time-in2 = search in
+    let ti : tie.After-time-in = search in
+    let else1 : tie.Else1 = search in
+    let b : tie.Start = search in
+    let a = b .args in
+    let h = headIn (a .times .now) (a .held .now) (a .room) in
+    let e : lt (timeIn h (a .heap .now) (a .cells) (a .c)) (timeIn h (a .heap .now) (a .cells) (parent (a .c))) ≡ true = rw (ti .time-in .ensures, ti2 .time-in2 .ensures) at (c .if3 .taken) in
+    sym (parent-early h (a .heap .now) (a .cells) (a .c) (else1 .if1 .left) e)
 
 returns-4 : tie.Need-returns-4
-returns-4 c = let a = c .before .before .before .before .before .before .before .before .args in let h = headIn (a .times .now) (a .held .now) (a .room) in let e : lt (timeIn h (a .heap .now) (a .cells) (a .c)) (timeIn h (a .heap .now) (a .cells) (parent (a .c))) ≡ false = rw (c .before .before .time-in .ensures, c .before .time-in2 .ensures) at (c .if3 .left) in sym (parent-late h (a .heap .now) (a .cells) (a .c) (c .before .before .before .before .if1 .left) e)
+returns-4 c =
+    let ti2 : tie.After-time-in2 = search in
+    let ti : tie.After-time-in = search in
+    let else1 : tie.Else1 = search in
+    let b : tie.Start = search in
+    let a = b .args in
+    let h = headIn (a .times .now) (a .held .now) (a .room) in
+    let e : lt (timeIn h (a .heap .now) (a .cells) (a .c)) (timeIn h (a .heap .now) (a .cells) (parent (a .c))) ≡ false = rw (ti .time-in .ensures, ti2 .time-in2 .ensures) at (c .if3 .left) in
+    sym (parent-late h (a .heap .now) (a .cells) (a .c) (else1 .if1 .left) e)
 
 pub parent-spec : {M : Type 1} → statement M
 parent-spec =

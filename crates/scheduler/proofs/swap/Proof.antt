@@ -36,7 +36,10 @@ element-write-lookups-2 c = search needs
 
 returns : tie.Need-returns
 unfolding swapAt
-returns c = λ n. rw (c .before .before .before .index .ensures .0, c .before .before .index2 .ensures .0) refl
+returns c =
+    let i2 : tie.After-index2 = search in
+    let i : tie.After-index = search in
+    λ n. rw (i .index .ensures .0, i2 .index2 .ensures .0) refl
 
 pub swap-spec : {M : Type 1} → statement M
 swap-spec =

@@ -6,7 +6,11 @@ use Rattle.starting.proofs.fill.Statement.{statement}
 use Rattle.starting.proofs.fill.Tie as tie
 
 go-in-requires : tie.Need-go-in-requires
-go-in-requires c κs = let b = c .before .before .before .before .before .before .before .before in let a = b .args in let F = b .pre in (fill-going (a .inputs .now) F, omega arith)
+go-in-requires c κs =
+    let b : tie.Start = search in
+    let a = b .args in
+    let F = b .pre in
+    (fill-going (a .inputs .now) F, omega arith)
 
 same-length : tie.Need-same-length
 same-length c = search needs
@@ -15,10 +19,20 @@ same-length-2 : tie.Need-same-length-2
 same-length-2 c = search needs
 
 returns : tie.Need-returns
-returns c = let b = c .before .before .before .before .before .before .before .before .before .before .before .before .before .before in let a = b .args in let F = b .pre in fill-stop (a .inputs .now) F (c .before .before .before .before .before .go-in .ensures) (c .if1 .taken)
+returns c =
+    let gi : tie.After-go-in = search in
+    let b : tie.Start = search in
+    let a = b .args in
+    let F = b .pre in
+    fill-stop (a .inputs .now) F (gi .go-in .ensures) (c .if1 .taken)
 
 init-events-requires : tie.Need-init-events-requires
-init-events-requires c κs = let b = c .before .before .before .before .before .before .before .before .before .before .before .before .before .before .before .before .before .before .before in let a = b .args in let F = b .pre in (fill-some (a .inputs .now) F (c .before .before .before .before .before .before .before .before .before .before .go-in .ensures), F .placed)
+init-events-requires c κs =
+    let gi : tie.After-go-in = search in
+    let b : tie.Start = search in
+    let a = b .args in
+    let F = b .pre in
+    (fill-some (a .inputs .now) F (gi .go-in .ensures), F .placed)
 
 same-length-3 : tie.Need-same-length-3
 same-length-3 c = search needs
@@ -36,7 +50,14 @@ same-length-7 : tie.Need-same-length-7
 same-length-7 c = search needs
 
 returns-2 : tie.Need-returns-2
-returns-2 c = let b = c .before .before .before .before .before .before .before .before .before .before .before .before .before .before .before .before .before .before .before .before .before .before .before .before .before .before in let a = b .args in let F = b .pre in fill-on (a .inputs .now) F (c .before .before .before .before .before .before .before .before .before .before .before .before .before .before .before .before .before .go-in .ensures) (c .before .before .before .before .before .before .before .before .before .before .before .before .if1 .left) (c .before .before .before .before .before .before .init-events .ensures)
+returns-2 c =
+    let ie : tie.After-init-events = search in
+    let else1 : tie.Else1 = search in
+    let gi : tie.After-go-in = search in
+    let b : tie.Start = search in
+    let a = b .args in
+    let F = b .pre in
+    fill-on (a .inputs .now) F (gi .go-in .ensures) (else1 .if1 .left) (ie .init-events .ensures)
 
 pub fill-spec : {M : Type 1} → statement M
 fill-spec =

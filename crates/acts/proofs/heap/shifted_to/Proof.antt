@@ -13,10 +13,18 @@ parent-requires : tie.Need-parent-requires
 parent-requires c κs = search needs
 
 returns : tie.Need-returns
-returns c = let a = c .before .before .before .before .before .args in let h = headIn (a .events .now) (a .queue .now) (a .z .room) in c .child .ensures ∙ ap (λ (b : Bool). shiftedTo h (a .heap .now) (a .z .cells) (a .at) b) (sym (c .before .if1 .taken))
+returns c =
+    let b1 : tie.Start = search in
+    let a = b1 .args in
+    let h = headIn (a .events .now) (a .queue .now) (a .z .room) in
+    c .child .ensures ∙ ap (λ (b : Bool). shiftedTo h (a .heap .now) (a .z .cells) (a .at) b) (sym (c .before .if1 .taken))
 
 returns-2 : tie.Need-returns-2
-returns-2 c = let a = c .before .before .before .before .before .args in let h = headIn (a .events .now) (a .queue .now) (a .z .room) in c .parent .ensures ∙ ap (λ (b : Bool). shiftedTo h (a .heap .now) (a .z .cells) (a .at) b) (sym (c .before .if1 .left))
+returns-2 c =
+    let b1 : tie.Start = search in
+    let a = b1 .args in
+    let h = headIn (a .events .now) (a .queue .now) (a .z .room) in
+    c .parent .ensures ∙ ap (λ (b : Bool). shiftedTo h (a .heap .now) (a .z .cells) (a .at) b) (sym (c .before .if1 .left))
 
 pub shifted-to-spec : {M : Type 1} → statement M
 shifted-to-spec = tie.close (tie.spec child-requires parent-requires returns returns-2)

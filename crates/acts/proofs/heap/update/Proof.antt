@@ -1,11 +1,11 @@
-use Rattle.acts.proofs.Loaded.{front-is, front-long, update-same}
-use Rattle.acts.specs.Queues.{loaded}
+use Rattle.acts.proofs.Updates.{update-same}
+use Rattle.tables.proofs.HeapLaws.{front-long}
+use Rattle.tables.specs.Decode.{schedulerOf}
 use Rattle.tables.specs.Layout.{orderBytes}
 use Rattle.scheduler.specs.Heap.{updated}
 use Rattle.scheduler.specs.Inside.{headIn, Fit}
 use Rattle.scheduler.specs.declared.Scheduler.{Scheduler}
 use lib.Ieee.{Float}
-use lib.ListN.{length}
 use Prim.Native.Nat.{_+_}
 use mathlib.Core.Path.{sym, ap, subst, _∙_}
 use native.Mathlib.Omega.{arith}
@@ -23,7 +23,10 @@ slice-read-at : tie.Need-slice-read-at
 slice-read-at c = omega arith
 
 cast-at : tie.Need-cast-at
-cast-at c = let a = c .before .before .before .before .before .args in omega (arith, c .slice-known2 .given (256 + a .cell))
+cast-at c =
+    let b : tie.Start = search in
+    let a = b .args in
+    omega (arith, c .slice-known2 .given (256 + a .cell))
 
 sub-shifted-to : tie.Need-sub-shifted-to
 sub-shifted-to c = omega arith
@@ -35,19 +38,36 @@ part-shifted-to-end : tie.Need-part-shifted-to-end
 part-shifted-to-end c = omega arith
 
 shifted-to-requires : tie.Need-shifted-to-requires
-shifted-to-requires c κs = let b = c .before .before .before .before .before .before .before in let a = b .args in let t = a .order .now in let h = headIn (a .events .now) (a .queue .now) (a .z .room) in let f = b .pre .1 .room in (omega (arith, ap length (front-is t (b .pre .0)), front-long t (b .pre .0)), omega (arith, c .before .before .slice-known2 .given (256 + a .cell)), b .pre .3)
+shifted-to-requires c κs =
+    let b : tie.Start = search in
+    let a = b .args in
+    let t = a .order .now in
+    let h = headIn (a .events .now) (a .queue .now) (a .z .room) in
+    let f = b .pre .1 .room in
+    (omega (arith, front-long t (b .pre .0)), omega (arith, c .before .before .slice-known2 .given (256 + a .cell)), b .pre .3)
 
 same-length : tie.Need-same-length
 same-length c = search needs
 
 returns : tie.Need-returns
-returns c = let b = c .before .before .before .before .before .before .before .before .before in let a = b .args in let t = a .order .now in let h = headIn (a .events .now) (a .queue .now) (a .z .room) in update-same t (b .pre .0) h (a .z .cells) (a .cell) (a .before) (c .before .before .before .before .before .head-time .result) (c .before .shifted-to .result) (c .before .before .before .before .before .head-time .ensures) (c .before .shifted-to .ensures) (c .if1 .taken)
+returns c =
+    let ht : tie.After-head-time = search in
+    let b : tie.Start = search in
+    let a = b .args in
+    let t = a .order .now in
+    let h = headIn (a .events .now) (a .queue .now) (a .z .room) in
+    update-same t (b .pre .0) h (a .z .cells) (a .cell) (a .before) (ht .head-time .result) (c .before .shifted-to .result) (ht .head-time .ensures) (c .before .shifted-to .ensures) (c .if1 .taken)
 
 load-requires : tie.Need-load-requires
 load-requires c κs = search needs
 
 update-requires : tie.Need-update-requires
-update-requires c κs = let b = c .before .before .before .before .before .before .before .before .before .before .before .before in let a = b .args in let t = a .order .now in let h = headIn (a .events .now) (a .queue .now) (a .z .room) in (subst (Fit h) (sym (c .before .load .ensures)) (b .pre .1), b .pre .2, b .pre .3)
+update-requires c κs =
+    let b : tie.Start = search in
+    let a = b .args in
+    let t = a .order .now in
+    let h = headIn (a .events .now) (a .queue .now) (a .z .room) in
+    (subst (Fit h) (sym (c .before .load .ensures)) (b .pre .1), b .pre .2, b .pre .3)
 
 store-requires : tie.Need-store-requires
 store-requires c κs = search needs
@@ -56,7 +76,16 @@ same-length-2 : tie.Need-same-length-2
 same-length-2 c = search needs
 
 returns-2 : tie.Need-returns-2
-returns-2 c = let b = c .before .before .before .before .before .before .before .before .before .before .before .before .before .before .before .before in let a = b .args in let t = a .order .now in let h = headIn (a .events .now) (a .queue .now) (a .z .room) in let s = loaded t (a .z .cells) in c .before .before .store .ensures ∙ ap orderBytes (c .before .before .before .update .ensures ∙ ap (λ (x : Scheduler). updated h x (a .cell) (a .before) (c .before .before .before .before .before .before .before .before .before .before .before .before .head-time .result)) (c .before .before .before .before .before .load .ensures) ∙ ap (λ (x : Float). updated h s (a .cell) (a .before) x) (c .before .before .before .before .before .before .before .before .before .before .before .before .head-time .ensures))
+returns-2 c =
+    let u : tie.After-update = search in
+    let l : tie.After-load = search in
+    let ht : tie.After-head-time = search in
+    let b : tie.Start = search in
+    let a = b .args in
+    let t = a .order .now in
+    let h = headIn (a .events .now) (a .queue .now) (a .z .room) in
+    let s = schedulerOf (a .z .cells) t in
+    c .before .before .store .ensures ∙ ap orderBytes (u .update .ensures ∙ ap (λ (x : Scheduler). updated h x (a .cell) (a .before) (ht .head-time .result)) (l .load .ensures) ∙ ap (λ (x : Float). updated h s (a .cell) (a .before) x) (ht .head-time .ensures))
 
 pub update-spec : {M : Type 1} → statement M
 update-spec =

@@ -1,85 +1,126 @@
+use borrow.Rule.Slice.PartMut.{mid-len}
+use Prim.Native.Nat.{_<_, _≤_}
+use mathlib.Core.Path.{subst}
+use Rattle.tables.proofs.ListLaws.{Within, home-in, member-in}
 use Rattle.acts.proofs.LinkLaws.{member-there, home-there, leave-refused, leave-done}
-use Rattle.tables.proofs.ListLaws.{home-in, member-in}
 use native.Mathlib.Omega.{arith}
 use borrow.Author.Needs.{needs}
 use Rattle.acts.proofs.links.leave.Statement.{statement}
 use Rattle.acts.proofs.links.leave.Tie as tie
 
-mul-a : tie.Need-mul-a
-mul-a c = omega arith
+home-at : (m : tie.After-member-part) → Within (m .before .home-part .result) (m .before .before .before .args .lists .now)
+home-at m =
+    let h = m .before in
+    let b = h .before .before in
+    home-in (b .pre .0 .1) (b .args .grain) (b .pre .2) (h .home-part .ensures) (b .pre .1)
 
-add-b : tie.Need-add-b
-add-b c = omega arith
+member-at : (m : tie.After-member-part) → Within (m .member-part .result) (m .before .before .before .args .lists .now)
+member-at m =
+    let b = m .before .before .before in
+    member-in (b .pre .0 .1) (b .args .cell) (b .pre .3) (m .member-part .ensures) (b .pre .1)
 
-mul-p : tie.Need-mul-p
-mul-p c = omega arith
+home-part-requires : tie.Need-home-part-requires
+home-part-requires c κs = search needs
 
-mul-p-2 : tie.Need-mul-p-2
-mul-p-2 c = omega arith
+member-part-requires : tie.Need-member-part-requires
+member-part-requires c κs = search needs
 
-add-p : tie.Need-add-p
-add-p c = omega arith
+mul-count-of : tie.Need-mul-count-of
+mul-count-of c = let w = home-at c in omega (arith, w .0, w .1, w .2)
 
-add-q : tie.Need-add-q
-add-q c = omega arith
+sub-count-of : tie.Need-sub-count-of
+sub-count-of c = let w = home-at c in omega (arith, w .0, w .1, w .2)
 
-mul-if1 : tie.Need-mul-if1
-mul-if1 c = omega arith
+part-count-of-start : tie.Need-part-count-of-start
+part-count-of-start c = let m = c .before in let w = home-at m in omega (arith, w .0, w .1, w .2)
 
-slice-read-if1 : tie.Need-slice-read-if1
-slice-read-if1 c = let b = c .before .before .before in omega (arith, home-in (b .pre .0 .1) (b .args .grain) (b .pre .2))
+part-count-of-end : tie.Need-part-count-of-end
+part-count-of-end c = let m = c .before in home-at m .1
 
-returns : tie.Need-returns
-returns c = let b = c .before .before .before .before in leave-refused (b .pre .2) (b .pre .3) (c .if1 .taken)
-
-mul-drop-from : tie.Need-mul-drop-from
-mul-drop-from c = omega arith
-
-sub-drop-from : tie.Need-sub-drop-from
-sub-drop-from c = omega arith
-
-part-drop-from-start : tie.Need-part-drop-from-start
-part-drop-from-start c = omega arith
-
-part-drop-from-end : tie.Need-part-drop-from-end
-part-drop-from-end c = let b = c .before .before .before .before in omega (arith, member-in (b .pre .0 .1) (b .args .cell) (b .pre .3))
-
-drop-from-requires : tie.Need-drop-from-requires
-drop-from-requires c κs = let b = c .before .before .before .before .before in member-there (b .pre .2) (b .pre .3) (b .pre .0 .0) (b .pre .0 .1) (b .pre .0 .2)
-
-mul-drop-from-2 : tie.Need-mul-drop-from-2
-mul-drop-from-2 c = omega arith
-
-sub-drop-from-2 : tie.Need-sub-drop-from-2
-sub-drop-from-2 c = omega arith
-
-part-drop-from-start-2 : tie.Need-part-drop-from-start-2
-part-drop-from-start-2 c = omega arith
-
-part-drop-from-end-2 : tie.Need-part-drop-from-end-2
-part-drop-from-end-2 c = let b = c .before .before .before .before .before .before .before .before in omega (arith, home-in (b .pre .0 .1) (b .args .grain) (b .pre .2))
-
-drop-from-requires-2 : tie.Need-drop-from-requires-2
-drop-from-requires-2 c κs = let b = c .before .before .before .before .before .before .before .before .before in home-there (b .pre .2) (b .pre .3) (b .pre .0 .0) (b .pre .0 .1) (b .pre .0 .2) (c .before .before .before .drop-from .ensures)
+count-of-requires : tie.Need-count-of-requires
+count-of-requires c κs =
+    let m = c .before .before in
+    let h = m .before in
+    let b = h .before .before in
+    let w = home-at m in omega (arith, mid-len (h .home-part .result .from) (h .home-part .result .to) (b .args .lists .now) (w .1), w .0)
 
 same-length : tie.Need-same-length
 same-length c = search needs
 
+returns : tie.Need-returns
+returns c =
+    let n = c .before in
+    let m : tie.After-member-part = search in
+    let h = m .before in
+    let b = h .before .before in
+    leave-refused (b .pre .2) (b .pre .3) (h .home-part .ensures) (m .member-part .ensures) (subst (λ x. x ≤ 1) (n .count-of .ensures) (c .if1 .taken))
+
+mul-drop-from : tie.Need-mul-drop-from
+mul-drop-from c = let m : tie.After-member-part = search in let w = member-at m in omega (arith, w .0, w .1, w .2)
+
+sub-drop-from : tie.Need-sub-drop-from
+sub-drop-from c = let m : tie.After-member-part = search in let w = member-at m in omega (arith, w .0, w .1, w .2)
+
+part-drop-from-start : tie.Need-part-drop-from-start
+part-drop-from-start c = let m : tie.After-member-part = search in let w = member-at m in omega (arith, w .0, w .1, w .2)
+
+part-drop-from-end : tie.Need-part-drop-from-end
+part-drop-from-end c = let m : tie.After-member-part = search in member-at m .1
+
+drop-from-requires : tie.Need-drop-from-requires
+drop-from-requires c κs =
+    let m : tie.After-member-part = search in
+    let h = m .before in
+    let b = h .before .before in
+    member-there (b .pre .2) (b .pre .3) (h .home-part .ensures) (m .member-part .ensures) (b .pre .0 .0) (b .pre .0 .1) (b .pre .0 .2)
+
+mul-drop-from-2 : tie.Need-mul-drop-from-2
+mul-drop-from-2 c = let m : tie.After-member-part = search in let w = home-at m in omega (arith, w .0, w .1, w .2)
+
+sub-drop-from-2 : tie.Need-sub-drop-from-2
+sub-drop-from-2 c = let m : tie.After-member-part = search in let w = home-at m in omega (arith, w .0, w .1, w .2)
+
+part-drop-from-start-2 : tie.Need-part-drop-from-start-2
+part-drop-from-start-2 c = let m : tie.After-member-part = search in let w = home-at m in omega (arith, w .0, w .1, w .2)
+
+part-drop-from-end-2 : tie.Need-part-drop-from-end-2
+part-drop-from-end-2 c = let m : tie.After-member-part = search in let w = home-at m in omega (arith, w .1)
+
+drop-from-requires-2 : tie.Need-drop-from-requires-2
+drop-from-requires-2 c κs =
+    let d : tie.After-drop-from = search in
+    let m : tie.After-member-part = search in
+    let h = m .before in
+    let b = h .before .before in
+    home-there (b .pre .2) (b .pre .3) (h .home-part .ensures) (m .member-part .ensures) (b .pre .0 .0) (b .pre .0 .1) (b .pre .0 .2) (d .drop-from .ensures)
+
+same-length-2 : tie.Need-same-length-2
+same-length-2 c = search needs
+
 returns-2 : tie.Need-returns-2
-returns-2 c = let b = c .before .before .before .before .before .before .before .before .before .before .before .before in leave-done (b .pre .2) (b .pre .3) (c .before .before .before .before .before .before .before .before .if1 .left) (c .before .before .before .before .before .before .drop-from .ensures) (c .before .before .drop-from2 .ensures)
+returns-2 c =
+    let e = c .before .before in
+    let d : tie.After-drop-from = search in
+    let i1 = d .before .before in
+    let n = i1 .before in
+    let m : tie.After-member-part = search in
+    let h = m .before in
+    let b = h .before .before in
+    leave-done (b .pre .2) (b .pre .3) (h .home-part .ensures) (m .member-part .ensures) (subst (λ x. 1 < x) (n .count-of .ensures) (i1 .if1 .left))
+    (d .drop-from .ensures) (e .drop-from2 .ensures)
 
 pub leave-spec : {M : Type 1} → statement M
 leave-spec =
     tie.close
     (tie.spec
-    mul-a
-    add-b
-    mul-p
-    mul-p-2
-    add-p
-    add-q
-    mul-if1
-    slice-read-if1
+    home-part-requires
+    member-part-requires
+    mul-count-of
+    sub-count-of
+    part-count-of-start
+    part-count-of-end
+    count-of-requires
+    same-length
     returns
     mul-drop-from
     sub-drop-from
@@ -91,5 +132,5 @@ leave-spec =
     part-drop-from-start-2
     part-drop-from-end-2
     drop-from-requires-2
-    same-length
+    same-length-2
     returns-2)

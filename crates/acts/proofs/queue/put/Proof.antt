@@ -24,7 +24,10 @@ enum-told-2 : tie.Need-enum-told-2
 enum-told-2 c = search needs
 
 returns : tie.Need-returns
-returns c = let a = c .before .before .before .before .before .args in subst (λ (p : Plan). (s : State) → Queued (a .z) (a .queue .now) (a .events .now) (a .order .now) s → Told (a .z) (a .queue .now) (a .events .now) (a .order .now) 0 (put (a .cell) p s)) (sym (c .enum-told .given .1)) (λ s q. (refl, q))
+returns c =
+    let b : tie.Start = search in
+    let a = b .args in
+    subst (λ (p : Plan). (s : State) → Queued (a .z) (a .queue .now) (a .events .now) (a .order .now) s → Told (a .z) (a .queue .now) (a .events .now) (a .order .now) 0 (put (a .cell) p s)) (sym (c .enum-told .given .1)) (λ s q. (refl, q))
 
 same-length : tie.Need-same-length
 same-length c = search needs
@@ -36,10 +39,20 @@ same-length-3 : tie.Need-same-length-3
 same-length-3 c = search needs
 
 returns-2 : tie.Need-returns-2
-returns-2 c = let a = c .before .before .before .before .before .before .before .before .before .before .before .before .before .before .before .before .before .args in λ s q. subst (λ (p : Plan). Told (a .z) (c .before .before .before .before .before .before .insert .last .0) (c .before .before .before .before .before .before .insert .last .1 .0) (c .before .before .before .before .before .before .insert .last .1 .1 .0) (c .before .before .before .before .before .before .insert .result) (put (a .cell) p s)) (sym (c .before .before .before .before .before .before .before .before .before .before .before .before .plan .given .1)) (subst (λ (x : Place). Told (a .z) (c .before .before .before .before .before .before .insert .last .0) (c .before .before .before .before .before .before .insert .last .1 .0) (c .before .before .before .before .before .before .insert .last .1 .1 .0) (c .before .before .before .before .before .before .insert .result) (insert (a .cell) x s)) (c .before .before .before .before .before .before .before .place-of .ensures) (c .before .before .before .before .before .before .insert .ensures s q))
+returns-2 c =
+    let i : tie.After-insert = search in
+    let po : tie.After-place-of = search in
+    let pl : tie.After-plan = search in
+    let b : tie.Start = search in
+    let a = b .args in
+    λ s q. subst (λ (p : Plan). Told (a .z) (i .insert .last .0) (i .insert .last .1 .0) (i .insert .last .1 .1 .0) (i .insert .result) (put (a .cell) p s)) (sym (pl .plan .given .1))
+    (subst (λ (x : Place). Told (a .z) (i .insert .last .0) (i .insert .last .1 .0) (i .insert .last .1 .1 .0) (i .insert .result) (insert (a .cell) x s)) (po .place-of .ensures) (i .insert .ensures s q))
 
 returns-3 : tie.Need-returns-3
-returns-3 c = let a = c .before .before .before .before .before .args in subst (λ (p : Plan). (s : State) → Queued (a .z) (a .queue .now) (a .events .now) (a .order .now) s → Told (a .z) (a .queue .now) (a .events .now) (a .order .now) 5 (put (a .cell) p s)) (sym (c .enum-told2 .given .1)) (λ s q. (refl, q))
+returns-3 c =
+    let b : tie.Start = search in
+    let a = b .args in
+    subst (λ (p : Plan). (s : State) → Queued (a .z) (a .queue .now) (a .events .now) (a .order .now) s → Told (a .z) (a .queue .now) (a .events .now) (a .order .now) 5 (put (a .cell) p s)) (sym (c .enum-told2 .given .1)) (λ s q. (refl, q))
 
 pub put-spec : {M : Type 1} → statement M
 put-spec =

@@ -1,120 +1,89 @@
-use Rattle.acts.proofs.Queues.{at-in, nums-kept, reals-kept, count-most, row-asks, update-asks, more-asks, head-asks, take-tables, take-done}
+use Rattle.acts.proofs.Queues.{row-asks, update-asks, take-asks, take-tables, take-done}
 use Prim.Native.Nat.{_-_}
+use borrow.Rule.Slice.PartMut.{same-len-mid}
 use native.Mathlib.Omega.{arith}
 use Rattle.acts.proofs.queue.take.Statement.{statement}
 use Rattle.acts.proofs.queue.take.Tie as tie
 
 row-of-requires : tie.Need-row-of-requires
-row-of-requires c κs = let b = c .before .before .before .before .before in row-asks (b .pre .0 .1) (b .pre .1)
+row-of-requires c κs = let b : tie.Start = search in row-asks (b .pre .0 .1) (b .pre .1)
 
-mul-get-head : tie.Need-mul-get-head
-mul-get-head c = omega arith
+mul-take : tie.Need-mul-take
+mul-take c = let K = c .row-of .ensures in omega arith
 
-sub-get-head : tie.Need-sub-get-head
-sub-get-head c = omega arith
+sub-take : tie.Need-sub-take
+sub-take c = let K = c .row-of .ensures in omega arith
 
-part-get-head-start : tie.Need-part-get-head-start
-part-get-head-start c = omega arith
+part-take-start : tie.Need-part-take-start
+part-take-start c = let K = c .row-of .ensures in omega arith
 
-part-get-head-end : tie.Need-part-get-head-end
-part-get-head-end c = c .before .row-of .ensures .b-in
+part-take-end : tie.Need-part-take-end
+part-take-end c = c .row-of .ensures .nums-in
 
-mul-get-head-2 : tie.Need-mul-get-head-2
-mul-get-head-2 c = omega arith
+mul-take-2 : tie.Need-mul-take-2
+mul-take-2 c = let r = c .before in let K = r .row-of .ensures in omega arith
 
-sub-get-head-2 : tie.Need-sub-get-head-2
-sub-get-head-2 c = omega arith
+sub-take-2 : tie.Need-sub-take-2
+sub-take-2 c = let r = c .before in let K = r .row-of .ensures in omega arith
 
-part-get-head-start-2 : tie.Need-part-get-head-start-2
-part-get-head-start-2 c = omega arith
+part-take-start-2 : tie.Need-part-take-start-2
+part-take-start-2 c = let r = c .before in let K = r .row-of .ensures in omega arith
 
-part-get-head-end-2 : tie.Need-part-get-head-end-2
-part-get-head-end-2 c = c .before .before .before .row-of .ensures .q-in
+part-take-end-2 : tie.Need-part-take-end-2
+part-take-end-2 c = let r = c .before in r .row-of .ensures .reals-in
 
-get-head-requires : tie.Need-get-head-requires
-get-head-requires c κs = let b = c .before .before .before .before .before .before .before .before .before .before in let h = b .pre .1 in let q = b .pre .0 .1 in let K = c .before .before .before .before .row-of .ensures in head-asks q h K
-
-mul-pull : tie.Need-mul-pull
-mul-pull c = omega arith
-
-sub-pull : tie.Need-sub-pull
-sub-pull c = omega arith
-
-part-pull-start : tie.Need-part-pull-start
-part-pull-start c = omega arith
-
-part-pull-end : tie.Need-part-pull-end
-part-pull-end c = c .before .before .before .before .before .row-of .ensures .b-in
-
-mul-pull-2 : tie.Need-mul-pull-2
-mul-pull-2 c = let b = c .before .before .before .before .before .before .before .before .before .before .before .before in let K = c .before .before .before .before .before .before .row-of .ensures in omega arith
-
-sub-pull-2 : tie.Need-sub-pull-2
-sub-pull-2 c = omega arith
-
-part-pull-start-2 : tie.Need-part-pull-start-2
-part-pull-start-2 c = omega arith
-
-part-pull-end-2 : tie.Need-part-pull-end-2
-part-pull-end-2 c = c .before .before .before .before .before .before .row-of .ensures .q-in
-
-sub-pull-3 : tie.Need-sub-pull-3
-sub-pull-3 c = let b = c .before .before .before .before .before .before .before .before .before .before .before .before .before in let h = b .pre .1 in let q = b .pre .0 .1 in let K = c .before .before .before .before .before .before .before .row-of .ensures in let l = b .pre .2 in omega (arith, K .n-is)
-
-pull-requires : tie.Need-pull-requires
-pull-requires c κs = let b = c .before .before .before .before .before .before .before .before .before .before .before .before .before in let h = b .pre .1 in let q = b .pre .0 .1 in let K = c .before .before .before .before .before .before .before .row-of .ensures in let l = b .pre .2 in more-asks q h K (c .before .before .before .before .before .before .before .row-of .result .n - 1) (omega (arith, K .n-is, count-most (q .tables) K h))
-
-sub-queue : tie.Need-sub-queue
-sub-queue c = let b = c .before .before .before .before .before .before .before .before .before .before .before .before .before .before .before .before .before .before in let h = b .pre .1 in let q = b .pre .0 .1 in let K = c .before .before .before .before .before .before .before .before .before .before .before .before .row-of .ensures in let l = b .pre .2 in omega (arith, K .n-is)
-
-mul-queue : tie.Need-mul-queue
-mul-queue c = let b = c .before .before .before .before .before .before .before .before .before .before .before .before .before .before .before .before .before .before in let K = c .before .before .before .before .before .before .before .before .before .before .before .before .row-of .ensures in omega arith
-
-slice-write-queue : tie.Need-slice-write-queue
-slice-write-queue c = at-in (c .before .before .before .before .before .before .before .before .before .before .before .before .row-of .ensures) (c .before .before .before .before .pull .last .0) (c .before .before .before .before .pull .kept .0)
+take-requires : tie.Need-take-requires
+take-requires c κs =
+    let r = c .before .before in
+    let b : tie.Start = search in
+    take-asks (b .args .cell) (b .pre .0 .0) (b .pre .0 .1) (r .row-of .ensures) (b .pre .1) (b .pre .2)
 
 update-requires : tie.Need-update-requires
-update-requires c κs = let b = c .before .before .before .before .before .before .before .before .before .before .before .before .before .before .before .before .before .before .before .before .before in let h = b .pre .1 in let q = b .pre .0 .1 in let K = c .before .before .before .before .before .before .before .before .before .before .before .before .before .before .before .row-of .ensures in let l = b .pre .2 in update-asks q h (take-tables (b .args .cell) (b .pre .0 .0) q K h l (c .before .before .before .before .before .before .before .pull .ensures))
+update-requires c κs =
+    let i : tie.After-take = search in
+    let r : tie.After-row-of = search in
+    let b : tie.Start = search in
+    update-asks (b .pre .0 .1) (b .pre .1) (take-tables (b .args .cell) (b .pre .0 .0) (b .pre .0 .1) (r .row-of .ensures) (b .pre .1) (b .pre .2) (i .take .ensures))
 
 same-length : tie.Need-same-length
-same-length c = let b = c .before .before .before .before .before .before .before .before .before .before .before .before .before .before .before .before .before .before .before .before .before .before .before .before in nums-kept (c .before .before .before .before .before .before .before .before .before .before .before .before .before .before .before .before .before .before .row-of .result) (b .args .queue .now) (c .before .before .before .before .before .before .before .before .before .before .pull .last .0) (c .before .before .before .before .before .before .before .before .before .before .before .before .before .before .before .before .before .before .row-of .result .n - 1) (c .before .before .before .before .before .before .before .before .before .before .pull .kept .0)
+same-length c =
+    let i : tie.After-take = search in
+    let r : tie.After-row-of = search in
+    let b : tie.Start = search in
+    let k = r .row-of .result in same-len-mid (k .a) (k .b - k .a) (b .args .queue .now) (i .take .last .0) (i .take .kept .0)
 
 same-length-2 : tie.Need-same-length-2
-same-length-2 c = let b = c .before .before .before .before .before .before .before .before .before .before .before .before .before .before .before .before .before .before .before .before .before .before .before .before in reals-kept (c .before .before .before .before .before .before .before .before .before .before .before .before .before .before .before .before .before .before .row-of .result) (b .args .events .now) (c .before .before .before .before .before .before .before .before .before .before .pull .last .1 .0) (c .before .before .before .before .before .before .before .before .before .before .pull .kept .1 .0)
+same-length-2 c =
+    let i : tie.After-take = search in
+    let r : tie.After-row-of = search in
+    let b : tie.Start = search in
+    let k = r .row-of .result in same-len-mid (k .p) (k .q - k .p) (b .args .events .now) (i .take .last .1 .0) (i .take .kept .1 .0)
 
 same-length-3 : tie.Need-same-length-3
-same-length-3 c = c .before .before .update .kept .0
+same-length-3 c = let u = c .before .before in u .update .kept .0
 
 returns : tie.Need-returns
-returns c = let b = c .before .before .before .before .before .before .before .before .before .before .before .before .before .before .before .before .before .before .before .before .before .before .before .before in let h = b .pre .1 in let l = b .pre .2 in let K = c .before .before .before .before .before .before .before .before .before .before .before .before .before .before .before .before .before .before .row-of .ensures in λ s q. take-done (b .args .cell) s q K h l (c .before .before .before .before .before .before .before .before .before .before .before .before .before .get-head .ensures) (take-tables (b .args .cell) s q K h l (c .before .before .before .before .before .before .before .before .before .before .pull .ensures)) (c .before .before .update .ensures)
+returns c =
+    let u = c .before .before in
+    let i : tie.After-take = search in
+    let r : tie.After-row-of = search in
+    let b : tie.Start = search in
+    λ s q. take-done (b .args .cell) s q (r .row-of .ensures) (b .pre .1) (b .pre .2) (i .take .ensures) (take-tables (b .args .cell) s q (r .row-of .ensures) (b .pre .1) (b .pre .2) (i .take .ensures)) (u .update .ensures)
 
 pub take-spec : {M : Type 1} → statement M
 take-spec =
     tie.close
     (tie.spec
     row-of-requires
-    mul-get-head
-    sub-get-head
-    part-get-head-start
-    part-get-head-end
-    mul-get-head-2
-    sub-get-head-2
-    part-get-head-start-2
-    part-get-head-end-2
-    get-head-requires
-    mul-pull
-    sub-pull
-    part-pull-start
-    part-pull-end
-    mul-pull-2
-    sub-pull-2
-    part-pull-start-2
-    part-pull-end-2
-    sub-pull-3
-    pull-requires
-    sub-queue
-    mul-queue
-    slice-write-queue
+    mul-take
+    sub-take
+    part-take-start
+    part-take-end
+    mul-take-2
+    sub-take-2
+    part-take-start-2
+    part-take-end-2
+    take-requires
     update-requires
     same-length
     same-length-2

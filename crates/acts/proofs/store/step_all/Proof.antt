@@ -12,7 +12,10 @@ same-length : tie.Need-same-length
 same-length c = search needs
 
 returns : tie.Need-returns
-returns c = let b = c .before .before .before .before .before in let a = b .args in λ s S t. all-told (InGrains (a .z) (c .before .before .step-from .last .0)) stepGrain s (S .many) (c .before .before .step-from .ensures s S t)
+returns c =
+    let b : tie.Start = search in
+    let a = b .args in
+    λ s S t. all-told (InGrains (a .z) (c .before .before .step-from .last .0)) stepGrain s (S .many) (c .before .before .step-from .ensures s S t)
 
 pub step-all-spec : {M : Type 1} → statement M
 step-all-spec = tie.close (tie.spec step-from-requires same-length returns)

@@ -17,7 +17,12 @@ same-length : tie.Need-same-length
 same-length c = search needs
 
 returns : tie.Need-returns
-returns c = let b = c .before .before .before .before .before .before .before .before in let a = b .args in λ s S t. step-told (a .domain) (a .clock) (a .g) (c .before .before .before .before .before .get-grain .result) (c .before .before .before .stepped .result) s (c .before .before .before .before .before .get-grain .ensures (a .z) (s .grains) S) (c .before .before .before .stepped .ensures) t (c .before .before .store .ensures s S)
+returns c =
+    let st : tie.After-stepped = search in
+    let gg : tie.After-get-grain = search in
+    let b : tie.Start = search in
+    let a = b .args in
+    λ s S t. step-told (a .domain) (a .clock) (a .g) (gg .get-grain .result) (st .stepped .result) s (gg .get-grain .ensures (a .z) (s .grains) S) (st .stepped .ensures) t (c .before .before .store .ensures s S)
 
 pub step-grain-spec : {M : Type 1} → statement M
 step-grain-spec =

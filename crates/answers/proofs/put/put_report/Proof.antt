@@ -33,7 +33,11 @@ returns-2 : tie.Need-returns-2
 returns-2 c = let a = c .before .before .before .before .args in report-put _ (Spent _ _) (a .n) (a .bits .now) _ _ _ (c .before .before .enum-told .given .1) (c .put-answer .ensures)
 
 returns-3 : tie.Need-returns-3
-returns-3 c = let a = c .before .before .before .before .before .args in report-put _ (Refused _ _ _) (a .n) (a .bits .now) _ _ _ (c .before .before .before .report2 .given .1) (c .put-answer2 .ensures)
+returns-3 c =
+    let c3 = c .before .before .before in
+    let c5 = c3 .before .before in
+    let a = c5 .args in
+    report-put _ (Refused _ _ _) (a .n) (a .bits .now) _ _ _ (c3 .report2 .given .1) (c .put-answer2 .ensures)
 
 pub put-report-spec : {M : Type 1} → statement M
 put-report-spec =

@@ -17,7 +17,12 @@ put-report-requires : tie.Need-put-report-requires
 put-report-requires c κs = search needs
 
 returns : tie.Need-returns
-returns c = let a = c .before .before .before .before .before .before .before .before .before .before .args in served-put (a .domain) (a .rate) (a .grains .now) (a .n) _ (c .before .before .before .serve .result) _ _ _ _ (c .before .before .before .before .before .before .before .floats .ensures) (c .before .before .before .serve .ensures) (c .put-report .ensures)
+returns c =
+    let c3 = c .before .before .before in
+    let c7 = c3 .before .before .before .before in
+    let c10 = c7 .before .before .before in
+    let a = c10 .args in
+    served-put (a .domain) (a .rate) (a .grains .now) (a .n) _ (c3 .serve .result) _ _ _ _ (c7 .floats .ensures) (c3 .serve .ensures) (c .put-report .ensures)
 
 pub put-served-spec : {M : Type 1} → statement M
 put-served-spec =

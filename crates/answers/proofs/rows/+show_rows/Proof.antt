@@ -59,7 +59,12 @@ show-rows-same-length : (t : ℕ) → show-rows-lts.Need-same-length (Rd t) (sho
 show-rows-same-length t c = search needs
 
 show-rows-returns-2 : (t : ℕ) → show-rows-lts.Need-returns-2 (Rd t) (show-rows-at t) show-rows.Post
-show-rows-returns-2 t c = show-more _ _ _ _ _ _ (c .before .before .before .before .before .before .before .before .before .if1 .left) (less-rows _ 5 _ (c .before .before .before .before .before .before .before .before .before .if1 .left) (c .before .before .before .before .before .before .before .before .before .before .before .before .pre .1 .1) .0) refl (c .before .before .before .before .before .before .show-rows .ensures) (c .before .before .show-one .ensures)
+show-rows-returns-2 t c =
+    let c2 = c .before .before in
+    let c6 = c2 .before .before .before .before in
+    let c9 = c6 .before .before .before in
+    let c12 = c9 .before .before .before in
+    show-more _ _ _ _ _ _ (c9 .if1 .left) (less-rows _ 5 _ (c9 .if1 .left) (c12 .pre .1 .1) .0) refl (c6 .show-rows .ensures) (c2 .show-one .ensures)
 
 pub +show-rows-spec : {M : Type 1} → statement M
 +show-rows-spec = close μ-show-rows λ t. show-rows-lts.spec (Rd t)

@@ -58,8 +58,11 @@ same-length c = search needs
 
 returns : tie.Need-returns
 returns c =
-    let g = c .before .before .before .before .before .before .before .before .before .before .before .before .args .grains .now in
-    rw (c .before .before .before .before .before .before .before .before .bits-of-float .ensures, c .before .before .before .before .before .before .bits-of-float2 .ensures, c .before .before .before .before .bits-of-float3 .ensures, c .before .before .bits-of-float4 .ensures, c .bits-of-float5 .ensures) (five-set (c .before .before .before .before .before .before .before .before .before .before .before .before .args .bits .now) (shown (grainAt g)) (c .before .before .before .before .before .before .before .before .before .before .before .before .pre .1))
+    let c4 = c .before .before .before .before in
+    let c8 = c4 .before .before .before .before in
+    let c12 = c8 .before .before .before .before in
+    rw (c8 .bits-of-float .ensures, c .before .before .before .before .before .before .bits-of-float2 .ensures, c4 .bits-of-float3 .ensures, c .before .before .bits-of-float4 .ensures, c .bits-of-float5 .ensures)
+    (five-set (c12 .args .bits .now) (shown (grainAt (c12 .args .grains .now))) (c12 .pre .1))
 
 pub show-one-spec : {M : Type 1} → statement M
 show-one-spec =

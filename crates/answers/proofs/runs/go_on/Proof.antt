@@ -33,7 +33,10 @@ same-length-5 : tie.Need-same-length-5
 same-length-5 c = search needs
 
 returns : tie.Need-returns
-returns c = ran _ (c .before .before .before .before .before .before .before .before .before .before .run .result) _ _ _ _ _ (c .before .before .before .before .before .before .before .before .before .before .before .before .before .before .before .before .enum-told .given .1) (c .before .before .before .before .before .before .before .before .before .before .run .ensures .is)
+returns c =
+    let c10 = c .before .before .before .before .before .before .before .before .before .before in
+    let c16 = c10 .before .before .before .before .before .before in
+    ran _ (c10 .run .result) _ _ _ _ _ (c16 .enum-told .given .1) (c10 .run .ensures .is)
 
 returns-2 : tie.Need-returns-2
 returns-2 c = kept _ _ _ _ (c .before .report .given .1) refl

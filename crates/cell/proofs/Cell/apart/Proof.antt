@@ -14,7 +14,10 @@ new-requires : tie.Need-new-requires
 new-requires c κs = search needs
 
 returns : tie.Need-returns
-returns c = let w = apart-cell (c .before .before .before .before .before .args .domain) (c .before .before .before .before .before .args .self) (c .before .before .before .before .before .args .dpos) (c .before .before .before .before .before .pre) in cc
+returns c =
+    let c5 = c .before .before .before .before .before in
+    let w = apart-cell (c5 .args .domain) (c5 .args .self) (c5 .args .dpos) (c5 .pre) in
+    cc
 
 pub apart-spec : {M : Type 1} → statement M
 apart-spec =

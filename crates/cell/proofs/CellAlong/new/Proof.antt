@@ -36,13 +36,21 @@ index-below-requires : tie.Need-index-below-requires
 index-below-requires c κs = let k = known (c .before .before .before .before .before .before) in omega arith
 
 beside-requires : tie.Need-beside-requires
-beside-requires c κs = let k = known (c .before .before .before .before .before .before .before) in (k .some, k .few, omega arith, wrapped-small _ (c .before .before .before .before .before .before .across .result) _ (omega arith) (omega arith) (c .index-below .ensures))
+beside-requires c κs =
+    let c6 = c .before .before .before .before .before .before in
+    let c7 = c6 .before in
+    let k = known (c7) in
+    (k .some, k .few, omega arith, wrapped-small _ (c6 .across .result) _ (omega arith) (omega arith) (c .index-below .ensures))
 
 index-above-requires : tie.Need-index-above-requires
 index-above-requires c κs = let k = known (c .before .before .before .before .before .before .before .before) in omega arith
 
 beside-requires-2 : tie.Need-beside-requires-2
-beside-requires-2 c κs = let k = known (c .before .before .before .before .before .before .before .before .before) in (k .some, k .few, omega arith, wrapped-small _ (c .before .before .before .before .before .before .before .before .across .result) _ (omega arith) (omega arith) (c .index-above .ensures))
+beside-requires-2 c κs =
+    let c8 = c .before .before .before .before .before .before .before .before in
+    let c9 = c8 .before in
+    let k = known (c9) in
+    (k .some, k .few, omega arith, wrapped-small _ (c8 .across .result) _ (omega arith) (omega arith) (c .index-above .ensures))
 
 returns : tie.Need-returns
 returns c = let w = meant (c .before .before .before .before .before .before .before .before .before .before) in cc

@@ -20,10 +20,13 @@ cell-at-requires-2 : tie.Need-cell-at-requires-2
 cell-at-requires-2 c κs = let h = mod-le (c .before .before .args .cell) (c .before .before .args .self .n0) in search needs
 
 returns : tie.Need-returns
-returns c = rw (c .before .before .if1 .taken) (c .cell-at .ensures)
+returns c = cc
 
 returns-2 : tie.Need-returns-2
-returns-2 c = c .cell-at2 .ensures ∙ other (λ d. besideIn (c .before .before .before .args .self) d (c .before .before .before .args .cell) (c .before .before .before .args .index)) _ (c .before .before .before .args .dim) (c .before .before .if1 .left) (λ k. refl)
+returns-2 c =
+    let c2 = c .before .before in
+    let c3 = c2 .before in
+    c .cell-at2 .ensures ∙ other (λ d. besideIn (c3 .args .self) d (c3 .args .cell) (c3 .args .index)) _ (c3 .args .dim) (c2 .if1 .left) (λ k. refl)
 
 pub beside-spec : {M : Type 1} → statement M
 beside-spec =

@@ -13,7 +13,7 @@ div-result : tie.Need-div-result
 div-result c = search needs
 
 returns : tie.Need-returns
-returns c = rw (c .before .if1 .taken)
+returns c = cc
 
 returns-2 : tie.Need-returns-2
 returns-2 c = other (λ d. indexIn (c .before .before .args .self) d (c .before .before .args .cell)) _ (c .before .before .args .dim) (c .before .if1 .left) (λ k. refl)

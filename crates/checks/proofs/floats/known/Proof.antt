@@ -11,7 +11,9 @@ returns : tie.Need-returns
 returns c = search needs
 
 returns-2 : tie.Need-returns-2
-returns-2 c = none-fits (c .before .args .reals .now) (c .if1 .left)
+returns-2 c =
+    let b : tie.Start = search in
+    none-fits (b .args .reals .now) (c .if1 .left)
 
 pub known-spec : {M : Type 1} → statement M
 known-spec = tie.close (tie.spec shared-slice-read--first returns returns-2)

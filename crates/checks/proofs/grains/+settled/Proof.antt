@@ -2,13 +2,11 @@
 use mathlib.Core.Path.{sym, ap, _∙_}
 use borrow.Author.Tests.{not-true, not-false}
 use lib.ListN.{length}
-use lib.Seq.{length-take-le}
 use lib.Ieee.{nan}
 use Rattle.tables.specs.Decode.{grainAt}
-use Rattle.checks.specs.Parts.{grainOk}
-use Rattle.checks.proofs.Cut.{take-tab, less-rows, rest-long, cut-none, cut-step}
+use Rattle.model.specs.Check.{timely}
+use Rattle.checks.proofs.Cut.{take-tab, less-rows, cut-none, cut-step}
 use Rattle.checks.proofs.Lists.{all-none, all-no, all-more}
-use native.Mathlib.Omega.{arith}
 use borrow.Author.Needs.{needs}
 use Prim.Native.Nat.{ℕ, _<_}
 use borrow.Fn.Kinds.{In}
@@ -34,31 +32,44 @@ abbrev Rd : ℕ → settled-lts.Claims
 Rd t = (read-grain-reads.Asked, read-grain-reads.Learnt, fine-grain-reads.Asked, fine-grain-reads.Learnt, settled-below t, settled.Post)
 
 settled-returns : (t : ℕ) → settled-lts.Need-returns (Rd t) (settled-at t) settled.Post
-settled-returns t c = let b = c .before .before in let l = b .args .reals .now in let n = b .args .n in all-none (grainOk (b .args .t)) (cut-none grainAt 6 n l (c .if1 .taken))
+settled-returns t c =
+    let b : settled-lts.Start (Rd t) (settled-at t) settled.Post = search in
+    let l = b .args .reals .now in
+    let n = b .args .n in
+    all-none (timely (b .args .t)) (cut-none grainAt 6 n l (c .if1 .taken))
 
 settled-sub-read-grain : (t : ℕ) → settled-lts.Need-sub-read-grain (Rd t) (settled-at t) settled.Post
-settled-sub-read-grain t c = let b = c .before .before in let l = b .args .reals .now in let n = b .args .n in let d = less-rows n 6 (length l) (c .if1 .left) (b .pre .1) in omega arith
+settled-sub-read-grain t c = search needs
 
 settled-part-read-grain-start : (t : ℕ) → settled-lts.Need-part-read-grain-start (Rd t) (settled-at t) settled.Post
-settled-part-read-grain-start t c = let b = c .before .before in let l = b .args .reals .now in let n = b .args .n in let d = less-rows n 6 (length l) (c .if1 .left) (b .pre .1) in omega arith
+settled-part-read-grain-start t c = search needs
 
 settled-part-read-grain-end : (t : ℕ) → settled-lts.Need-part-read-grain-end (Rd t) (settled-at t) settled.Post
-settled-part-read-grain-end t c = let b = c .before .before in let l = b .args .reals .now in let n = b .args .n in let d = less-rows n 6 (length l) (c .if1 .left) (b .pre .1) in omega arith
+settled-part-read-grain-end t c = search needs
 
 settled-read-grain-requires : (t : ℕ) → settled-lts.Need-read-grain-requires (Rd t) (settled-at t) settled.Post
-settled-read-grain-requires t c κs = let b = c .before .before .before in let l = b .args .reals .now in let n = b .args .n in let d = less-rows n 6 (length l) (c .before .if1 .left) (b .pre .1) in length-take-le 6 l (d .0)
+settled-read-grain-requires t c κs = search needs
 
 settled-fine-grain-requires : (t : ℕ) → settled-lts.Need-fine-grain-requires (Rd t) (settled-at t) settled.Post
 settled-fine-grain-requires t c κs = search needs
 
 settled-returns-2 : (t : ℕ) → settled-lts.Need-returns-2 (Rd t) (settled-at t) settled.Post
-settled-returns-2 t c = let b = c .before .before .before .before .before .before in let l = b .args .reals .now in let n = b .args .n in let d = less-rows n 6 (length l) (c .before .before .before .before .if1 .left) (b .pre .1) in let p = c .before .before .read-grain in all-no (grainOk (b .args .t)) _ _ (cut-step grainAt 6 n l (c .before .before .before .before .if1 .left)) (ap (grainOk (b .args .t)) (sym (p .ensures (grainAt l) (take-tab l nan 6 0 (d .0)))) ∙ rw (sym (c .before .fine-grain .ensures) ∙ not-true _ (c .if2 .taken)))
+settled-returns-2 t c =
+    let c1 : settled-lts.After-fine-grain (Rd t) (settled-at t) settled.Post = search in
+    let c2 = c1 .before in
+    let c4 = c2 .before .before in
+    let b = c4 .before .before in
+    let l = b .args .reals .now in
+    let n = b .args .n in
+    let d = less-rows n 6 (length l) (c4 .if1 .left) (b .pre .1) in
+    let p = c2 .read-grain in
+    all-no (timely (b .args .t)) _ _ (cut-step grainAt 6 n l (c4 .if1 .left)) (ap (timely (b .args .t)) (sym (p .ensures (grainAt l) (take-tab l nan 6 0 (d .0)))) ∙ rw (sym (c1 .fine-grain .ensures) ∙ not-true _ (c .if2 .taken)))
 
 settled-sub-settled : (t : ℕ) → settled-lts.Need-sub-settled (Rd t) (settled-at t) settled.Post
-settled-sub-settled t c = let b = c .before .before .before .before .before .before .before .before in let l = b .args .reals .now in let n = b .args .n in let d = less-rows n 6 (length l) (c .before .before .before .before .before .before .if1 .left) (b .pre .1) in omega arith
+settled-sub-settled t c = search needs
 
 settled-part-settled-start : (t : ℕ) → settled-lts.Need-part-settled-start (Rd t) (settled-at t) settled.Post
-settled-part-settled-start t c = let b = c .before .before .before .before .before .before .before .before in let l = b .args .reals .now in let n = b .args .n in let d = less-rows n 6 (length l) (c .before .before .before .before .before .before .if1 .left) (b .pre .1) in omega arith
+settled-part-settled-start t c = search needs
 
 settled-part-settled-end : (t : ℕ) → settled-lts.Need-part-settled-end (Rd t) (settled-at t) settled.Post
 settled-part-settled-end t c = search needs
@@ -67,13 +78,34 @@ settled-sub-settled-2 : (t : ℕ) → settled-lts.Need-sub-settled-2 (Rd t) (set
 settled-sub-settled-2 t c = search needs
 
 settled-settled-requires : (t : ℕ) → settled-lts.Need-settled-requires (Rd t) (settled-at t) settled.Post
-settled-settled-requires t c κs = let b = c .before .before .before .before .before .before .before .before .before in let l = b .args .reals .now in let n = b .args .n in (omega arith, rest-long n 6 l (c .before .before .before .before .before .before .before .if1 .left) (b .pre .1))
+settled-settled-requires t c κs = search needs
 
 settled-returns-3 : (t : ℕ) → settled-lts.Need-returns-3 (Rd t) (settled-at t) settled.Post
-settled-returns-3 t c = let b = c .before .before .before .before .before .before .before .before .before .before in let l = b .args .reals .now in let n = b .args .n in let d = less-rows n 6 (length l) (c .before .before .before .before .before .before .before .before .if1 .left) (b .pre .1) in let p = c .before .before .before .before .before .before .read-grain in all-more (grainOk (b .args .t)) _ _ (cut-step grainAt 6 n l (c .before .before .before .before .before .before .before .before .if1 .left)) (ap (grainOk (b .args .t)) (sym (p .ensures (grainAt l) (take-tab l nan 6 0 (d .0)))) ∙ rw (sym (c .before .before .before .before .before .fine-grain .ensures) ∙ not-false _ (c .before .before .before .before .if2 .left), c .before .before .if3 .taken)) (c .settled .ensures)
+settled-returns-3 t c =
+    let c2 : settled-lts.Then3 (Rd t) (settled-at t) settled.Post = search in
+    let c4 = c2 .before .before in
+    let c5 = c4 .before in
+    let c6 = c5 .before in
+    let c8 = c6 .before .before in
+    let b = c8 .before .before in
+    let l = b .args .reals .now in
+    let n = b .args .n in
+    let d = less-rows n 6 (length l) (c8 .if1 .left) (b .pre .1) in
+    let p = c6 .read-grain in
+    all-more (timely (b .args .t)) _ _ (cut-step grainAt 6 n l (c8 .if1 .left)) (ap (timely (b .args .t)) (sym (p .ensures (grainAt l) (take-tab l nan 6 0 (d .0)))) ∙ rw (sym (c5 .fine-grain .ensures) ∙ not-false _ (c4 .if2 .left), c2 .if3 .taken)) (c .settled .ensures)
 
 settled-returns-4 : (t : ℕ) → settled-lts.Need-returns-4 (Rd t) (settled-at t) settled.Post
-settled-returns-4 t c = let b = c .before .before .before .before .before .before .before .before in let l = b .args .reals .now in let n = b .args .n in let d = less-rows n 6 (length l) (c .before .before .before .before .before .before .if1 .left) (b .pre .1) in let p = c .before .before .before .before .read-grain in all-no (grainOk (b .args .t)) _ _ (cut-step grainAt 6 n l (c .before .before .before .before .before .before .if1 .left)) (ap (grainOk (b .args .t)) (sym (p .ensures (grainAt l) (take-tab l nan 6 0 (d .0)))) ∙ rw (sym (c .before .before .before .fine-grain .ensures) ∙ not-false _ (c .before .before .if2 .left), c .if3 .left))
+settled-returns-4 t c =
+    let c2 : settled-lts.Else2 (Rd t) (settled-at t) settled.Post = search in
+    let c3 = c2 .before in
+    let c4 = c3 .before in
+    let c6 = c4 .before .before in
+    let b = c6 .before .before in
+    let l = b .args .reals .now in
+    let n = b .args .n in
+    let d = less-rows n 6 (length l) (c6 .if1 .left) (b .pre .1) in
+    let p = c4 .read-grain in
+    all-no (timely (b .args .t)) _ _ (cut-step grainAt 6 n l (c6 .if1 .left)) (ap (timely (b .args .t)) (sym (p .ensures (grainAt l) (take-tab l nan 6 0 (d .0)))) ∙ rw (sym (c3 .fine-grain .ensures) ∙ not-false _ (c2 .if2 .left), c .if3 .left))
 
 pub +settled-spec : {M : Type 1} → statement M
 +settled-spec = close μ-settled λ t. settled-lts.spec (Rd t)

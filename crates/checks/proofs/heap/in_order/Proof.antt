@@ -8,7 +8,13 @@ use Rattle.checks.proofs.heap.in_order.Statement.{statement}
 use Rattle.checks.proofs.heap.in_order.Tie as tie
 
 returns : tie.Need-returns
-returns c = let b = c .before .before .before .before in let i = b .args .i in let n = b .args .n in let hp = b .args .heap .now in let h = headIn (b .args .events .now) (b .args .queue .now) (b .args .room) in order-first h hp n i (c .if1 .taken)
+returns c =
+    let b : tie.Start = search in
+    let i = b .args .i in
+    let n = b .args .n in
+    let hp = b .args .heap .now in
+    let h = headIn (b .args .events .now) (b .args .queue .now) (b .args .room) in
+    order-first h hp n i (c .if1 .taken)
 
 sub-p : tie.Need-sub-p
 sub-p c = search needs
@@ -17,25 +23,53 @@ shared-slice-read-head-time : tie.Need-shared-slice-read-head-time
 shared-slice-read-head-time c = search needs
 
 cast-head-time : tie.Need-cast-head-time
-cast-head-time c = omega (arith, c .before .before .before .before .shared-slice-known .given (c .before .before .before .before .before .args .i))
+cast-head-time c =
+    let ssk : tie.After-shared-slice-known = search in
+    let b : tie.Start = search in
+    omega (arith, ssk .shared-slice-known .given (b .args .i))
 
 head-time-requires : tie.Need-head-time-requires
-head-time-requires c κs = (c .before .before .before .before .before .pre .2, omega (arith, c .before .before .before .before .shared-slice-known .given (c .before .before .before .before .before .args .i)))
+head-time-requires c κs =
+    let c4 : tie.After-shared-slice-known = search in
+    let c5 = c4 .before in
+    (c5 .pre .2, omega (arith, c4 .shared-slice-known .given (c5 .args .i)))
 
 shared-slice-read-head-time-2 : tie.Need-shared-slice-read-head-time-2
 shared-slice-read-head-time-2 c = search needs
 
 cast-head-time-2 : tie.Need-cast-head-time-2
-cast-head-time-2 c = omega (arith, c .shared-slice-known5 .given ((c .before .before .before .before .before .before .before .args .i - 1) / 2))
+cast-head-time-2 c =
+    let b : tie.Start = search in
+    omega (arith, c .shared-slice-known5 .given ((b .args .i - 1) / 2))
 
 head-time-requires-2 : tie.Need-head-time-requires-2
-head-time-requires-2 c κs = (c .before .before .before .before .before .before .before .pre .2, omega (arith, c .shared-slice-known5 .given ((c .before .before .before .before .before .before .before .args .i - 1) / 2)))
+head-time-requires-2 c κs =
+    let c7 : tie.Start = search in
+    (c7 .pre .2, omega (arith, c .shared-slice-known5 .given ((c7 .args .i - 1) / 2)))
 
 returns-2 : tie.Need-returns-2
-returns-2 c = let b = c .before .before .before .before .before .before .before .before .before in let i = b .args .i in let n = b .args .n in let hp = b .args .heap .now in let h = headIn (b .args .events .now) (b .args .queue .now) (b .args .room) in order-no h hp n i (b .pre .0) (c .before .before .before .before .before .if1 .left) (c .before .before .before .head-time .ensures) (c .before .head-time2 .ensures) (c .if2 .taken)
+returns-2 c =
+    let c1 : tie.After-head-time2 = search in
+    let c3 = c1 .before .before in
+    let c5 = c3 .before .before in
+    let b = c5 .before .before .before .before in
+    let i = b .args .i in
+    let n = b .args .n in
+    let hp = b .args .heap .now in
+    let h = headIn (b .args .events .now) (b .args .queue .now) (b .args .room) in
+    order-no h hp n i (b .pre .0) (c5 .if1 .left) (c3 .head-time .ensures) (c1 .head-time2 .ensures) (c .if2 .taken)
 
 returns-3 : tie.Need-returns-3
-returns-3 c = let b = c .before .before .before .before .before .before .before .before .before in let i = b .args .i in let n = b .args .n in let hp = b .args .heap .now in let h = headIn (b .args .events .now) (b .args .queue .now) (b .args .room) in order-yes h hp n i (b .pre .0) (c .before .before .before .before .before .if1 .left) (c .before .before .before .head-time .ensures) (c .before .head-time2 .ensures) (c .if2 .left)
+returns-3 c =
+    let c1 : tie.After-head-time2 = search in
+    let c3 = c1 .before .before in
+    let c5 = c3 .before .before in
+    let b = c5 .before .before .before .before in
+    let i = b .args .i in
+    let n = b .args .n in
+    let hp = b .args .heap .now in
+    let h = headIn (b .args .events .now) (b .args .queue .now) (b .args .room) in
+    order-yes h hp n i (b .pre .0) (c5 .if1 .left) (c3 .head-time .ensures) (c1 .head-time2 .ensures) (c .if2 .left)
 
 pub in-order-spec : {M : Type 1} → statement M
 in-order-spec =

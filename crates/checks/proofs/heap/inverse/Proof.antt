@@ -5,7 +5,7 @@ use Prim.Native.Nat.{_-_, _≤_}
 use native.Mathlib.Nat.{sub-zero}
 use Rattle.halting.specs.Every.{every}
 use Rattle.halting.proofs.Tests.{passed, failed, ended}
-use Rattle.checks.specs.Walk.{leadsBack}
+use Rattle.model.specs.Check.{leadsBack}
 use native.Mathlib.Omega.{arith}
 use borrow.Author.Needs.{needs}
 use Rattle.checks.proofs.heap.inverse.Statement.{statement}
@@ -24,7 +24,13 @@ leads-back-requires : tie.Need-leads-back-requires Inv-loop μ-loop
 leads-back-requires c κs = search needs
 
 returns : tie.Need-returns Inv-loop μ-loop
-returns c = let g = c .before .before .before .before .before .before .args in sym (failed (leadsBack (g .a .now) (g .b .now) (g .n)) _ _ (c .before .before .loop-test .taken) (sym (c .before .leads-back .ensures) ∙ not-true _ (c .if1 .taken))) ∙ c .before .before .before .loop .inv .1
+returns c =
+    let c1 : tie.After-leads-back Inv-loop μ-loop = search in
+    let c2 = c1 .before in
+    let c3 = c2 .before in
+    let c6 = c3 .before .before .before in
+    let g = c6 .args in
+    sym (failed (leadsBack (g .a .now) (g .b .now) (g .n)) _ _ (c2 .loop-test .taken) (sym (c1 .leads-back .ensures) ∙ not-true _ (c .if1 .taken))) ∙ c3 .loop .inv .1
 
 add-i : tie.Need-add-i Inv-loop μ-loop
 add-i c = search needs
@@ -33,10 +39,21 @@ loop-less : tie.Need-loop-less Inv-loop μ-loop
 loop-less c = search needs
 
 loop-again : tie.Need-loop-again Inv-loop μ-loop
-loop-again c = let g = c .before .before .before .before .before .before .args in let h = c .before .before .loop-test .taken in (omega (arith, h), sym (passed (leadsBack (g .a .now) (g .b .now) (g .n)) _ _ h (sym (c .before .leads-back .ensures) ∙ not-false _ (c .if1 .left))) ∙ c .before .before .before .loop .inv .1)
+loop-again c =
+    let c1 : tie.After-leads-back Inv-loop μ-loop = search in
+    let c2 = c1 .before in
+    let c3 = c2 .before in
+    let c6 = c3 .before .before .before in
+    let g = c6 .args in
+    let h = c2 .loop-test .taken in
+    (omega (arith, h), sym (passed (leadsBack (g .a .now) (g .b .now) (g .n)) _ _ h (sym (c1 .leads-back .ensures) ∙ not-false _ (c .if1 .left))) ∙ c3 .loop .inv .1)
 
 returns-2 : tie.Need-returns-2 Inv-loop μ-loop
-returns-2 c = let g = c .before .before .before .before .args in sym (ended (leadsBack (g .a .now) (g .b .now) (g .n)) _ _ (c .loop-test .left)) ∙ c .before .loop .inv .1
+returns-2 c =
+    let at-loop : tie.At-loop Inv-loop μ-loop = search in
+    let b : tie.Start Inv-loop μ-loop = search in
+    let g = b .args in
+    sym (ended (leadsBack (g .a .now) (g .b .now) (g .n)) _ _ (c .loop-test .left)) ∙ at-loop .loop .inv .1
 
 pub inverse-spec : {M : Type 1} → statement M
 inverse-spec =

@@ -10,7 +10,9 @@ shared-slice-read-c : tie.Need-shared-slice-read-c
 shared-slice-read-c c = search needs
 
 cast-c : tie.Need-cast-c
-cast-c c = omega (arith, c .shared-slice-known .given (c .before .args .i))
+cast-c c =
+    let b : tie.Start = search in
+    omega (arith, c .shared-slice-known .given (b .args .i))
 
 returns : tie.Need-returns
 returns c = rw (le-ltb _ _ (c .if1 .taken))
@@ -19,10 +21,14 @@ shared-slice-read-result : tie.Need-shared-slice-read-result
 shared-slice-read-result c = search needs
 
 cast-result : tie.Need-cast-result
-cast-result c = omega (arith, c .shared-slice-known2 .given (getD (c .before .before .before .args .a .now) (c .before .before .before .args .i) 0))
+cast-result c =
+    let b : tie.Start = search in
+    omega (arith, c .shared-slice-known2 .given (getD (b .args .a .now) (b .args .i) 0))
 
 returns-2 : tie.Need-returns-2
-returns-2 c = rw (lt-ltb _ _ (c .before .if1 .left))
+returns-2 c =
+    let else1 : tie.Else1 = search in
+    rw (lt-ltb _ _ (else1 .if1 .left))
 
 pub leads-back-spec : {M : Type 1} → statement M
 leads-back-spec =

@@ -5,7 +5,7 @@ use Prim.Native.Nat.{_-_, _≤_}
 use native.Mathlib.Nat.{sub-zero}
 use Rattle.halting.specs.Every.{every}
 use Rattle.halting.proofs.Tests.{passed, failed, ended}
-use Rattle.checks.specs.Walk.{inOrder}
+use Rattle.model.specs.Check.{inOrder}
 use Rattle.scheduler.specs.Inside.{headIn}
 use native.Mathlib.Omega.{arith}
 use borrow.Author.Needs.{needs}
@@ -25,7 +25,13 @@ in-order-requires : tie.Need-in-order-requires Inv-loop μ-loop
 in-order-requires c κs = search needs
 
 returns : tie.Need-returns Inv-loop μ-loop
-returns c = let g = c .before .before .before .before .before .before .before .args in sym (failed (inOrder (headIn (g .events .now) (g .queue .now) (g .room)) (g .heap .now) (g .n)) _ _ (c .before .before .loop-test .taken) (sym (c .before .in-order .ensures) ∙ not-true _ (c .if1 .taken))) ∙ c .before .before .before .loop .inv .1
+returns c =
+    let c1 : tie.After-in-order Inv-loop μ-loop = search in
+    let c2 = c1 .before in
+    let c3 = c2 .before in
+    let c7 = c3 .before .before .before .before in
+    let g = c7 .args in
+    sym (failed (inOrder (headIn (g .events .now) (g .queue .now) (g .room)) (g .heap .now) (g .n)) _ _ (c2 .loop-test .taken) (sym (c1 .in-order .ensures) ∙ not-true _ (c .if1 .taken))) ∙ c3 .loop .inv .1
 
 add-i : tie.Need-add-i Inv-loop μ-loop
 add-i c = search needs
@@ -34,10 +40,21 @@ loop-less : tie.Need-loop-less Inv-loop μ-loop
 loop-less c = search needs
 
 loop-again : tie.Need-loop-again Inv-loop μ-loop
-loop-again c = let g = c .before .before .before .before .before .before .before .args in let h = c .before .before .loop-test .taken in (omega (arith, h), sym (passed (inOrder (headIn (g .events .now) (g .queue .now) (g .room)) (g .heap .now) (g .n)) _ _ h (sym (c .before .in-order .ensures) ∙ not-false _ (c .if1 .left))) ∙ c .before .before .before .loop .inv .1)
+loop-again c =
+    let c1 : tie.After-in-order Inv-loop μ-loop = search in
+    let c2 = c1 .before in
+    let c3 = c2 .before in
+    let c7 = c3 .before .before .before .before in
+    let g = c7 .args in
+    let h = c2 .loop-test .taken in
+    (omega (arith, h), sym (passed (inOrder (headIn (g .events .now) (g .queue .now) (g .room)) (g .heap .now) (g .n)) _ _ h (sym (c1 .in-order .ensures) ∙ not-false _ (c .if1 .left))) ∙ c3 .loop .inv .1)
 
 returns-2 : tie.Need-returns-2 Inv-loop μ-loop
-returns-2 c = let g = c .before .before .before .before .before .args in sym (ended (inOrder (headIn (g .events .now) (g .queue .now) (g .room)) (g .heap .now) (g .n)) _ _ (c .loop-test .left)) ∙ c .before .loop .inv .1
+returns-2 c =
+    let c1 : tie.At-loop Inv-loop μ-loop = search in
+    let c5 = c1 .before .before .before .before in
+    let g = c5 .args in
+    sym (ended (inOrder (headIn (g .events .now) (g .queue .now) (g .room)) (g .heap .now) (g .n)) _ _ (c .loop-test .left)) ∙ c1 .loop .inv .1
 
 pub ordered-spec : {M : Type 1} → statement M
 ordered-spec =

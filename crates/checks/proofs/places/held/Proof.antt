@@ -16,7 +16,9 @@ returns : tie.Need-returns
 returns c = rw (lt-leb _ _ (c .if1 .taken))
 
 returns-2 : tie.Need-returns-2
-returns-2 c = rw (le-leb _ _ (c .before .if1 .left), lt-leb _ _ (c .if2 .taken))
+returns-2 c =
+    let else1 : tie.Else1 = search in
+    rw (le-leb _ _ (else1 .if1 .left), lt-leb _ _ (c .if2 .taken))
 
 sub-get-head : tie.Need-sub-get-head
 sub-get-head c = search needs
@@ -43,13 +45,35 @@ fine-place-requires : tie.Need-fine-place-requires
 fine-place-requires c κs = search needs
 
 returns-3 : tie.Need-returns-3
-returns-3 c = rw (le-leb _ _ (c .before .before .before .before .before .before .if1 .left), le-leb _ _ (c .before .before .before .before .before .if2 .left), (let b = c .before .before .before .before .before .before .before .before .before .before .before in let q = b .args .nums .now in let e = b .args .reals .now in ap finePlace (sym (c .before .before .get-head .ensures (placeAt q e) [] (place-run q e (b .pre .0) (b .pre .1)))) ∙ sym (c .before .fine-place .ensures) ∙ not-true _ (c .if3 .taken)))
+returns-3 c =
+    let c1 : tie.After-fine-place = search in
+    let c2 = c1 .before in
+    let c5 = c2 .before .before .before in
+    let c6 = c5 .before in
+    let c11 = c6 .before .before .before .before .before in
+    rw (
+      le-leb _ _ (c6 .if1 .left),
+      le-leb _ _ (c5 .if2 .left),
+      (let b = c11 in let q = b .args .nums .now in let e = b .args .reals .now in ap finePlace (sym (c2 .get-head .ensures (placeAt q e) [] (place-run q e (b .pre .0) (b .pre .1)))) ∙ sym (c1 .fine-place .ensures) ∙ not-true _ (c .if3 .taken)),
+    )
 
 named-requires : tie.Need-named-requires
 named-requires c κs = search needs
 
 returns-4 : tie.Need-returns-4
-returns-4 c = rw (le-leb _ _ (c .before .before .before .before .before .before .before .if1 .left), le-leb _ _ (c .before .before .before .before .before .before .if2 .left), (let b = c .before .before .before .before .before .before .before .before .before .before .before .before in let q = b .args .nums .now in let e = b .args .reals .now in ap finePlace (sym (c .before .before .before .get-head .ensures (placeAt q e) [] (place-run q e (b .pre .0) (b .pre .1)))) ∙ sym (c .before .before .fine-place .ensures) ∙ not-false _ (c .before .if3 .left))) (c .named .ensures (c .before .before .before .before .before .before .before .before .before .before .before .before .args .reals .now))
+returns-4 c =
+    let c1 : tie.Else3 = search in
+    let c2 = c1 .before in
+    let c3 = c2 .before in
+    let c6 = c3 .before .before .before in
+    let c7 = c6 .before in
+    let c12 = c7 .before .before .before .before .before in
+    rw (
+      le-leb _ _ (c7 .if1 .left),
+      le-leb _ _ (c6 .if2 .left),
+      (let b = c12 in let q = b .args .nums .now in let e = b .args .reals .now in ap finePlace (sym (c3 .get-head .ensures (placeAt q e) [] (place-run q e (b .pre .0) (b .pre .1)))) ∙ sym (c2 .fine-place .ensures) ∙ not-false _ (c1 .if3 .left)),
+    )
+    (c .named .ensures (c12 .args .reals .now))
 
 pub held-spec : {M : Type 1} → statement M
 held-spec =

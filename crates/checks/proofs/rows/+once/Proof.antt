@@ -1,8 +1,7 @@
 -- `rows::once` meets its contract. Assumes nothing.
 use mathlib.Core.Path.{sym, _∙_}
-use Rattle.chunks.proofs.Laws.{tail-long, take-none, take-step}
+use Rattle.chunks.proofs.Laws.{take-none, take-step}
 use Rattle.checks.proofs.Lists.{once-none, once-no, once-more}
-use native.Mathlib.Omega.{arith}
 use borrow.Author.Needs.{needs}
 use Prim.Native.Nat.{ℕ, _<_}
 use borrow.Fn.Kinds.{In}
@@ -45,10 +44,16 @@ once-shared-slice-read-has : (t : ℕ) → once-lts.Need-shared-slice-read-has (
 once-shared-slice-read-has t c = search needs
 
 once-has-requires : (t : ℕ) → once-lts.Need-has-requires (Rd t) (once-at t) once.Post
-once-has-requires t c κs = let b = c .before .before .before .before in let l = b .args .nums .now in (let e = tail-long 1 l in omega arith)
+once-has-requires t c κs = search needs
 
 once-returns-2 : (t : ℕ) → once-lts.Need-returns-2 (Rd t) (once-at t) once.Post
-once-returns-2 t c = let b = c .before .before .before .before .before .before in let l = b .args .nums .now in let k = b .args .k in once-no _ _ (take-step k l 0 (c .before .before .before .before .if1 .left) (b .pre .1)) (sym (c .before .has .ensures) ∙ c .if2 .taken)
+once-returns-2 t c =
+    let c1 : once-lts.After-has (Rd t) (once-at t) once.Post = search in
+    let c4 = c1 .before .before .before in
+    let b = c4 .before .before in
+    let l = b .args .nums .now in
+    let k = b .args .k in
+    once-no _ _ (take-step k l 0 (c4 .if1 .left) (b .pre .1)) (sym (c1 .has .ensures) ∙ c .if2 .taken)
 
 once-sub-once : (t : ℕ) → once-lts.Need-sub-once (Rd t) (once-at t) once.Post
 once-sub-once t c = search needs
@@ -63,10 +68,17 @@ once-sub-once-2 : (t : ℕ) → once-lts.Need-sub-once-2 (Rd t) (once-at t) once
 once-sub-once-2 t c = search needs
 
 once-once-requires : (t : ℕ) → once-lts.Need-once-requires (Rd t) (once-at t) once.Post
-once-once-requires t c κs = let b = c .before .before .before .before .before .before .before in let l = b .args .nums .now in (omega arith, (let e = tail-long 1 l in omega arith))
+once-once-requires t c κs = search needs
 
 once-returns-3 : (t : ℕ) → once-lts.Need-returns-3 (Rd t) (once-at t) once.Post
-once-returns-3 t c = let b = c .before .before .before .before .before .before .before .before in let l = b .args .nums .now in let k = b .args .k in once-more _ _ (take-step k l 0 (c .before .before .before .before .before .before .if1 .left) (b .pre .1)) (sym (c .before .before .before .has .ensures) ∙ c .before .before .if2 .left) (c .once .ensures)
+once-returns-3 t c =
+    let c2 : once-lts.Else2 (Rd t) (once-at t) once.Post = search in
+    let c3 = c2 .before in
+    let c6 = c3 .before .before .before in
+    let b = c6 .before .before in
+    let l = b .args .nums .now in
+    let k = b .args .k in
+    once-more _ _ (take-step k l 0 (c6 .if1 .left) (b .pre .1)) (sym (c3 .has .ensures) ∙ c2 .if2 .left) (c .once .ensures)
 
 pub +once-spec : {M : Type 1} → statement M
 +once-spec = close μ-once λ t. once-lts.spec (Rd t)

@@ -25,7 +25,13 @@ shared-slice-read-if1 : tie.Need-shared-slice-read-if1 Inv-loop μ-loop
 shared-slice-read-if1 c = search needs
 
 returns : tie.Need-returns Inv-loop μ-loop
-returns c = let l = c .before .before .before .loop in let a = c .before .before .before .before .args in l .inv .1 false (all-no (λ x. ltb x (a .n)) _ _ (take-step (l .left) (l .rest .now) 0 (some (c .before .before .loop-test .taken)) (l .inv .0)) (le-ltb _ _ (c .if1 .taken)))
+returns c =
+    let c2 : tie.In-loop Inv-loop μ-loop = search in
+    let c3 = c2 .before in
+    let c4 = c3 .before in
+    let l = c3 .loop in
+    let a = c4 .args in
+    l .inv .1 false (all-no (λ x. ltb x (a .n)) _ _ (take-step (l .left) (l .rest .now) 0 (some (c2 .loop-test .taken)) (l .inv .0)) (le-ltb _ _ (c .if1 .taken)))
 
 sub-rest : tie.Need-sub-rest Inv-loop μ-loop
 sub-rest c = search needs
@@ -43,10 +49,23 @@ loop-less : tie.Need-loop-less Inv-loop μ-loop
 loop-less c = search needs
 
 loop-again : tie.Need-loop-again Inv-loop μ-loop
-loop-again c = let l = c .before .before .before .before .loop in let a = c .before .before .before .before .before .args in let e = tail-long 1 (l .rest .now) in (omega arith, λ r e. l .inv .1 r (all-more (λ x. ltb x (a .n)) _ _ (take-step (l .left) (l .rest .now) 0 (some (c .before .before .before .loop-test .taken)) (l .inv .0)) (lt-ltb _ _ (c .before .if1 .left)) e))
+loop-again c =
+    let c1 : tie.Else1 Inv-loop μ-loop = search in
+    let c3 = c1 .before .before in
+    let c4 = c3 .before in
+    let c5 = c4 .before in
+    let l = c4 .loop in
+    let a = c5 .args in
+    let e = tail-long 1 (l .rest .now) in
+    (omega arith, λ r e. l .inv .1 r (all-more (λ x. ltb x (a .n)) _ _ (take-step (l .left) (l .rest .now) 0 (some (c3 .loop-test .taken)) (l .inv .0)) (lt-ltb _ _ (c1 .if1 .left)) e))
 
 returns-2 : tie.Need-returns-2 Inv-loop μ-loop
-returns-2 c = let l = c .before .loop in let a = c .before .before .args in l .inv .1 true (all-none (λ x. ltb x (a .n)) (take-none (l .left) (l .rest .now) (omega arith)))
+returns-2 c =
+    let at-loop : tie.At-loop Inv-loop μ-loop = search in
+    let b : tie.Start Inv-loop μ-loop = search in
+    let l = at-loop .loop in
+    let a = b .args in
+    l .inv .1 true (all-none (λ x. ltb x (a .n)) (take-none (l .left) (l .rest .now) (omega arith)))
 
 pub below-spec : {M : Type 1} → statement M
 below-spec =

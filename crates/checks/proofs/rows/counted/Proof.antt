@@ -20,19 +20,51 @@ loop-holds : tie.Need-loop-holds Inv-loop μ-loop
 loop-holds c = (search needs, search needs, λ r e. e)
 
 shared-slice-read-if1 : tie.Need-shared-slice-read-if1 Inv-loop μ-loop
-shared-slice-read-if1 c = let l = c .before .before .loop in let a = c .before .before .before in let d = less-rows (l .left) (a .args .w) (length (l .rest .now)) (some (c .before .loop-test .taken)) (l .inv .0) in omega (arith, a .pre .0)
+shared-slice-read-if1 c =
+    let c1 : tie.In-loop Inv-loop μ-loop = search in
+    let c2 = c1 .before in
+    let c3 = c2 .before in
+    let l = c2 .loop in
+    let a = c3 in
+    let d = less-rows (l .left) (a .args .w) (length (l .rest .now)) (some (c1 .loop-test .taken)) (l .inv .0) in
+    omega (arith, a .pre .0)
 
 returns : tie.Need-returns Inv-loop μ-loop
-returns c = let l = c .before .before .before .loop in l .inv .2 false (counted-no _ _ _ _ (some (c .before .before .loop-test .taken)) (c .if1 .taken))
+returns c =
+    let in-loop : tie.In-loop Inv-loop μ-loop = search in
+    let at-loop : tie.At-loop Inv-loop μ-loop = search in
+    let l = at-loop .loop in
+    l .inv .2 false (counted-no _ _ _ _ (some (in-loop .loop-test .taken)) (c .if1 .taken))
 
 mul-rest : tie.Need-mul-rest Inv-loop μ-loop
-mul-rest c = let l = c .before .before .before .loop in let a = c .before .before .before .before in let d = less-rows (l .left) (a .args .w) (length (l .rest .now)) (some (c .before .before .loop-test .taken)) (l .inv .0) in omega (arith, a .pre .0, l .inv .1)
+mul-rest c =
+    let c2 : tie.In-loop Inv-loop μ-loop = search in
+    let c3 = c2 .before in
+    let c4 = c3 .before in
+    let l = c3 .loop in
+    let a = c4 in
+    let d = less-rows (l .left) (a .args .w) (length (l .rest .now)) (some (c2 .loop-test .taken)) (l .inv .0) in
+    omega (arith, a .pre .0, l .inv .1)
 
 sub-rest : tie.Need-sub-rest Inv-loop μ-loop
-sub-rest c = let l = c .before .before .before .loop in let a = c .before .before .before .before in let d = less-rows (l .left) (a .args .w) (length (l .rest .now)) (some (c .before .before .loop-test .taken)) (l .inv .0) in omega (arith, a .pre .0)
+sub-rest c =
+    let c2 : tie.In-loop Inv-loop μ-loop = search in
+    let c3 = c2 .before in
+    let c4 = c3 .before in
+    let l = c3 .loop in
+    let a = c4 in
+    let d = less-rows (l .left) (a .args .w) (length (l .rest .now)) (some (c2 .loop-test .taken)) (l .inv .0) in
+    omega (arith, a .pre .0)
 
 part-rest-start : tie.Need-part-rest-start Inv-loop μ-loop
-part-rest-start c = let l = c .before .before .before .loop in let a = c .before .before .before .before in let d = less-rows (l .left) (a .args .w) (length (l .rest .now)) (some (c .before .before .loop-test .taken)) (l .inv .0) in omega (arith, a .pre .0)
+part-rest-start c =
+    let c2 : tie.In-loop Inv-loop μ-loop = search in
+    let c3 = c2 .before in
+    let c4 = c3 .before in
+    let l = c3 .loop in
+    let a = c4 in
+    let d = less-rows (l .left) (a .args .w) (length (l .rest .now)) (some (c2 .loop-test .taken)) (l .inv .0) in
+    omega (arith, a .pre .0)
 
 part-rest-end : tie.Need-part-rest-end Inv-loop μ-loop
 part-rest-end c = search needs
@@ -44,10 +76,20 @@ loop-less : tie.Need-loop-less Inv-loop μ-loop
 loop-less c = search needs
 
 loop-again : tie.Need-loop-again Inv-loop μ-loop
-loop-again c = let l = c .before .before .before .before .loop in let z = some (c .before .before .before .loop-test .taken) in (rest-long (l .left) _ (l .rest .now) z (l .inv .0), (let e = tail-long (c .before .before .before .before .before .args .w) (l .rest .now) in omega arith), λ r e. l .inv .2 r (counted-more _ _ (l .left) (l .rest .now) r z (c .before .if1 .left) e))
+loop-again c =
+    let c1 : tie.Else1 Inv-loop μ-loop = search in
+    let c3 = c1 .before .before in
+    let c4 = c3 .before in
+    let c5 = c4 .before in
+    let l = c4 .loop in
+    let z = some (c3 .loop-test .taken) in
+    (rest-long (l .left) _ (l .rest .now) z (l .inv .0), (let e = tail-long (c5 .args .w) (l .rest .now) in omega arith), λ r e. l .inv .2 r (counted-more _ _ (l .left) (l .rest .now) r z (c1 .if1 .left) e))
 
 returns-2 : tie.Need-returns-2 Inv-loop μ-loop
-returns-2 c = let l = c .before .loop in l .inv .2 true (counted-none _ _ _ _ (omega arith))
+returns-2 c =
+    let at-loop : tie.At-loop Inv-loop μ-loop = search in
+    let l = at-loop .loop in
+    l .inv .2 true (counted-none _ _ _ _ (omega arith))
 
 pub counted-spec : {M : Type 1} → statement M
 counted-spec =

@@ -27,10 +27,17 @@ shared-slice-read-lists : tie.Need-shared-slice-read-lists Inv-loop μ-loop
 shared-slice-read-lists c = search needs
 
 lists-requires : tie.Need-lists-requires Inv-loop μ-loop
-lists-requires c κs = let a = c .before .before .before .before .before in (a .pre .1, a .pre .2, a .pre .3)
+lists-requires c κs = search needs
 
 returns : tie.Need-returns Inv-loop μ-loop
-returns c = let l = c .before .before .before .before .loop in let a = c .before .before .before .before .before .before .before in l .inv .1 false (all-no (λ c. has (a .args .x) (liveAt (rowsOf (a .args .v) (a .args .n) (a .args .others .now)) c)) _ _ (take-step (l .left) (l .rest .now) 0 (some (c .before .before .before .loop-test .taken)) (l .inv .0)) (sym (c .before .lists .ensures) ∙ not-true _ (c .if1 .taken)))
+returns c =
+    let c1 : tie.After-lists Inv-loop μ-loop = search in
+    let c3 = c1 .before .before in
+    let c4 = c3 .before in
+    let c7 = c4 .before .before .before in
+    let l = c4 .loop in
+    let a = c7 in
+    l .inv .1 false (all-no (λ c. has (a .args .x) (liveAt (rowsOf (a .args .v) (a .args .n) (a .args .others .now)) c)) _ _ (take-step (l .left) (l .rest .now) 0 (some (c3 .loop-test .taken)) (l .inv .0)) (sym (c1 .lists .ensures) ∙ not-true _ (c .if1 .taken)))
 
 sub-rest : tie.Need-sub-rest Inv-loop μ-loop
 sub-rest c = search needs
@@ -48,10 +55,24 @@ loop-less : tie.Need-loop-less Inv-loop μ-loop
 loop-less c = search needs
 
 loop-again : tie.Need-loop-again Inv-loop μ-loop
-loop-again c = let l = c .before .before .before .before .before .loop in let a = c .before .before .before .before .before .before .before .before in let e = tail-long 1 (l .rest .now) in (omega arith, λ r e. l .inv .1 r (all-more (λ c. has (a .args .x) (liveAt (rowsOf (a .args .v) (a .args .n) (a .args .others .now)) c)) _ _ (take-step (l .left) (l .rest .now) 0 (some (c .before .before .before .before .loop-test .taken)) (l .inv .0)) (sym (c .before .before .lists .ensures) ∙ not-false _ (c .before .if1 .left)) e))
+loop-again c =
+    let c1 : tie.Else1 Inv-loop μ-loop = search in
+    let c2 = c1 .before in
+    let c4 = c2 .before .before in
+    let c5 = c4 .before in
+    let c8 = c5 .before .before .before in
+    let l = c5 .loop in
+    let a = c8 in
+    let e = tail-long 1 (l .rest .now) in
+    (omega arith, λ r e. l .inv .1 r (all-more (λ c. has (a .args .x) (liveAt (rowsOf (a .args .v) (a .args .n) (a .args .others .now)) c)) _ _ (take-step (l .left) (l .rest .now) 0 (some (c4 .loop-test .taken)) (l .inv .0)) (sym (c2 .lists .ensures) ∙ not-false _ (c1 .if1 .left)) e))
 
 returns-2 : tie.Need-returns-2 Inv-loop μ-loop
-returns-2 c = let l = c .before .loop in let a = c .before .before .before .before in l .inv .1 true (all-none (λ c. has (a .args .x) (liveAt (rowsOf (a .args .v) (a .args .n) (a .args .others .now)) c)) (take-none (l .left) (l .rest .now) (omega arith)))
+returns-2 c =
+    let c1 : tie.At-loop Inv-loop μ-loop = search in
+    let c4 = c1 .before .before .before in
+    let l = c1 .loop in
+    let a = c4 in
+    l .inv .1 true (all-none (λ c. has (a .args .x) (liveAt (rowsOf (a .args .v) (a .args .n) (a .args .others .now)) c)) (take-none (l .left) (l .rest .now) (omega arith)))
 
 pub listed-by-spec : {M : Type 1} → statement M
 listed-by-spec =

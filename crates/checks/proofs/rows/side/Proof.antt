@@ -6,7 +6,7 @@ use Rattle.chunks.proofs.Laws.{some}
 use Rattle.checks.proofs.Cut.{cut-none, cut-step, rowed-first, rowed-rest, first-of}
 use Rattle.checks.proofs.Lists.{all-none, all-no, all-more}
 use Rattle.tables.specs.Decode.{rowAt, rowsOf}
-use Rattle.checks.specs.Walk.{Rowed}
+use Rattle.checks.specs.Inside.{Rowed}
 use Rattle.model.specs.Check.{all, numbers}
 use native.Mathlib.Omega.{arith}
 use borrow.Author.Needs.{needs}
@@ -26,19 +26,44 @@ loop-holds : tie.Need-loop-holds Inv-loop μ-loop
 loop-holds c = (search needs, λ r e. e)
 
 numbers-requires : tie.Need-numbers-requires Inv-loop μ-loop
-numbers-requires c κs = first-of (c .before .loop .inv .0) (some (c .loop-test .taken))
+numbers-requires c κs =
+    let at-loop : tie.At-loop Inv-loop μ-loop = search in
+    first-of (at-loop .loop .inv .0) (some (c .loop-test .taken))
 
 returns : tie.Need-returns Inv-loop μ-loop
-returns c = let l = c .before .before .before .loop in let a = c .before .before .before .before .before in let v = a .args .v in let f = rowed-first (l .inv .0) (some (c .before .before .loop-test .taken)) in l .inv .1 false (all-no (numbers (a .args .n) v) _ _ (cut-step (rowAt v) (v + 1) (l .left) (l .rest .now) (some (c .before .before .loop-test .taken))) (sym (c .before .numbers .ensures) ∙ not-true _ (c .if1 .taken)))
+returns c =
+    let c1 : tie.After-numbers Inv-loop μ-loop = search in
+    let c2 = c1 .before in
+    let c3 = c2 .before in
+    let c5 = c3 .before .before in
+    let l = c3 .loop in
+    let a = c5 in
+    let v = a .args .v in
+    let f = rowed-first (l .inv .0) (some (c2 .loop-test .taken)) in
+    l .inv .1 false (all-no (numbers (a .args .n) v) _ _ (cut-step (rowAt v) (v + 1) (l .left) (l .rest .now) (some (c2 .loop-test .taken))) (sym (c1 .numbers .ensures) ∙ not-true _ (c .if1 .taken)))
 
 mul-rest : tie.Need-mul-rest Inv-loop μ-loop
-mul-rest c = let l = c .before .before .before .loop in let a = c .before .before .before .before .before in let f = rowed-first (l .inv .0) (some (c .before .before .loop-test .taken)) in omega (arith, a .pre .1)
+mul-rest c = search needs
 
 sub-rest : tie.Need-sub-rest Inv-loop μ-loop
-sub-rest c = let l = c .before .before .before .loop in let a = c .before .before .before .before .before in let f = rowed-first (l .inv .0) (some (c .before .before .loop-test .taken)) in omega (arith, a .pre .1)
+sub-rest c =
+    let c2 : tie.In-loop Inv-loop μ-loop = search in
+    let c3 = c2 .before in
+    let c5 = c3 .before .before in
+    let l = c3 .loop in
+    let a = c5 in
+    let f = rowed-first (l .inv .0) (some (c2 .loop-test .taken)) in
+    omega (arith, a .pre .1)
 
 part-rest-start : tie.Need-part-rest-start Inv-loop μ-loop
-part-rest-start c = let l = c .before .before .before .loop in let a = c .before .before .before .before .before in let f = rowed-first (l .inv .0) (some (c .before .before .loop-test .taken)) in omega (arith, a .pre .1)
+part-rest-start c =
+    let c2 : tie.In-loop Inv-loop μ-loop = search in
+    let c3 = c2 .before in
+    let c5 = c3 .before .before in
+    let l = c3 .loop in
+    let a = c5 in
+    let f = rowed-first (l .inv .0) (some (c2 .loop-test .taken)) in
+    omega (arith, a .pre .1)
 
 part-rest-end : tie.Need-part-rest-end Inv-loop μ-loop
 part-rest-end c = search needs
@@ -50,10 +75,26 @@ loop-less : tie.Need-loop-less Inv-loop μ-loop
 loop-less c = search needs
 
 loop-again : tie.Need-loop-again Inv-loop μ-loop
-loop-again c = let l = c .before .before .before .before .loop in let a = c .before .before .before .before .before .before in let v = a .args .v in let f = rowed-first (l .inv .0) (some (c .before .before .before .loop-test .taken)) in (rowed-rest (l .inv .0) (some (c .before .before .before .loop-test .taken)), λ r e. l .inv .1 r (all-more (numbers (a .args .n) v) _ _ (cut-step (rowAt v) (v + 1) (l .left) (l .rest .now) (some (c .before .before .before .loop-test .taken))) (sym (c .before .before .numbers .ensures) ∙ not-false _ (c .before .if1 .left)) e))
+loop-again c =
+    let c1 : tie.Else1 Inv-loop μ-loop = search in
+    let c2 = c1 .before in
+    let c3 = c2 .before in
+    let c4 = c3 .before in
+    let c6 = c4 .before .before in
+    let l = c4 .loop in
+    let a = c6 in
+    let v = a .args .v in
+    let f = rowed-first (l .inv .0) (some (c3 .loop-test .taken)) in
+    (rowed-rest (l .inv .0) (some (c3 .loop-test .taken)), λ r e. l .inv .1 r (all-more (numbers (a .args .n) v) _ _ (cut-step (rowAt v) (v + 1) (l .left) (l .rest .now) (some (c3 .loop-test .taken))) (sym (c2 .numbers .ensures) ∙ not-false _ (c1 .if1 .left)) e))
 
 returns-2 : tie.Need-returns-2 Inv-loop μ-loop
-returns-2 c = let l = c .before .loop in let a = c .before .before .before in let v = a .args .v in l .inv .1 true (all-none (numbers (a .args .n) v) (cut-none (rowAt v) (v + 1) (l .left) (l .rest .now) (omega arith)))
+returns-2 c =
+    let c1 : tie.At-loop Inv-loop μ-loop = search in
+    let c3 = c1 .before .before in
+    let l = c1 .loop in
+    let a = c3 in
+    let v = a .args .v in
+    l .inv .1 true (all-none (numbers (a .args .n) v) (cut-none (rowAt v) (v + 1) (l .left) (l .rest .now) (omega arith)))
 
 pub side-spec : {M : Type 1} → statement M
 side-spec =

@@ -1,6 +1,5 @@
 -- The difference of velocities afterwards, by the values on the way to it. Assumes nothing.
 use borrow.Author.Needs.{needs}
-use Rattle.event.proofs.Collision.{bounced-by}
 use Rattle.event.proofs.inter_particle_collision.bounced.Statement.{statement}
 use Rattle.event.proofs.inter_particle_collision.bounced.Tie as tie
 
@@ -14,7 +13,7 @@ sub-requires : tie.Need-sub-requires
 sub-requires c κs = search needs
 
 returns : tie.Need-returns
-returns c = bounced-by _ _ _ _ _ (c .before .before .dot .ensures) (c .before .times .ensures) (c .sub .ensures)
+returns c = cc
 
 pub bounced-spec : {M : Type 1} → statement M
 bounced-spec = tie.close (tie.spec dot-requires times-requires sub-requires returns)

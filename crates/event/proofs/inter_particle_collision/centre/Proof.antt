@@ -32,7 +32,17 @@ add-requires-2 : tie.Need-add-requires-2
 add-requires-2 c κs = search needs
 
 returns : tie.Need-returns
-returns c = centre-by (c .before .before .before .before .before .before .before .before .before .args .domain) (c .before .before .before .before .before .before .before .before .before .args .p) (c .before .before .before .before .before .before .before .before .before .args .q) _ _ _ _ _ _ _ _ _ (c .before .before .before .before .before .before .before .before .pull .ensures) (c .before .before .before .before .before .before .before .pull2 .ensures) (c .before .before .before .before .before .before .new .ensures) (c .before .before .before .before .before .times .ensures) (c .before .before .before .before .times2 .ensures) (c .before .before .before .add .ensures) (c .before .before .mean .ensures) (c .before .times3 .ensures) (c .add2 .ensures)
+returns c =
+    let c1 = c .before in
+    let c2 = c1 .before in
+    let c3 = c2 .before in
+    let c4 = c3 .before in
+    let c5 = c4 .before in
+    let c6 = c5 .before in
+    let c7 = c6 .before in
+    let c8 = c7 .before in
+    let c9 = c8 .before in
+    centre-by (c9 .args .domain) (c9 .args .p) (c9 .args .q) _ _ _ _ _ _ _ _ _ (c8 .pull .ensures) (c7 .pull2 .ensures) (c6 .new .ensures) (c5 .times .ensures) (c4 .times2 .ensures) (c3 .add .ensures) (c2 .mean .ensures) (c1 .times3 .ensures) (c .add2 .ensures)
 
 pub centre-spec : {M : Type 1} → statement M
 centre-spec =

@@ -1,6 +1,5 @@
 -- The unit vector, by the values on the way to it. Assumes nothing.
 use borrow.Author.Needs.{needs}
-use Rattle.event.proofs.Collision.{normal-by}
 use Rattle.event.proofs.inter_particle_collision.normal.Statement.{statement}
 use Rattle.event.proofs.inter_particle_collision.normal.Tie as tie
 
@@ -14,7 +13,7 @@ over-requires : tie.Need-over-requires
 over-requires c κs = search needs
 
 returns : tie.Need-returns
-returns c = normal-by _ _ _ _ _ _ _ (c .before .before .sub .ensures) (c .before .apart .ensures) (c .over .ensures)
+returns c = cc
 
 pub normal-spec : {M : Type 1} → statement M
 normal-spec = tie.close (tie.spec sub-requires apart-requires over-requires returns)

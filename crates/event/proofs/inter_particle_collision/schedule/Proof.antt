@@ -16,6 +16,9 @@ apart-requires c κs = search needs
 sub-requires-2 : tie.Need-sub-requires-2
 sub-requires-2 c κs = search needs
 
+reach-requires : tie.Need-reach-requires
+reach-requires c κs = search needs
+
 contact-requires : tie.Need-contact-requires
 contact-requires c κs = search needs
 
@@ -35,13 +38,33 @@ enum-told-2 : tie.Need-enum-told-2
 enum-told-2 c = search needs
 
 returns : tie.Need-returns
-returns c = ap planTold (plan-never _ _ _ _ _ _ _ _ _ _ _ (c .before .before .before .before .before .sub .ensures) (c .before .before .before .before .apart .ensures) (c .before .before .before .sub2 .ensures) (one-contact _ _ (c .before .before .contact .ensures)) (c .enum-told .given .1))
+returns c =
+    let c2 = c .before .before in
+    let c3 = c2 .before in
+    let c4 = c3 .before in
+    let c5 = c4 .before in
+    let c6 = c5 .before in
+    ap planTold (plan-never _ _ _ _ _ _ _ _ _ _ _ _ (c6 .sub .ensures) (c5 .apart .ensures) (c4 .sub2 .ensures) (c3 .reach .ensures) (one-contact _ _ (c2 .contact .ensures)) (c .enum-told .given .1))
 
 returns-2 : tie.Need-returns-2
-returns-2 c = ap planTold (plan-due _ _ _ _ _ _ _ _ _ _ _ (c .before .before .before .before .before .before .before .before .sub .ensures) (c .before .before .before .before .before .before .before .apart .ensures) (c .before .before .before .before .before .before .sub2 .ensures) (one-contact _ _ (c .before .before .before .before .before .contact .ensures)) _ _ _ (c .before .before .before .dt .given .1) (c .before .struck .ensures) (one-plan _ _ (c .due .ensures)))
+returns-2 c =
+    let c1 = c .before in
+    let c3 = c1 .before .before in
+    let c5 = c3 .before .before in
+    let c6 = c5 .before in
+    let c7 = c6 .before in
+    let c8 = c7 .before in
+    let c9 = c8 .before in
+    ap planTold (plan-due _ _ _ _ _ _ _ _ _ _ _ _ (c9 .sub .ensures) (c8 .apart .ensures) (c7 .sub2 .ensures) (c6 .reach .ensures) (one-contact _ _ (c5 .contact .ensures)) _ _ _ (c3 .dt .given .1) (c1 .struck .ensures) (one-plan _ _ (c .due .ensures)))
 
 returns-3 : tie.Need-returns-3
-returns-3 c = ap planTold (plan-refused _ _ _ _ _ _ _ _ _ _ _ (c .before .before .before .before .before .sub .ensures) (c .before .before .before .before .apart .ensures) (c .before .before .before .sub2 .ensures) (one-contact _ _ (c .before .before .contact .ensures)) (c .enum-told2 .given .1))
+returns-3 c =
+    let c2 = c .before .before in
+    let c3 = c2 .before in
+    let c4 = c3 .before in
+    let c5 = c4 .before in
+    let c6 = c5 .before in
+    ap planTold (plan-refused _ _ _ _ _ _ _ _ _ _ _ _ (c6 .sub .ensures) (c5 .apart .ensures) (c4 .sub2 .ensures) (c3 .reach .ensures) (one-contact _ _ (c2 .contact .ensures)) (c .enum-told2 .given .1))
 
 pub schedule-spec : {M : Type 1} → statement M
 schedule-spec =
@@ -50,6 +73,7 @@ schedule-spec =
     sub-requires
     apart-requires
     sub-requires-2
+    reach-requires
     contact-requires
     enum-told
     enum-known-dt

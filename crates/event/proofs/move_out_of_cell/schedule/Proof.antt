@@ -20,7 +20,12 @@ dt-requires : tie.Need-dt-requires
 dt-requires c κs = search needs
 
 returns-2 : tie.Need-returns-2
-returns-2 c = ap planTold (out-early _ _ _ _ _ _ _ (c .before .before .before .before .new .ensures) _ _ (c .before .before .before .shut .ensures) (c .before .before .if1 .left) (c .before .dt .ensures) (c .if2 .taken))
+returns-2 c =
+    let c1 = c .before in
+    let c3 = c1 .before .before in
+    let c4 = c3 .before in
+    let c5 = c4 .before in
+    ap planTold (out-early _ _ _ _ _ _ _ (c5 .new .ensures) _ _ (c4 .shut .ensures) (c3 .if1 .left) (c1 .dt .ensures) (c .if2 .taken))
 
 get-new-pos-requires : tie.Need-get-new-pos-requires
 get-new-pos-requires c κs = search needs
@@ -29,7 +34,14 @@ due-requires : tie.Need-due-requires
 due-requires c κs = search needs
 
 returns-3 : tie.Need-returns-3
-returns-3 c = ap planTold (out-found _ _ _ _ _ _ _ (c .before .before .before .before .before .before .new .ensures) _ _ _ _ (c .before .before .before .before .before .shut .ensures) (c .before .before .before .before .if1 .left) (c .before .before .before .dt .ensures) (c .before .before .if2 .left) (c .before .get-new-pos .ensures) (one-plan _ _ (c .due .ensures)))
+returns-3 c =
+    let c1 = c .before in
+    let c2 = c1 .before in
+    let c3 = c2 .before in
+    let c5 = c3 .before .before in
+    let c6 = c5 .before in
+    let c7 = c6 .before in
+    ap planTold (out-found _ _ _ _ _ _ _ (c7 .new .ensures) _ _ _ _ (c6 .shut .ensures) (c5 .if1 .left) (c3 .dt .ensures) (c2 .if2 .left) (c1 .get-new-pos .ensures) (one-plan _ _ (c .due .ensures)))
 
 pub schedule-spec : {M : Type 1} → statement M
 schedule-spec =

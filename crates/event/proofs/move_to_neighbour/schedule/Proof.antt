@@ -20,7 +20,12 @@ dt-requires : tie.Need-dt-requires
 dt-requires c κs = search needs
 
 returns-2 : tie.Need-returns-2
-returns-2 c = ap planTold (neighbour-early _ _ _ _ _ _ _ (c .before .before .before .before .new .ensures) _ _ (c .before .before .before .shut .ensures) (c .before .before .if1 .left) (c .before .dt .ensures) (c .if2 .taken))
+returns-2 c =
+    let c1 = c .before in
+    let c2 = c1 .before in
+    let c3 = c2 .before in
+    let c4 = c3 .before in
+    ap planTold (neighbour-early _ _ _ _ _ _ _ (c4 .new .ensures) _ _ (c3 .shut .ensures) (c2 .if1 .left) (c1 .dt .ensures) (c .if2 .taken))
 
 get-new-pos-requires : tie.Need-get-new-pos-requires
 get-new-pos-requires c κs = search needs
@@ -32,7 +37,15 @@ due-requires : tie.Need-due-requires
 due-requires c κs = search needs
 
 returns-3 : tie.Need-returns-3
-returns-3 c = ap planTold (neighbour-found _ _ _ _ _ _ _ (c .before .before .before .before .before .before .before .new .ensures) _ _ _ _ _ (c .before .before .before .before .before .before .shut .ensures) (c .before .before .before .before .before .if1 .left) (c .before .before .before .before .dt .ensures) (c .before .before .before .if2 .left) (c .before .before .get-new-pos .ensures) (c .before .aside .ensures) (one-plan _ _ (c .due .ensures)))
+returns-3 c =
+    let c1 = c .before in
+    let c2 = c1 .before in
+    let c3 = c2 .before in
+    let c4 = c3 .before in
+    let c5 = c4 .before in
+    let c6 = c5 .before in
+    let c7 = c6 .before in
+    ap planTold (neighbour-found _ _ _ _ _ _ _ (c7 .new .ensures) _ _ _ _ _ (c6 .shut .ensures) (c5 .if1 .left) (c4 .dt .ensures) (c3 .if2 .left) (c2 .get-new-pos .ensures) (c1 .aside .ensures) (one-plan _ _ (c .due .ensures)))
 
 pub schedule-spec : {M : Type 1} → statement M
 schedule-spec =

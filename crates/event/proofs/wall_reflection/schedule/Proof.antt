@@ -20,7 +20,12 @@ gap-requires : tie.Need-gap-requires
 gap-requires c κs = search needs
 
 returns-2 : tie.Need-returns-2
-returns-2 c = ap planTold (wall-early _ _ _ _ _ _ _ (c .before .before .before .before .before .new .ensures) _ _ (c .before .before .before .before .no-wall .ensures) (c .before .before .before .if1 .left) (c .before .before .gap .ensures) (c .if2 .taken))
+returns-2 c =
+    let c2 = c .before .before in
+    let c3 = c2 .before in
+    let c4 = c3 .before in
+    let c5 = c4 .before in
+    ap planTold (wall-early _ _ _ _ _ _ _ (c5 .new .ensures) _ _ (c4 .no-wall .ensures) (c3 .if1 .left) (c2 .gap .ensures) (c .if2 .taken))
 
 get-new-pos-requires : tie.Need-get-new-pos-requires
 get-new-pos-requires c κs = search needs
@@ -35,7 +40,16 @@ due-requires : tie.Need-due-requires
 due-requires c κs = search needs
 
 returns-3 : tie.Need-returns-3
-returns-3 c = ap planTold (wall-found _ _ _ _ _ _ _ (c .before .before .before .before .before .before .before .before .before .before .new .ensures) _ _ _ _ _ _ (c .before .before .before .before .before .before .before .before .before .no-wall .ensures) (c .before .before .before .before .before .before .before .before .if1 .left) (c .before .before .before .before .before .before .before .gap .ensures) (c .before .before .before .before .before .if2 .left) (c .before .before .before .before .get-new-pos .ensures) (c .before .before .bent .ensures) (c .before .new-val .ensures) (one-plan _ _ (c .due .ensures)))
+returns-3 c =
+    let c1 = c .before in
+    let c2 = c1 .before in
+    let c4 = c2 .before .before in
+    let c5 = c4 .before in
+    let c7 = c5 .before .before in
+    let c8 = c7 .before in
+    let c9 = c8 .before in
+    let c10 = c9 .before in
+    ap planTold (wall-found _ _ _ _ _ _ _ (c10 .new .ensures) _ _ _ _ _ _ (c9 .no-wall .ensures) (c8 .if1 .left) (c7 .gap .ensures) (c5 .if2 .left) (c4 .get-new-pos .ensures) (c2 .bent .ensures) (c1 .new-val .ensures) (one-plan _ _ (c .due .ensures)))
 
 pub schedule-spec : {M : Type 1} → statement M
 schedule-spec =

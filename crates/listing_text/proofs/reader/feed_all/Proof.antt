@@ -3,8 +3,8 @@ use mathlib.Core.Path.{_≡_}
 use Prim.Native.Nat.{_≤_, _-_}
 use lib.ListN.{length, drop}
 use borrow.Author.Needs.{needs}
+use Rattle.text.proofs.Turns.{fed, fed-all}
 use Rattle.listing_text.specs.Reading.{feedAll}
-use Rattle.listing_text.proofs.Turns.{fed, fed-all}
 use Rattle.listing_text.proofs.reader.feed_all.Statement.{statement}
 use Rattle.listing_text.proofs.reader.feed_all.Tie as tie
 
@@ -30,10 +30,10 @@ loop-less : tie.Need-loop-less Inv-loop μ-loop
 loop-less c = search needs
 
 loop-again : tie.Need-loop-again Inv-loop μ-loop
-loop-again c = (search needs, fed (c .before .before .before .before .before .args .s .now) (c .before .before .before .loop .i) (c .before .before .before .loop .state) (c .feed .result) (feedAll (c .before .before .before .before .before .args .r) (c .before .before .before .before .before .args .s .now)) (search needs) (c .feed .ensures) (c .before .before .before .loop .inv .1))
+loop-again c = (search needs, fed _ _ _ _ _ _ (c .before .before .loop-test .taken) (c .feed .ensures) (c .before .before .before .loop .inv .1))
 
 returns : tie.Need-returns Inv-loop μ-loop
-returns c = fed-all (c .before .before .before .args .s .now) (c .before .loop .i) (c .before .loop .state) (feedAll (c .before .before .before .args .r) (c .before .before .before .args .s .now)) (search needs) (c .before .loop .inv .1)
+returns c = fed-all _ _ _ _ _ (c .loop-test .left) (c .before .loop .inv .1)
 
 pub feed-all-spec : {M : Type 1} → statement M
 feed-all-spec =

@@ -6,7 +6,8 @@ use borrow.Author.Needs.{needs}
 use borrow.Fn.Kinds.{In}
 use borrow.Fn.PlainCycle.{Measures, is, falls, and}
 use Rattle.listing_text.specs.Rows.{grainAt}
-use Rattle.listing_text.proofs.Putting.{put-length, line-short, lines-none, lines-more}
+use Rattle.text.proofs.Putting.{put-length}
+use Rattle.listing_text.proofs.Putting.{line-short, lines-none, lines-more}
 use Rattle.listing_text.proofs.writer.+put_lines.{statement}
 use Rattle.listing_text.proofs.writer.+put_lines.Tie.{close}
 use Rattle.listing_text.proofs.writer.put_lines.Reads as put-lines
@@ -28,7 +29,9 @@ abbrev Rd : ℕ → put-lines-lts.Claims
 Rd t = (put-line-reads.Asked, put-line-reads.Learnt, put-lines-below t, put-lines.Post)
 
 put-lines-returns : (t : ℕ) → put-lines-lts.Need-returns (Rd t) (put-lines-at t) put-lines.Post
-put-lines-returns t c = lines-none (c .before .before .before .args .at) (c .before .before .before .args .time) (c .before .before .before .args .i) (c .before .before .before .args .n) (c .before .before .before .args .numbers .now) (c .before .before .before .args .out .now) (c .if1 .taken) (omega arith)
+put-lines-returns t c =
+    let c3 = c .before .before .before in
+    lines-none (c3 .args .at) (c3 .args .time) (c3 .args .i) (c3 .args .n) (c3 .args .numbers .now) (c3 .args .out .now) (c .if1 .taken) (omega arith)
 
 put-lines-put-line-requires : (t : ℕ) → put-lines-lts.Need-put-line-requires (Rd t) (put-lines-at t) put-lines.Post
 put-lines-put-line-requires t c κs = (omega arith, omega arith, omega arith)
@@ -37,13 +40,21 @@ put-lines-add-put-lines : (t : ℕ) → put-lines-lts.Need-add-put-lines (Rd t) 
 put-lines-add-put-lines t c = search needs
 
 put-lines-put-lines-requires : (t : ℕ) → put-lines-lts.Need-put-lines-requires (Rd t) (put-lines-at t) put-lines.Post
-put-lines-put-lines-requires t c κs = (omega arith, (omega (arith, put-length (c .before .before .before .put-line .ensures), c .before .before .before .put-line .ensures .place, line-short (c .before .before .before .before .before .before .before .before .args .time) (c .before .before .before .before .before .before .before .before .args .i) (grainAt (c .before .before .before .before .before .before .before .before .args .numbers .now) (c .before .before .before .before .before .before .before .before .args .i)) (omega arith)), omega arith, omega arith))
+put-lines-put-lines-requires t c κs =
+    let c3 = c .before .before .before in
+    let c8 = c3 .before .before .before .before .before in
+    (omega arith, (omega (arith, put-length (c3 .put-line .ensures), c3 .put-line .ensures .place, line-short (c8 .args .time) (c8 .args .i) (grainAt (c8 .args .numbers .now) (c8 .args .i)) (omega arith)), omega arith, omega arith))
 
 put-lines-same-length : (t : ℕ) → put-lines-lts.Need-same-length (Rd t) (put-lines-at t) put-lines.Post
 put-lines-same-length t c = put-length (c .before .before .put-lines .ensures) ∙ put-length (c .before .before .before .before .before .before .put-line .ensures)
 
 put-lines-returns-2 : (t : ℕ) → put-lines-lts.Need-returns-2 (Rd t) (put-lines-at t) put-lines.Post
-put-lines-returns-2 t c = lines-more (c .before .before .before .before .before .before .before .before .before .before .before .args .time) (c .before .before .before .before .before .before .before .before .before .before .before .args .i) (c .before .before .before .before .before .before .before .before .before .before .before .args .n) (c .before .before .before .before .before .before .before .before .before .before .before .args .numbers .now) (c .before .before .before .before .before .before .before .before .if1 .left) (c .before .before .before .before .before .before .put-line .ensures) (c .before .before .put-lines .ensures)
+put-lines-returns-2 t c =
+    let c2 = c .before .before in
+    let c6 = c2 .before .before .before .before in
+    let c8 = c6 .before .before in
+    let c11 = c8 .before .before .before in
+    lines-more (c11 .args .time) (c11 .args .i) (c11 .args .n) (c11 .args .numbers .now) (c8 .if1 .left) (c6 .put-line .ensures) (c2 .put-lines .ensures)
 
 pub +put-lines-spec : {M : Type 1} → statement M
 +put-lines-spec = close μ-put-lines λ t. put-lines-lts.spec (Rd t)

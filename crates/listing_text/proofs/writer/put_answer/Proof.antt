@@ -2,7 +2,7 @@
 use mathlib.Core.Path.{sym, ap}
 use borrow.Author.Needs.{needs}
 use Rattle.listing_text.specs.Answers.{answerOf}
-use Rattle.listing_text.proofs.Putting.{put-as}
+use Rattle.text.proofs.Putting.{put-as}
 use Rattle.listing_text.proofs.writer.put_answer.Statement.{statement}
 use Rattle.listing_text.proofs.writer.put_answer.Tie as tie
 

@@ -2,7 +2,8 @@
 use Prim.Native.Nat.{_+_, _*_}
 use native.Mathlib.Omega.{arith}
 use lib.ListN.{length-set}
-use Rattle.listing_text.proofs.Putting.{put-one, put-then, put-length, pair-as}
+use Rattle.text.proofs.Putting.{put-one, put-then, put-length}
+use Rattle.listing_text.proofs.Putting.{pair-as}
 use borrow.Author.Needs.{needs}
 use Rattle.listing_text.proofs.writer.put_grain.Statement.{statement}
 use Rattle.listing_text.proofs.writer.put_grain.Tie as tie
@@ -38,7 +39,11 @@ add-result : tie.Need-add-result
 add-result c = search needs
 
 same-length : tie.Need-same-length
-same-length c = simp length-set (put-length (put-then (put-then (c .before .before .before .before .before .before .before .before .before .before .before .put-pair .ensures) (c .before .before .before .before .before .before .before .put-pair2 .ensures)) (c .before .before .put-field .ensures)))
+same-length c =
+    let c2 = c .before .before in
+    let c7 = c2 .before .before .before .before .before in
+    let c11 = c7 .before .before .before .before in
+    simp length-set (put-length (put-then (put-then (c11 .put-pair .ensures) (c7 .put-pair2 .ensures)) (c2 .put-field .ensures)))
 
 returns : tie.Need-returns
 returns c =

@@ -1,7 +1,8 @@
 -- `put_listing` meets its contract. Assumes nothing.
 use borrow.Author.Tests.{lt-ltb}
 use borrow.Author.Needs.{needs}
-use Rattle.listing_text.proofs.Putting.{listed-is, put-as, put-none, put-then}
+use Rattle.text.proofs.Putting.{put-as, put-none, put-then}
+use Rattle.listing_text.proofs.Putting.{listed-is}
 use Rattle.listing_text.proofs.writer.put_listing.Statement.{statement}
 use Rattle.listing_text.proofs.writer.put_listing.Tie as tie
 
@@ -15,7 +16,11 @@ put-lines-requires : tie.Need-put-lines-requires
 put-lines-requires c κs = search needs
 
 returns-2 : tie.Need-returns-2
-returns-2 c = put-as (listed-is (c .before .before .before .before .before .before .before .before .args .time) (c .before .before .before .before .before .before .before .before .args .n) (c .before .before .before .before .before .before .before .before .args .numbers .now) (c .before .before .before .before .before .before .before .if1 .left)) (put-then (c .before .before .before .put-bytes .ensures) (c .put-lines .ensures))
+returns-2 c =
+    let c3 = c .before .before .before in
+    let c7 = c3 .before .before .before .before in
+    let c8 = c7 .before in
+    put-as (listed-is (c8 .args .time) (c8 .args .n) (c8 .args .numbers .now) (c7 .if1 .left)) (put-then (c3 .put-bytes .ensures) (c .put-lines .ensures))
 
 pub put-listing-spec : {M : Type 1} → statement M
 put-listing-spec = tie.close (tie.spec returns put-bytes-requires put-lines-requires returns-2)

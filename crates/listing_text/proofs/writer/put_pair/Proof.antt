@@ -1,6 +1,6 @@
 -- `put_pair` meets its contract. Assumes nothing.
 use mathlib.Core.Path.{_∙_}
-use Rattle.listing_text.proofs.Putting.{put-then}
+use Rattle.text.proofs.Putting.{put-then}
 use borrow.Author.Needs.{needs}
 use Rattle.listing_text.proofs.writer.put_pair.Statement.{statement}
 use Rattle.listing_text.proofs.writer.put_pair.Tie as tie

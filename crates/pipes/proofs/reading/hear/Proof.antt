@@ -9,7 +9,9 @@ count-requires : tie.Need-count-requires
 count-requires c κs = search needs
 
 returns : tie.Need-returns
-returns c = (c .count .ensures .0, heard-is (toZ-ofZ (c .before .before .fits .got)) _ (c .before .before .args .buf .now) (c .count .ensures .1))
+returns c =
+    let b : tie.Start = search in
+    (c .count .ensures .0, heard-is (toZ-ofZ (b .fits .got)) _ (b .args .buf .now) (c .count .ensures .1))
 
 pub hear-spec : {M : Type 1} → statement M
 hear-spec = tie.close (tie.spec count-requires returns)

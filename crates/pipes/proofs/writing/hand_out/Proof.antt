@@ -31,23 +31,41 @@ write-some-requires : tie.Need-write-some-requires Inv-loop μ-loop
 write-some-requires c κs = search needs
 
 returns : tie.Need-returns Inv-loop μ-loop
-returns c = c .before .before .before .before .loop .inv .1 false (taken-none (c .before .before .before .before .before .before .args .bytes .now) (c .before .before .before .before .loop .done) (c .before .write-some .ensures .1) _ (c .before .write-some .ensures .2) (search needs) (search needs))
+returns c =
+    let ws : tie.After-write-some Inv-loop μ-loop = search in
+    let at-loop : tie.At-loop Inv-loop μ-loop = search in
+    let b : tie.Start Inv-loop μ-loop = search in
+    at-loop .loop .inv .1 false (taken-none (b .args .bytes .now) (at-loop .loop .done) (ws .write-some .ensures .1) _ (ws .write-some .ensures .2) (search needs) (search needs))
 
 add-done : tie.Need-add-done Inv-loop μ-loop
-add-done c = omega (arith, taken-most (c .before .before .before .before .before .before .args .bytes .now) (c .before .before .before .before .loop .done) (c .before .write-some .ensures .1) (search needs))
+add-done c =
+    let ws : tie.After-write-some Inv-loop μ-loop = search in
+    let at-loop : tie.At-loop Inv-loop μ-loop = search in
+    let b : tie.Start Inv-loop μ-loop = search in
+    omega (arith, taken-most (b .args .bytes .now) (at-loop .loop .done) (ws .write-some .ensures .1) (search needs))
 
 loop-less : tie.Need-loop-less Inv-loop μ-loop
-loop-less c = omega (arith, taken-most (c .before .before .before .before .before .before .args .bytes .now) (c .before .before .before .before .loop .done) (c .before .write-some .ensures .1) (search needs), c .if1 .left)
+loop-less c =
+    let ws : tie.After-write-some Inv-loop μ-loop = search in
+    let at-loop : tie.At-loop Inv-loop μ-loop = search in
+    let b : tie.Start Inv-loop μ-loop = search in
+    omega (arith, taken-most (b .args .bytes .now) (at-loop .loop .done) (ws .write-some .ensures .1) (search needs), c .if1 .left)
 
 loop-again : tie.Need-loop-again Inv-loop μ-loop
 loop-again c =
-    let bytes = c .before .before .before .before .before .before .args .bytes .now in
-    let loop = c .before .before .before .before .loop in
-    let took = c .before .write-some .ensures in
+    let ws : tie.After-write-some Inv-loop μ-loop = search in
+    let at-loop : tie.At-loop Inv-loop μ-loop = search in
+    let b : tie.Start Inv-loop μ-loop = search in
+    let bytes = b .args .bytes .now in
+    let loop = at-loop .loop in
+    let took = ws .write-some .ensures in
     (omega (arith, taken-most bytes (loop .done) (took .1) (search needs)), λ r k. loop .inv .1 r (taken-some bytes (loop .done) (took .1) _ (took .2) (search needs) k))
 
 returns-2 : tie.Need-returns-2 Inv-loop μ-loop
-returns-2 c = c .before .loop .inv .1 true (taken-all (c .before .before .before .args .bytes .now) (c .before .loop .done) (search needs))
+returns-2 c =
+    let at-loop : tie.At-loop Inv-loop μ-loop = search in
+    let b : tie.Start Inv-loop μ-loop = search in
+    at-loop .loop .inv .1 true (taken-all (b .args .bytes .now) (at-loop .loop .done) (search needs))
 
 pub hand-out-spec : {M : Type 1} → statement M
 hand-out-spec =

@@ -14,7 +14,11 @@ count-requires : tie.Need-count-requires
 count-requires c κs = search needs
 
 returns : tie.Need-returns
-returns c = let f : SFits w64 (c .before .write .result) = search needs in took-some (toZ-ofZ f) _ (c .before .before .before .args .bytes .now) (c .before .write .ensures) (c .count .ensures .1) (c .count .ensures .0 .1)
+returns c =
+    let w : tie.After-write = search in
+    let b : tie.Start = search in
+    let f : SFits w64 (w .write .result) = search needs in
+    took-some (toZ-ofZ f) _ (b .args .bytes .now) (w .write .ensures) (c .count .ensures .1) (c .count .ensures .0 .1)
 
 pub write-some-spec : {M : Type 1} → statement M
 write-some-spec = tie.close (tie.spec write-requires count-requires returns)

@@ -5,6 +5,10 @@ use Rattle.simulator.proofs.RunLaws.{run-refused, run-done}
 use Rattle.simulator.proofs.run.run.Statement.{statement}
 use Rattle.simulator.proofs.run.run.Tie as tie
 
+-- the way back
+abbrev entry : tie.After-check → tie.Start
+entry c = search
+
 check-requires : tie.Need-check-requires
 check-requires c κs = search needs
 
@@ -24,7 +28,10 @@ same-length-5 : tie.Need-same-length-5
 same-length-5 c = search needs
 
 returns : tie.Need-returns
-returns c = let b = c .before .before .before .before .before .before .before .before .before .before .before .before in run-refused (b .args .rate) (b .args .budget) (tables (b .args .lists .now) (b .args .grains .now) (b .args .queue .now) (b .args .events .now) (b .args .order .now)) (c .before .check .result) (c .before .check .ensures) (b .fits .budget .fits) (c .if1 .taken)
+returns c =
+    let ch : tie.After-check = search in
+    let b : tie.Start = search in
+    run-refused (b .args .rate) (b .args .budget) (tables (b .args .lists .now) (b .args .grains .now) (b .args .queue .now) (b .args .events .now) (b .args .order .now)) (ch .check .result) (ch .check .ensures) (b .fits .budget .fits) (c .if1 .taken)
 
 work-requires : tie.Need-work-requires
 work-requires c κs = search needs
@@ -45,7 +52,14 @@ same-length-10 : tie.Need-same-length-10
 same-length-10 c = search needs
 
 returns-2 : tie.Need-returns-2
-returns-2 c = let b = c .before .before .before .before .before .before .before .before .before .before .before .before .before .before .before .before .before .before .before .before .before .before .before .before .before .before .before .before in let k = c .before .before .before .before .before .before .before .before .before .before .before .before .before .before .before .before .before .check in let w = c .before .before .before .before .before .before .before .before .before .before .work in run-done (b .args .rate) (b .args .budget) (tables (b .args .lists .now) (b .args .grains .now) (b .args .queue .now) (b .args .events .now) (b .args .order .now)) (k .result) (k .ensures) (b .fits .budget .fits) (w .result) _ (c .before .before .before .before .before .before .before .before .before .before .before .before .before .before .before .before .if1 .left) (w .ensures)
+returns-2 c =
+    let wo : tie.After-work = search in
+    let else1 : tie.Else1 = search in
+    let ch : tie.After-check = search in
+    let b = entry ch in
+    let k = ch .check in
+    let w = wo .work in
+    run-done (b .args .rate) (b .args .budget) (tables (b .args .lists .now) (b .args .grains .now) (b .args .queue .now) (b .args .events .now) (b .args .order .now)) (k .result) (k .ensures) (b .fits .budget .fits) (w .result) _ (else1 .if1 .left) (w .ensures)
 
 pub run-spec : {M : Type 1} → statement M
 run-spec =

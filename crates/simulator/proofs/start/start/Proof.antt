@@ -12,6 +12,10 @@ use borrow.Author.Needs.{needs}
 use Rattle.simulator.proofs.start.start.Statement.{statement}
 use Rattle.simulator.proofs.start.start.Tie as tie
 
+-- the way back
+abbrev entry : tie.After-box-ok → tie.Start
+entry c = search
+
 -- the lengths of an owned box are 64-bit floats
 floats : (c : tie.Start) → Fits (c .args .domain)
 floats c = record { first = search needs; second = search needs }
@@ -20,64 +24,158 @@ box-ok-requires : tie.Need-box-ok-requires
 box-ok-requires c κs = search needs
 
 returns : tie.Need-returns
-returns c = let b = c .before .before .before .before .before .before .before .before in let a = b .args in record { box-fits = floats b; is = start-1 (a .domain) (a .count) (a .room) (a .inputs .now) (tables (a .lists .now) (a .grains .now) (a .queue .now) (a .events .now) (a .order .now)) (sym (c .before .box-ok .ensures) ∙ not-true _ (c .if1 .taken)) }
+returns c =
+    let bo : tie.After-box-ok = search in
+    let b = entry bo in
+    let a = b .args in
+    record { box-fits = floats b; is = start-1 (a .domain) (a .count) (a .room) (a .inputs .now) (tables (a .lists .now) (a .grains .now) (a .queue .now) (a .events .now) (a .order .now)) (sym (bo .box-ok .ensures) ∙ not-true _ (c .if1 .taken)) }
 
 new-requires : tie.Need-new-requires
 new-requires c κs = search needs
 
 cells-requires : tie.Need-cells-requires
-cells-requires c κs = let b = c .before .before .before .before .before .before .before .before .before in let a = b .args in grid-few (a .domain) (c .new .result) (record { box = (sym (c .before .before .box-ok .ensures) ∙ not-false _ (c .before .if1 .left)); grid = c .new .ensures })
+cells-requires c κs =
+    let else1 : tie.Else1 = search in
+    let bo : tie.After-box-ok = search in
+    let b = entry bo in
+    let a = b .args in
+    grid-few (a .domain) (c .new .result) (record { box = (sym (bo .box-ok .ensures) ∙ not-false _ (else1 .if1 .left)); grid = c .new .ensures })
 
 fits-requires : tie.Need-fits-requires
-fits-requires c κs = let b = c .before .before .before .before .before .before .before .before .before .before in let a = b .args in subst (λ n. n ≤ 256) (sym (cells-counted (a .domain) (c .before .new .result) (c .cells .result) (c .before .new .ensures) (c .cells .ensures))) (cells-max (a .domain) (sym (c .before .before .before .box-ok .ensures) ∙ not-false _ (c .before .before .if1 .left)))
+fits-requires c κs =
+    let ne : tie.After-new = search in
+    let else1 : tie.Else1 = search in
+    let bo : tie.After-box-ok = search in
+    let b = entry bo in
+    let a = b .args in
+    subst (λ n. n ≤ 256) (sym (cells-counted (a .domain) (ne .new .result) (c .cells .result) (ne .new .ensures) (c .cells .ensures))) (cells-max (a .domain) (sym (bo .box-ok .ensures) ∙ not-false _ (else1 .if1 .left)))
 
 returns-2 : tie.Need-returns-2
-returns-2 c = let b = c .before .before .before .before .before .before .before .before .before .before .before .before in let a = b .args in record { box-fits = floats b; is = start-2 (a .domain) (a .count) (a .room) (a .inputs .now) (tables (a .lists .now) (a .grains .now) (a .queue .now) (a .events .now) (a .order .now)) (sym (c .before .before .before .before .before .box-ok .ensures) ∙ not-false _ (c .before .before .before .before .if1 .left)) (sized-as (a .domain) (a .count) (c .before .before .cells .result) (a .room) (length (a .inputs .now)) (length (a .lists .now)) (length (a .grains .now)) (length (a .queue .now)) (length (a .events .now)) (length (a .order .now)) (cells-counted (a .domain) (c .before .before .before .new .result) (c .before .before .cells .result) (c .before .before .before .new .ensures) (c .before .before .cells .ensures)) (sym (c .before .fits2 .ensures) ∙ not-true _ (c .if2 .taken))) }
+returns-2 c =
+    let f2 : tie.After-fits2 = search in
+    let ce : tie.After-cells = search in
+    let n : tie.After-new = search in
+    let else1 : tie.Else1 = search in
+    let bo : tie.After-box-ok = search in
+    let b = entry bo in
+    let a = b .args in
+    record { box-fits = floats b; is = start-2 (a .domain) (a .count) (a .room) (a .inputs .now) (tables (a .lists .now) (a .grains .now) (a .queue .now) (a .events .now) (a .order .now)) (sym (bo .box-ok .ensures) ∙ not-false _ (else1 .if1 .left)) (sized-as (a .domain) (a .count) (ce .cells .result) (a .room) (length (a .inputs .now)) (length (a .lists .now)) (length (a .grains .now)) (length (a .queue .now)) (length (a .events .now)) (length (a .order .now)) (cells-counted (a .domain) (n .new .result) (ce .cells .result) (n .new .ensures) (ce .cells .ensures)) (sym (f2 .fits2 .ensures) ∙ not-true _ (c .if2 .taken))) }
 
 first-bad-requires : tie.Need-first-bad-requires
-first-bad-requires c κs = let b = c .before .before .before .before .before .before .before .before .before .before .before .before in let a = b .args in (startable (record { grains = a .count; cells = c .before .before .cells .result; room = a .room }) (length (a .inputs .now)) (length (a .lists .now)) (length (a .grains .now)) (length (a .queue .now)) (length (a .events .now)) (length (a .order .now)) (sym (c .before .fits2 .ensures) ∙ not-false _ (c .if2 .left)) (a .domain) (c .before .before .before .new .result) (sym (c .before .before .before .before .before .box-ok .ensures) ∙ not-false _ (c .before .before .before .before .if1 .left)) (c .before .before .before .new .ensures) (cells-counted (a .domain) (c .before .before .before .new .result) (c .before .before .cells .result) (c .before .before .before .new .ensures) (c .before .before .cells .ensures))) .inputs-long
+first-bad-requires c κs =
+    let f2 : tie.After-fits2 = search in
+    let ce : tie.After-cells = search in
+    let n : tie.After-new = search in
+    let else1 : tie.Else1 = search in
+    let bo : tie.After-box-ok = search in
+    let b = entry bo in
+    let a = b .args in
+    (startable (record { grains = a .count; cells = ce .cells .result; room = a .room }) (length (a .inputs .now)) (length (a .lists .now)) (length (a .grains .now)) (length (a .queue .now)) (length (a .events .now)) (length (a .order .now)) (sym (f2 .fits2 .ensures) ∙ not-false _ (c .if2 .left)) (a .domain) (n .new .result) (sym (bo .box-ok .ensures) ∙ not-false _ (else1 .if1 .left)) (n .new .ensures) (cells-counted (a .domain) (n .new .result) (ce .cells .result) (n .new .ensures) (ce .cells .ensures))) .inputs-long
 
 returns-3 : tie.Need-returns-3
-returns-3 c = let b = c .before .before .before .before .before .before .before .before .before .before .before .before .before .before .before in let a = b .args in record { box-fits = floats b; is = start-4 (a .domain) (a .count) (a .room) (a .inputs .now) (tables (a .lists .now) (a .grains .now) (a .queue .now) (a .events .now) (a .order .now)) (sym (c .before .before .before .before .before .before .before .before .box-ok .ensures) ∙ not-false _ (c .before .before .before .before .before .before .before .if1 .left)) (sized-as (a .domain) (a .count) (c .before .before .before .before .before .cells .result) (a .room) (length (a .inputs .now)) (length (a .lists .now)) (length (a .grains .now)) (length (a .queue .now)) (length (a .events .now)) (length (a .order .now)) (cells-counted (a .domain) (c .before .before .before .before .before .before .new .result) (c .before .before .before .before .before .cells .result) (c .before .before .before .before .before .before .new .ensures) (c .before .before .before .before .before .cells .ensures)) (sym (c .before .before .before .before .fits2 .ensures) ∙ not-false _ (c .before .before .before .if2 .left))) (c .before .before .first-bad .result) (c .before .before .first-bad .ensures) (c .if3 .taken) }
+returns-3 c =
+    let fb : tie.After-first-bad = search in
+    let else2 : tie.Else2 = search in
+    let f2 : tie.After-fits2 = search in
+    let ce : tie.After-cells = search in
+    let n : tie.After-new = search in
+    let else1 : tie.Else1 = search in
+    let bo : tie.After-box-ok = search in
+    let b = entry bo in
+    let a = b .args in
+    record { box-fits = floats b; is = start-4 (a .domain) (a .count) (a .room) (a .inputs .now) (tables (a .lists .now) (a .grains .now) (a .queue .now) (a .events .now) (a .order .now)) (sym (bo .box-ok .ensures) ∙ not-false _ (else1 .if1 .left)) (sized-as (a .domain) (a .count) (ce .cells .result) (a .room) (length (a .inputs .now)) (length (a .lists .now)) (length (a .grains .now)) (length (a .queue .now)) (length (a .events .now)) (length (a .order .now)) (cells-counted (a .domain) (n .new .result) (ce .cells .result) (n .new .ensures) (ce .cells .ensures)) (sym (f2 .fits2 .ensures) ∙ not-false _ (else2 .if2 .left))) (fb .first-bad .result) (fb .first-bad .ensures) (c .if3 .taken) }
 
 begin-requires : tie.Need-begin-requires
-begin-requires c κs = let b = c .before .before .before .before .before .before .before .before .before .before .before .before .before .before .before .before .before .before .before .before in let a = b .args in startable (record { grains = a .count; cells = c .before .before .before .before .before .before .before .before .before .before .cells .result; room = a .room }) (length (a .inputs .now)) (length (a .lists .now)) (length (a .grains .now)) (length (a .queue .now)) (length (a .events .now)) (length (a .order .now)) (sym (c .before .before .before .before .before .before .before .before .before .fits2 .ensures) ∙ not-false _ (c .before .before .before .before .before .before .before .before .if2 .left)) (a .domain) (c .before .before .before .before .before .before .before .before .before .before .before .new .result) (sym (c .before .before .before .before .before .before .before .before .before .before .before .before .before .box-ok .ensures) ∙ not-false _ (c .before .before .before .before .before .before .before .before .before .before .before .before .if1 .left)) (c .before .before .before .before .before .before .before .before .before .before .before .new .ensures) (cells-counted (a .domain) (c .before .before .before .before .before .before .before .before .before .before .before .new .result) (c .before .before .before .before .before .before .before .before .before .before .cells .result) (c .before .before .before .before .before .before .before .before .before .before .before .new .ensures) (c .before .before .before .before .before .before .before .before .before .before .cells .ensures))
+begin-requires c κs =
+    let else2 : tie.Else2 = search in
+    let f2 : tie.After-fits2 = search in
+    let ce : tie.After-cells = search in
+    let n : tie.After-new = search in
+    let else1 : tie.Else1 = search in
+    let bo : tie.After-box-ok = search in
+    let b = entry bo in
+    let a = b .args in
+    startable (record { grains = a .count; cells = ce .cells .result; room = a .room }) (length (a .inputs .now)) (length (a .lists .now)) (length (a .grains .now)) (length (a .queue .now)) (length (a .events .now)) (length (a .order .now)) (sym (f2 .fits2 .ensures) ∙ not-false _ (else2 .if2 .left)) (a .domain) (n .new .result) (sym (bo .box-ok .ensures) ∙ not-false _ (else1 .if1 .left)) (n .new .ensures) (cells-counted (a .domain) (n .new .result) (ce .cells .result) (n .new .ensures) (ce .cells .ensures))
 
 same-length : tie.Need-same-length
-same-length c = c .before .before .before .before .before .before .before .before .before .before .before .begin .kept .1 .0
+same-length c =
+    let b : tie.After-begin = search in
+    b .begin .kept .1 .0
 
 same-length-2 : tie.Need-same-length-2
-same-length-2 c = c .before .before .before .before .before .before .before .before .before .before .before .begin .kept .1 .1 .0
+same-length-2 c =
+    let b : tie.After-begin = search in
+    b .begin .kept .1 .1 .0
 
 same-length-3 : tie.Need-same-length-3
-same-length-3 c = c .before .before .before .before .before .before .before .before .before .before .before .begin .kept .1 .1 .1 .0
+same-length-3 c =
+    let b : tie.After-begin = search in
+    b .begin .kept .1 .1 .1 .0
 
 same-length-4 : tie.Need-same-length-4
-same-length-4 c = c .before .before .before .before .before .before .before .before .before .before .before .begin .kept .1 .1 .1 .1 .0
+same-length-4 c =
+    let b : tie.After-begin = search in
+    b .begin .kept .1 .1 .1 .1 .0
 
 same-length-5 : tie.Need-same-length-5
-same-length-5 c = c .before .before .before .before .before .before .before .before .before .before .before .begin .kept .1 .1 .1 .1 .1 .0
+same-length-5 c =
+    let b : tie.After-begin = search in
+    b .begin .kept .1 .1 .1 .1 .1 .0
 
 returns-4 : tie.Need-returns-4
-returns-4 c = let b = c .before .before .before .before .before .before .before .before .before .before .before .before .before .before .before .before .before .before .before .before .before .before .before .before .before .before .before .before .before .before .before .before in let a = b .args in record { box-fits = floats b; is = start-accepted (a .domain) (a .count) (a .room) (a .inputs .now) (tables (a .lists .now) (a .grains .now) (a .queue .now) (a .events .now) (a .order .now)) (sym (c .before .before .before .before .before .before .before .before .before .before .before .before .before .before .before .before .before .before .before .before .before .before .before .before .before .box-ok .ensures) ∙ not-false _ (c .before .before .before .before .before .before .before .before .before .before .before .before .before .before .before .before .before .before .before .before .before .before .before .before .if1 .left)) (sized-as (a .domain) (a .count) (c .before .before .before .before .before .before .before .before .before .before .before .before .before .before .before .before .before .before .before .before .before .before .cells .result) (a .room) (length (a .inputs .now)) (length (a .lists .now)) (length (a .grains .now)) (length (a .queue .now)) (length (a .events .now)) (length (a .order .now)) (cells-counted (a .domain) (c .before .before .before .before .before .before .before .before .before .before .before .before .before .before .before .before .before .before .before .before .before .before .before .new .result) (c .before .before .before .before .before .before .before .before .before .before .before .before .before .before .before .before .before .before .before .before .before .before .cells .result) (c .before .before .before .before .before .before .before .before .before .before .before .before .before .before .before .before .before .before .before .before .before .before .before .new .ensures) (c .before .before .before .before .before .before .before .before .before .before .before .before .before .before .before .before .before .before .before .before .before .before .cells .ensures)) (sym (c .before .before .before .before .before .before .before .before .before .before .before .before .before .before .before .before .before .before .before .before .before .fits2 .ensures) ∙ not-false _ (c .before .before .before .before .before .before .before .before .before .before .before .before .before .before .before .before .before .before .before .before .if2 .left))) (c .before .before .before .before .before .before .before .before .before .before .before .begin .result) _ (sym (c .before .before .before .before .before .before .before .before .before .before .before .before .before .before .before .before .before .before .before .first-bad .ensures) ∙ c .before .before .before .before .before .before .before .before .before .before .before .before .before .before .before .before .before .if3 .left) (c .before .before .before .before .before .before .before .before .before .before .before .begin .ensures) (c .if4 .taken) }
+returns-4 c =
+    let be : tie.After-begin = search in
+    let else3 : tie.Else3 = search in
+    let fb : tie.After-first-bad = search in
+    let else2 : tie.Else2 = search in
+    let f2 : tie.After-fits2 = search in
+    let ce : tie.After-cells = search in
+    let n : tie.After-new = search in
+    let else1 : tie.Else1 = search in
+    let bo : tie.After-box-ok = search in
+    let b = entry bo in
+    let a = b .args in
+    record { box-fits = floats b; is = start-accepted (a .domain) (a .count) (a .room) (a .inputs .now) (tables (a .lists .now) (a .grains .now) (a .queue .now) (a .events .now) (a .order .now)) (sym (bo .box-ok .ensures) ∙ not-false _ (else1 .if1 .left)) (sized-as (a .domain) (a .count) (ce .cells .result) (a .room) (length (a .inputs .now)) (length (a .lists .now)) (length (a .grains .now)) (length (a .queue .now)) (length (a .events .now)) (length (a .order .now)) (cells-counted (a .domain) (n .new .result) (ce .cells .result) (n .new .ensures) (ce .cells .ensures)) (sym (f2 .fits2 .ensures) ∙ not-false _ (else2 .if2 .left))) (be .begin .result) _ (sym (fb .first-bad .ensures) ∙ else3 .if3 .left) (be .begin .ensures) (c .if4 .taken) }
 
 same-length-6 : tie.Need-same-length-6
-same-length-6 c = c .before .before .before .before .before .before .before .before .before .before .before .begin .kept .1 .0
+same-length-6 c =
+    let b : tie.After-begin = search in
+    b .begin .kept .1 .0
 
 same-length-7 : tie.Need-same-length-7
-same-length-7 c = c .before .before .before .before .before .before .before .before .before .before .before .begin .kept .1 .1 .0
+same-length-7 c =
+    let b : tie.After-begin = search in
+    b .begin .kept .1 .1 .0
 
 same-length-8 : tie.Need-same-length-8
-same-length-8 c = c .before .before .before .before .before .before .before .before .before .before .before .begin .kept .1 .1 .1 .0
+same-length-8 c =
+    let b : tie.After-begin = search in
+    b .begin .kept .1 .1 .1 .0
 
 same-length-9 : tie.Need-same-length-9
-same-length-9 c = c .before .before .before .before .before .before .before .before .before .before .before .begin .kept .1 .1 .1 .1 .0
+same-length-9 c =
+    let b : tie.After-begin = search in
+    b .begin .kept .1 .1 .1 .1 .0
 
 same-length-10 : tie.Need-same-length-10
-same-length-10 c = c .before .before .before .before .before .before .before .before .before .before .before .begin .kept .1 .1 .1 .1 .1 .0
+same-length-10 c =
+    let b : tie.After-begin = search in
+    b .begin .kept .1 .1 .1 .1 .1 .0
 
 returns-5 : tie.Need-returns-5
-returns-5 c = let b = c .before .before .before .before .before .before .before .before .before .before .before .before .before .before .before .before .before .before .before .before .before .before .before .before .before .before .before .before .before .before .before .before in let a = b .args in record { box-fits = floats b; is = start-halted (a .domain) (a .count) (a .room) (a .inputs .now) (tables (a .lists .now) (a .grains .now) (a .queue .now) (a .events .now) (a .order .now)) (sym (c .before .before .before .before .before .before .before .before .before .before .before .before .before .before .before .before .before .before .before .before .before .before .before .before .before .box-ok .ensures) ∙ not-false _ (c .before .before .before .before .before .before .before .before .before .before .before .before .before .before .before .before .before .before .before .before .before .before .before .before .if1 .left)) (sized-as (a .domain) (a .count) (c .before .before .before .before .before .before .before .before .before .before .before .before .before .before .before .before .before .before .before .before .before .before .cells .result) (a .room) (length (a .inputs .now)) (length (a .lists .now)) (length (a .grains .now)) (length (a .queue .now)) (length (a .events .now)) (length (a .order .now)) (cells-counted (a .domain) (c .before .before .before .before .before .before .before .before .before .before .before .before .before .before .before .before .before .before .before .before .before .before .before .new .result) (c .before .before .before .before .before .before .before .before .before .before .before .before .before .before .before .before .before .before .before .before .before .before .cells .result) (c .before .before .before .before .before .before .before .before .before .before .before .before .before .before .before .before .before .before .before .before .before .before .before .new .ensures) (c .before .before .before .before .before .before .before .before .before .before .before .before .before .before .before .before .before .before .before .before .before .before .cells .ensures)) (sym (c .before .before .before .before .before .before .before .before .before .before .before .before .before .before .before .before .before .before .before .before .before .fits2 .ensures) ∙ not-false _ (c .before .before .before .before .before .before .before .before .before .before .before .before .before .before .before .before .before .before .before .before .if2 .left))) (c .before .before .before .before .before .before .before .before .before .before .before .begin .result) _ (sym (c .before .before .before .before .before .before .before .before .before .before .before .before .before .before .before .before .before .before .before .first-bad .ensures) ∙ c .before .before .before .before .before .before .before .before .before .before .before .before .before .before .before .before .before .if3 .left) (c .before .before .before .before .before .before .before .before .before .before .before .begin .ensures) (c .if4 .left) }
+returns-5 c =
+    let be : tie.After-begin = search in
+    let else3 : tie.Else3 = search in
+    let fb : tie.After-first-bad = search in
+    let else2 : tie.Else2 = search in
+    let f2 : tie.After-fits2 = search in
+    let ce : tie.After-cells = search in
+    let n : tie.After-new = search in
+    let else1 : tie.Else1 = search in
+    let bo : tie.After-box-ok = search in
+    let b = entry bo in
+    let a = b .args in
+    record { box-fits = floats b; is = start-halted (a .domain) (a .count) (a .room) (a .inputs .now) (tables (a .lists .now) (a .grains .now) (a .queue .now) (a .events .now) (a .order .now)) (sym (bo .box-ok .ensures) ∙ not-false _ (else1 .if1 .left)) (sized-as (a .domain) (a .count) (ce .cells .result) (a .room) (length (a .inputs .now)) (length (a .lists .now)) (length (a .grains .now)) (length (a .queue .now)) (length (a .events .now)) (length (a .order .now)) (cells-counted (a .domain) (n .new .result) (ce .cells .result) (n .new .ensures) (ce .cells .ensures)) (sym (f2 .fits2 .ensures) ∙ not-false _ (else2 .if2 .left))) (be .begin .result) _ (sym (fb .first-bad .ensures) ∙ else3 .if3 .left) (be .begin .ensures) (c .if4 .left) }
 
 pub start-spec : {M : Type 1} → statement M
 start-spec =

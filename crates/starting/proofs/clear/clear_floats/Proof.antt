@@ -33,16 +33,20 @@ loop-less c = search needs
 
 loop-again : tie.Need-loop-again Inv-loop μ-loop
 loop-again c =
-    let i = c .before .loop .inv in
+    let at-loop : tie.At-loop Inv-loop μ-loop = search in
+    let i = at-loop .loop .inv in
     let h = rw (i .1) at (c .loop-test .taken) in
     (omega (arith, h), simp length-set (i .1), more fzero _ _ _ (i .2) h)
 
 same-length : tie.Need-same-length Inv-loop μ-loop
-same-length c = c .before .loop .inv .1
+same-length c =
+    let at-loop : tie.At-loop Inv-loop μ-loop = search in
+    at-loop .loop .inv .1
 
 returns : tie.Need-returns Inv-loop μ-loop
 returns c =
-    let i = c .before .loop .inv in
+    let at-loop : tie.At-loop Inv-loop μ-loop = search in
+    let i = at-loop .loop .inv in
     full fzero _ _ _ (i .2) (i .0) (rw (i .1) at (c .loop-test .left))
 
 pub clear-floats-spec : {M : Type 1} → statement M

@@ -1,12 +1,12 @@
 -- `clear_order`: all places 0, and then the scheduler of the cells in front. Assumes nothing.
-use Prim.Native.Nat.{_-_}
+use Prim.Native.Nat.{ℕ, _-_}
 use mathlib.Core.Path.{refl, ap, _∙_}
 use mathlib.Core.List.{[]}
 use lib.ListN.{length, replicate}
 use borrow.Rule.Slice.PartMut.{putMid}
 use Rattle.tables.specs.Layout.{orderBytes}
 use Rattle.starting.proofs.Zeros.{start-long}
-use Rattle.checks.proofs.Over.{over-put}
+use Rattle.tables.proofs.Over.{over-put}
 use Rattle.tables.specs.Encode.{over}
 use borrow.Author.Needs.{needs}
 use Rattle.starting.proofs.clear.clear_order.Statement.{statement}
@@ -34,7 +34,17 @@ same-length : tie.Need-same-length
 same-length c = search needs
 
 returns : tie.Need-returns
-returns c = let b = c .before .before .before .before .before .before .before .before .before .before in let a = b .args in ap (λ m. putMid 0 (512 - 0) m (c .before .before .store .last .0)) (c .before .before .before .before .before .before .before .clear-bytes .ensures) ∙ over-put [] (c .before .before .store .last .0) (replicate (length (a .order .now)) 0) 0 512 refl (ap length (c .before .before .store .ensures ∙ ap orderBytes (c .before .before .before .new .ensures)) ∙ start-long (a .cells) (b .pre .1)) ∙ ap (λ m. over m (replicate (length (a .order .now)) 0)) (c .before .before .store .ensures ∙ ap orderBytes (c .before .before .before .new .ensures))
+returns c =
+    let s : tie.After-store = search in
+    let n : tie.After-new = search in
+    let cb : tie.After-clear-bytes = search in
+    let b : tie.Start = search in
+    let a = b .args in
+    let is = s .store .ensures ∙ ap orderBytes (n .new .ensures) in
+    let zeros = replicate {A = ℕ} (length (a .order .now)) 0 in
+    ap (λ m. putMid 0 (512 - 0) m (s .store .last .0)) (cb .clear-bytes .ensures)
+    ∙ over-put [] (s .store .last .0) zeros 0 512 refl (ap length is ∙ start-long (a .cells) (b .pre .1))
+    ∙ ap (λ m. over m zeros) is
 
 pub clear-order-spec : {M : Type 1} → statement M
 clear-order-spec =

@@ -33,28 +33,76 @@ abbrev Rd : ℕ → enter-rows-lts.Claims
 Rd t = (enter-row-reads.Asked, enter-row-reads.Learnt, enter-rows-below t, enter-rows.Post)
 
 enter-rows-returns : (t : ℕ) → enter-rows-lts.Need-returns (Rd t) (enter-rows-at t) enter-rows.Post
-enter-rows-returns t c = let b = c .before .before in let a = b .args in let E = b .pre .1 in λ s S. entered-none (a .grain) (rows-none (a .n0) (cellsIn (a .x)) (a .lo) (a .hi) (c .if1 .taken)) s S
+enter-rows-returns t c =
+    let b : enter-rows-lts.Start (Rd t) (enter-rows-at t) enter-rows.Post = search in
+    let a = b .args in
+    let E = b .pre .1 in
+    λ s S. entered-none (a .grain) (rows-none (a .n0) (cellsIn (a .x)) (a .lo) (a .hi) (c .if1 .taken)) s S
 
 enter-rows-enter-row-requires : (t : ℕ) → enter-rows-lts.Need-enter-row-requires (Rd t) (enter-rows-at t) enter-rows.Post
-enter-rows-enter-row-requires t c κs = let b = c .before .before .before in let a = b .args in let E = b .pre .1 in enters-front (rowCells (a .n0) (cellsIn (a .x)) (a .lo)) (gridCells (a .n0) (cellsIn (a .x)) (between (a .lo + 1) (a .hi))) (rows-step (a .n0) (cellsIn (a .x)) (a .lo) (a .hi) (c .before .if1 .left)) E
+enter-rows-enter-row-requires t c κs =
+    let else1 : enter-rows-lts.Else1 (Rd t) (enter-rows-at t) enter-rows.Post = search in
+    let b : enter-rows-lts.Start (Rd t) (enter-rows-at t) enter-rows.Post = search in
+    let a = b .args in
+    let E = b .pre .1 in
+    enters-front (rowCells (a .n0) (cellsIn (a .x)) (a .lo)) (gridCells (a .n0) (cellsIn (a .x)) (between (a .lo + 1) (a .hi))) (rows-step (a .n0) (cellsIn (a .x)) (a .lo) (a .hi) (else1 .if1 .left)) E
 
 enter-rows-same-length : (t : ℕ) → enter-rows-lts.Need-same-length (Rd t) (enter-rows-at t) enter-rows.Post
-enter-rows-same-length t c = c .before .before .before .enter-row .kept .0
+enter-rows-same-length t c =
+    let er : enter-rows-lts.After-enter-row (Rd t) (enter-rows-at t) enter-rows.Post = search in
+    er .enter-row .kept .0
 
 enter-rows-returns-2 : (t : ℕ) → enter-rows-lts.Need-returns-2 (Rd t) (enter-rows-at t) enter-rows.Post
-enter-rows-returns-2 t c = let b = c .before .before .before .before .before .before .before in let a = b .args in let E = b .pre .1 in λ s S. all-stop (a .grain) (rowCells (a .n0) (cellsIn (a .x)) (a .lo)) (gridCells (a .n0) (cellsIn (a .x)) (between (a .lo + 1) (a .hi))) (rows-step (a .n0) (cellsIn (a .x)) (a .lo) (a .hi) (c .before .before .before .before .before .if1 .left)) s (c .before .before .before .enter-row .ensures s S) (c .if2 .taken)
+enter-rows-returns-2 t c =
+    let er : enter-rows-lts.After-enter-row (Rd t) (enter-rows-at t) enter-rows.Post = search in
+    let else1 : enter-rows-lts.Else1 (Rd t) (enter-rows-at t) enter-rows.Post = search in
+    let b : enter-rows-lts.Start (Rd t) (enter-rows-at t) enter-rows.Post = search in
+    let a = b .args in
+    let E = b .pre .1 in
+    λ s S. all-stop (a .grain) (rowCells (a .n0) (cellsIn (a .x)) (a .lo)) (gridCells (a .n0) (cellsIn (a .x)) (between (a .lo + 1) (a .hi))) (rows-step (a .n0) (cellsIn (a .x)) (a .lo) (a .hi) (else1 .if1 .left)) s (er .enter-row .ensures s S) (c .if2 .taken)
 
 enter-rows-add-enter-rows : (t : ℕ) → enter-rows-lts.Need-add-enter-rows (Rd t) (enter-rows-at t) enter-rows.Post
-enter-rows-add-enter-rows t c = let b = c .before .before .before .before .before .before .before .before in let a = b .args in let E = b .pre .1 in omega (arith, c .before .before .before .before .before .before .if1 .left)
+enter-rows-add-enter-rows t c =
+    let else1 : enter-rows-lts.Else1 (Rd t) (enter-rows-at t) enter-rows.Post = search in
+    let b : enter-rows-lts.Start (Rd t) (enter-rows-at t) enter-rows.Post = search in
+    let a = b .args in
+    let E = b .pre .1 in
+    omega (arith, else1 .if1 .left)
 
 enter-rows-enter-rows-requires : (t : ℕ) → enter-rows-lts.Need-enter-rows-requires (Rd t) (enter-rows-at t) enter-rows.Post
-enter-rows-enter-rows-requires t c κs = let b = c .before .before .before .before .before .before .before .before in let a = b .args in let E = b .pre .1 in (omega (arith, b .pre .0, c .before .before .before .before .before .before .if1 .left), enters-back (rowCells (a .n0) (cellsIn (a .x)) (a .lo)) (gridCells (a .n0) (cellsIn (a .x)) (between (a .lo + 1) (a .hi))) (rows-step (a .n0) (cellsIn (a .x)) (a .lo) (a .hi) (c .before .before .before .before .before .before .if1 .left)) E ((eachOf (enter (a .grain)) (rowCells (a .n0) (cellsIn (a .x)) (a .lo)) (E .lists .0)) .st, c .before .before .before .before .enter-row .ensures (E .lists .0) (E .lists .1) .1))
+enter-rows-enter-rows-requires t c κs =
+    let er : enter-rows-lts.After-enter-row (Rd t) (enter-rows-at t) enter-rows.Post = search in
+    let else1 : enter-rows-lts.Else1 (Rd t) (enter-rows-at t) enter-rows.Post = search in
+    let b : enter-rows-lts.Start (Rd t) (enter-rows-at t) enter-rows.Post = search in
+    let a = b .args in
+    let E = b .pre .1 in
+    let u = rowCells (a .n0) (cellsIn (a .x)) (a .lo) in
+    let v = gridCells (a .n0) (cellsIn (a .x)) (between (a .lo + 1) (a .hi)) in
+    let L = E .lists in (
+      omega (arith, b .pre .0, else1 .if1 .left),
+      enters-back u v (rows-step (a .n0) (cellsIn (a .x)) (a .lo) (a .hi) (else1 .if1 .left)) E ((eachOf (enter (a .grain)) u (L .0)) .st, er .enter-row .ensures (L .0) (L .1) .1),
+    )
 
 enter-rows-same-length-2 : (t : ℕ) → enter-rows-lts.Need-same-length-2 (Rd t) (enter-rows-at t) enter-rows.Post
-enter-rows-same-length-2 t c = c .before .before .enter-rows .kept .0 ∙ c .before .before .before .before .before .before .before .enter-row .kept .0
+enter-rows-same-length-2 t c =
+    let er : enter-rows-lts.After-enter-rows (Rd t) (enter-rows-at t) enter-rows.Post = search in
+    let en : enter-rows-lts.After-enter-row (Rd t) (enter-rows-at t) enter-rows.Post = search in
+    er .enter-rows .kept .0 ∙ en .enter-row .kept .0
 
 enter-rows-returns-3 : (t : ℕ) → enter-rows-lts.Need-returns-3 (Rd t) (enter-rows-at t) enter-rows.Post
-enter-rows-returns-3 t c = let b = c .before .before .before .before .before .before .before .before .before .before .before in let a = b .args in let E = b .pre .1 in λ s S. all-on (a .grain) (rowCells (a .n0) (cellsIn (a .x)) (a .lo)) (gridCells (a .n0) (cellsIn (a .x)) (between (a .lo + 1) (a .hi))) (rows-step (a .n0) (cellsIn (a .x)) (a .lo) (a .hi) (c .before .before .before .before .before .before .before .before .before .if1 .left)) s (c .before .before .before .before .before .before .before .enter-row .ensures s S) (c .before .before .before .before .if2 .left) (c .before .before .enter-rows .ensures ((eachOf (enter (a .grain)) (rowCells (a .n0) (cellsIn (a .x)) (a .lo)) s) .st) (c .before .before .before .before .before .before .before .enter-row .ensures s S .1))
+enter-rows-returns-3 t c =
+    let er : enter-rows-lts.After-enter-rows (Rd t) (enter-rows-at t) enter-rows.Post = search in
+    let else2 : enter-rows-lts.Else2 (Rd t) (enter-rows-at t) enter-rows.Post = search in
+    let en : enter-rows-lts.After-enter-row (Rd t) (enter-rows-at t) enter-rows.Post = search in
+    let else1 : enter-rows-lts.Else1 (Rd t) (enter-rows-at t) enter-rows.Post = search in
+    let b : enter-rows-lts.Start (Rd t) (enter-rows-at t) enter-rows.Post = search in
+    let a = b .args in
+    let E = b .pre .1 in
+    let u = rowCells (a .n0) (cellsIn (a .x)) (a .lo) in
+    let v = gridCells (a .n0) (cellsIn (a .x)) (between (a .lo + 1) (a .hi)) in
+    λ s S.
+    let one = en .enter-row .ensures s S in
+    all-on (a .grain) u v (rows-step (a .n0) (cellsIn (a .x)) (a .lo) (a .hi) (else1 .if1 .left)) s one (else2 .if2 .left) (er .enter-rows .ensures ((eachOf (enter (a .grain)) u s) .st) (one .1))
 
 pub +enter-rows-spec : {M : Type 1} → statement M
 +enter-rows-spec = close μ-enter-rows λ t. enter-rows-lts.spec (Rd t)

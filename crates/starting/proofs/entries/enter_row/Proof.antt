@@ -9,22 +9,55 @@ use Rattle.starting.proofs.entries.enter_row.Statement.{statement}
 use Rattle.starting.proofs.entries.enter_row.Tie as tie
 
 enter-span-requires : tie.Need-enter-span-requires
-enter-span-requires c κs = let b = c .before .before in let a = b .args in let E = b .pre in enters-front (rowCells (a .n0) (between (a .x .a0) (a .x .b0)) (a .j)) (rowCells (a .n0) (between (a .x .a1) (a .x .b1)) (a .j)) (row-two (a .n0) (a .x) (a .j)) E
+enter-span-requires c κs =
+    let b : tie.Start = search in
+    let a = b .args in
+    let E = b .pre in
+    enters-front (rowCells (a .n0) (between (a .x .a0) (a .x .b0)) (a .j)) (rowCells (a .n0) (between (a .x .a1) (a .x .b1)) (a .j)) (row-two (a .n0) (a .x) (a .j)) E
 
 same-length : tie.Need-same-length
-same-length c = c .before .before .before .enter-span .kept .0
+same-length c =
+    let es : tie.After-enter-span = search in
+    es .enter-span .kept .0
 
 returns : tie.Need-returns
-returns c = let b = c .before .before .before .before .before .before in let a = b .args in let E = b .pre in λ s S. all-stop (a .grain) (rowCells (a .n0) (between (a .x .a0) (a .x .b0)) (a .j)) (rowCells (a .n0) (between (a .x .a1) (a .x .b1)) (a .j)) (row-two (a .n0) (a .x) (a .j)) s (c .before .before .before .enter-span .ensures s S) (c .if1 .taken)
+returns c =
+    let es : tie.After-enter-span = search in
+    let b : tie.Start = search in
+    let a = b .args in
+    let E = b .pre in
+    λ s S. all-stop (a .grain) (rowCells (a .n0) (between (a .x .a0) (a .x .b0)) (a .j)) (rowCells (a .n0) (between (a .x .a1) (a .x .b1)) (a .j)) (row-two (a .n0) (a .x) (a .j)) s (es .enter-span .ensures s S) (c .if1 .taken)
 
 enter-span-requires-2 : tie.Need-enter-span-requires-2
-enter-span-requires-2 c κs = let b = c .before .before .before .before .before .before .before in let a = b .args in let E = b .pre in enters-back (rowCells (a .n0) (between (a .x .a0) (a .x .b0)) (a .j)) (rowCells (a .n0) (between (a .x .a1) (a .x .b1)) (a .j)) (row-two (a .n0) (a .x) (a .j)) E ((eachOf (enter (a .grain)) (rowCells (a .n0) (between (a .x .a0) (a .x .b0)) (a .j)) (E .lists .0)) .st, c .before .before .before .before .enter-span .ensures (E .lists .0) (E .lists .1) .1)
+enter-span-requires-2 c κs =
+    let es : tie.After-enter-span = search in
+    let b : tie.Start = search in
+    let a = b .args in
+    let E = b .pre in
+    let u = rowCells (a .n0) (between (a .x .a0) (a .x .b0)) (a .j) in
+    let v = rowCells (a .n0) (between (a .x .a1) (a .x .b1)) (a .j) in
+    let L = E .lists in
+    enters-back u v (row-two (a .n0) (a .x) (a .j)) E ((eachOf (enter (a .grain)) u (L .0)) .st, es .enter-span .ensures (L .0) (L .1) .1)
 
 same-length-2 : tie.Need-same-length-2
-same-length-2 c = c .before .before .enter-span2 .kept .0 ∙ c .before .before .before .before .before .before .before .enter-span .kept .0
+same-length-2 c =
+    let es2 : tie.After-enter-span2 = search in
+    let es : tie.After-enter-span = search in
+    es2 .enter-span2 .kept .0 ∙ es .enter-span .kept .0
 
 returns-2 : tie.Need-returns-2
-returns-2 c = let b = c .before .before .before .before .before .before .before .before .before .before in let a = b .args in let E = b .pre in λ s S. all-on (a .grain) (rowCells (a .n0) (between (a .x .a0) (a .x .b0)) (a .j)) (rowCells (a .n0) (between (a .x .a1) (a .x .b1)) (a .j)) (row-two (a .n0) (a .x) (a .j)) s (c .before .before .before .before .before .before .before .enter-span .ensures s S) (c .before .before .before .before .if1 .left) (c .before .before .enter-span2 .ensures ((eachOf (enter (a .grain)) (rowCells (a .n0) (between (a .x .a0) (a .x .b0)) (a .j)) s) .st) (c .before .before .before .before .before .before .before .enter-span .ensures s S .1))
+returns-2 c =
+    let es2 : tie.After-enter-span2 = search in
+    let else1 : tie.Else1 = search in
+    let es : tie.After-enter-span = search in
+    let b : tie.Start = search in
+    let a = b .args in
+    let E = b .pre in
+    let u = rowCells (a .n0) (between (a .x .a0) (a .x .b0)) (a .j) in
+    let v = rowCells (a .n0) (between (a .x .a1) (a .x .b1)) (a .j) in
+    λ s S.
+    let one = es .enter-span .ensures s S in
+    all-on (a .grain) u v (row-two (a .n0) (a .x) (a .j)) s one (else1 .if1 .left) (es2 .enter-span2 .ensures ((eachOf (enter (a .grain)) u s) .st) (one .1))
 
 pub enter-row-spec : {M : Type 1} → statement M
 enter-row-spec =

@@ -16,7 +16,7 @@ use Rattle.starting.proofs.inputs.first_bad.Reads as first-bad
 use Rattle.starting.proofs.inputs.first_bad.Kinds as first-bad-kinds
 use Rattle.starting.proofs.inputs.+first_bad.Lts-first_bad as first-bad-lts
 use Rattle.particle.proofs.grain_ok.Reads as grain-ok-reads
-use Rattle.starting.proofs.inputs.first_input.Reads as first-input-reads
+use Rattle.tables.proofs.grains.read_input.Reads as read-input-reads
 use Rattle.starting.proofs.inputs.+first_bad.{statement}
 use Rattle.starting.proofs.inputs.+first_bad.Tie.{close}
 
@@ -31,47 +31,94 @@ first-bad-below t =
     and 1 first-bad-kinds.ps (falls 1 first-bad-kinds.ps _<_ μ-first-bad t) first-bad.Pre
 
 abbrev Rd : ℕ → first-bad-lts.Claims
-Rd t = (first-input-reads.Asked, first-input-reads.Learnt, grain-ok-reads.Asked, grain-ok-reads.Learnt, first-bad-below t, first-bad.Post)
+Rd t = (read-input-reads.Asked, read-input-reads.Learnt, grain-ok-reads.Asked, grain-ok-reads.Learnt, first-bad-below t, first-bad.Post)
 
 first-bad-returns : (t : ℕ) → first-bad-lts.Need-returns (Rd t) (first-bad-at t) first-bad.Post
-first-bad-returns t c = let b = c .before .before in let a = b .args in bad-none (a .domain) (a .n) (a .inputs .now) (c .if1 .taken)
+first-bad-returns t c =
+    let b : first-bad-lts.Start (Rd t) (first-bad-at t) first-bad.Post = search in
+    let a = b .args in
+    bad-none (a .domain) (a .n) (a .inputs .now) (c .if1 .taken)
 
-first-bad-first-input-requires : (t : ℕ) → first-bad-lts.Need-first-input-requires (Rd t) (first-bad-at t) first-bad.Post
-first-bad-first-input-requires t c κs = let b = c .before .before in let a = b .args in less-rows (a .n) 5 (length (a .inputs .now)) (c .if1 .left) (b .pre .1) .0
+first-bad-read-input-requires : (t : ℕ) → first-bad-lts.Need-read-input-requires (Rd t) (first-bad-at t) first-bad.Post
+first-bad-read-input-requires t c κs =
+    let b : first-bad-lts.Start (Rd t) (first-bad-at t) first-bad.Post = search in
+    let a = b .args in
+    less-rows (a .n) 5 (length (a .inputs .now)) (c .if1 .left) (b .pre .1) .0
 
 first-bad-grain-ok-requires : (t : ℕ) → first-bad-lts.Need-grain-ok-requires (Rd t) (first-bad-at t) first-bad.Post
 first-bad-grain-ok-requires t c κs = search needs
 
 first-bad-returns-2 : (t : ℕ) → first-bad-lts.Need-returns-2 (Rd t) (first-bad-at t) first-bad.Post
-first-bad-returns-2 t c = let b = c .before .before .before .before .before in let a = b .args in bad-first (a .domain) (a .n) (a .inputs .now) (c .before .before .before .if1 .left) (sym (c .before .grain-ok .ensures ∙ ap (grainOk (a .domain)) (c .before .before .first-input .ensures)) ∙ not-true _ (c .if2 .taken))
+first-bad-returns-2 t c =
+    let go : first-bad-lts.After-grain-ok (Rd t) (first-bad-at t) first-bad.Post = search in
+    let ri : first-bad-lts.After-read-input (Rd t) (first-bad-at t) first-bad.Post = search in
+    let else1 : first-bad-lts.Else1 (Rd t) (first-bad-at t) first-bad.Post = search in
+    let b : first-bad-lts.Start (Rd t) (first-bad-at t) first-bad.Post = search in
+    let a = b .args in
+    bad-first (a .domain) (a .n) (a .inputs .now) (else1 .if1 .left) (sym (go .grain-ok .ensures ∙ ap (grainOk (a .domain)) (ri .read-input .ensures)) ∙ not-true _ (c .if2 .taken))
 
 first-bad-sub-first-bad : (t : ℕ) → first-bad-lts.Need-sub-first-bad (Rd t) (first-bad-at t) first-bad.Post
-first-bad-sub-first-bad t c = let b = c .before .before .before .before .before in let a = b .args in let h = less-rows (a .n) 5 (length (a .inputs .now)) (c .before .before .before .if1 .left) (b .pre .1) .0 in omega arith
+first-bad-sub-first-bad t c =
+    let else1 : first-bad-lts.Else1 (Rd t) (first-bad-at t) first-bad.Post = search in
+    let b : first-bad-lts.Start (Rd t) (first-bad-at t) first-bad.Post = search in
+    let a = b .args in
+    let h = less-rows (a .n) 5 (length (a .inputs .now)) (else1 .if1 .left) (b .pre .1) .0 in
+    omega arith
 
 first-bad-part-first-bad-start : (t : ℕ) → first-bad-lts.Need-part-first-bad-start (Rd t) (first-bad-at t) first-bad.Post
-first-bad-part-first-bad-start t c = let b = c .before .before .before .before .before in let a = b .args in let h = less-rows (a .n) 5 (length (a .inputs .now)) (c .before .before .before .if1 .left) (b .pre .1) .0 in omega arith
+first-bad-part-first-bad-start t c =
+    let else1 : first-bad-lts.Else1 (Rd t) (first-bad-at t) first-bad.Post = search in
+    let b : first-bad-lts.Start (Rd t) (first-bad-at t) first-bad.Post = search in
+    let a = b .args in
+    let h = less-rows (a .n) 5 (length (a .inputs .now)) (else1 .if1 .left) (b .pre .1) .0 in
+    omega arith
 
 first-bad-part-first-bad-end : (t : ℕ) → first-bad-lts.Need-part-first-bad-end (Rd t) (first-bad-at t) first-bad.Post
-first-bad-part-first-bad-end t c = let b = c .before .before .before .before .before in let a = b .args in let h = less-rows (a .n) 5 (length (a .inputs .now)) (c .before .before .before .if1 .left) (b .pre .1) .0 in omega arith
+first-bad-part-first-bad-end t c =
+    let else1 : first-bad-lts.Else1 (Rd t) (first-bad-at t) first-bad.Post = search in
+    let b : first-bad-lts.Start (Rd t) (first-bad-at t) first-bad.Post = search in
+    let a = b .args in
+    let h = less-rows (a .n) 5 (length (a .inputs .now)) (else1 .if1 .left) (b .pre .1) .0 in
+    omega arith
 
 first-bad-sub-first-bad-2 : (t : ℕ) → first-bad-lts.Need-sub-first-bad-2 (Rd t) (first-bad-at t) first-bad.Post
-first-bad-sub-first-bad-2 t c = let b = c .before .before .before .before .before .before in let a = b .args in omega (arith, c .before .before .before .before .if1 .left)
+first-bad-sub-first-bad-2 t c =
+    let else1 : first-bad-lts.Else1 (Rd t) (first-bad-at t) first-bad.Post = search in
+    let b : first-bad-lts.Start (Rd t) (first-bad-at t) first-bad.Post = search in
+    let a = b .args in
+    omega (arith, else1 .if1 .left)
 
 first-bad-first-bad-requires : (t : ℕ) → first-bad-lts.Need-first-bad-requires (Rd t) (first-bad-at t) first-bad.Post
-first-bad-first-bad-requires t c κs = let b = c .before .before .before .before .before .before in let a = b .args in (omega (arith, b .pre .0, c .before .before .before .before .if1 .left), rest-long (a .n) 5 (a .inputs .now) (c .before .before .before .before .if1 .left) (b .pre .1))
+first-bad-first-bad-requires t c κs =
+    let else1 : first-bad-lts.Else1 (Rd t) (first-bad-at t) first-bad.Post = search in
+    let b : first-bad-lts.Start (Rd t) (first-bad-at t) first-bad.Post = search in
+    let a = b .args in
+    (omega (arith, b .pre .0, else1 .if1 .left), rest-long (a .n) 5 (a .inputs .now) (else1 .if1 .left) (b .pre .1))
 
 first-bad-add-result : (t : ℕ) → first-bad-lts.Need-add-result (Rd t) (first-bad-at t) first-bad.Post
-first-bad-add-result t c = let b = c .before .before .before .before .before .before .before in let a = b .args in let e = c .first-bad .ensures in let m = bad-most (a .domain) (a .n - 1) (midOf 5 (length (a .inputs .now) - 5) (a .inputs .now)) in omega (arith, e, m)
+first-bad-add-result t c =
+    let b : first-bad-lts.Start (Rd t) (first-bad-at t) first-bad.Post = search in
+    let a = b .args in
+    let e = c .first-bad .ensures in
+    let m = bad-most (a .domain) (a .n - 1) (midOf 5 (length (a .inputs .now) - 5) (a .inputs .now)) in
+    omega (arith, e, m)
 
 first-bad-returns-3 : (t : ℕ) → first-bad-lts.Need-returns-3 (Rd t) (first-bad-at t) first-bad.Post
-first-bad-returns-3 t c = let b = c .before .before .before .before .before .before .before in let a = b .args in bad-later (a .domain) (a .n) (a .inputs .now) (c .first-bad .result) (c .before .before .before .before .before .if1 .left) (sym (c .before .before .before .grain-ok .ensures ∙ ap (grainOk (a .domain)) (c .before .before .before .before .first-input .ensures)) ∙ not-false _ (c .before .before .if2 .left)) (c .first-bad .ensures)
+first-bad-returns-3 t c =
+    let else2 : first-bad-lts.Else2 (Rd t) (first-bad-at t) first-bad.Post = search in
+    let go : first-bad-lts.After-grain-ok (Rd t) (first-bad-at t) first-bad.Post = search in
+    let ri : first-bad-lts.After-read-input (Rd t) (first-bad-at t) first-bad.Post = search in
+    let else1 : first-bad-lts.Else1 (Rd t) (first-bad-at t) first-bad.Post = search in
+    let b : first-bad-lts.Start (Rd t) (first-bad-at t) first-bad.Post = search in
+    let a = b .args in
+    bad-later (a .domain) (a .n) (a .inputs .now) (c .first-bad .result) (else1 .if1 .left) (sym (go .grain-ok .ensures ∙ ap (grainOk (a .domain)) (ri .read-input .ensures)) ∙ not-false _ (else2 .if2 .left)) (c .first-bad .ensures)
 
 pub +first-bad-spec : {M : Type 1} → statement M
 +first-bad-spec = close μ-first-bad λ t. first-bad-lts.spec (Rd t)
     (first-bad-at t)
     first-bad.Post
     (first-bad-returns t)
-    (first-bad-first-input-requires t)
+    (first-bad-read-input-requires t)
     (first-bad-grain-ok-requires t)
     (first-bad-returns-2 t)
     (first-bad-sub-first-bad t)

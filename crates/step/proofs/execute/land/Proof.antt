@@ -5,19 +5,31 @@ use Rattle.step.proofs.execute.land.Statement.{statement}
 use Rattle.step.proofs.execute.land.Tie as tie
 
 get-grain-requires : tie.Need-get-grain-requires
-get-grain-requires c κs = let b = c .before .before in let a = b .args in let o = b .pre .0 in grain-fits (o .1) (b .pre .1) (a .p) (b .pre .2)
+get-grain-requires c κs =
+    let b : tie.Start = search in
+    let a = b .args in
+    let o = b .pre .0 in
+    grain-fits (o .1) (b .pre .1) (a .p) (b .pre .2)
 
 new-requires : tie.Need-new-requires
 new-requires c κs = search needs
 
 store-requires : tie.Need-store-requires
-store-requires c κs = let b = c .before .before .before .before .before in let a = b .args in (b .pre .0, b .pre .1, b .pre .2)
+store-requires c κs =
+    let b : tie.Start = search in
+    (b .pre .0, b .pre .1, b .pre .2)
 
 same-length : tie.Need-same-length
-same-length c = c .before .before .store .kept .0
+same-length c = search
 
 returns : tie.Need-returns
-returns c = let b = c .before .before .before .before .before .before .before .before in let a = b .args in landed-told (a .p) (a .pos) (a .clock) (c .before .before .before .new .ensures) (c .before .before .before .before .before .get-grain .ensures) (c .before .before .store .ensures)
+returns c =
+    let s : tie.After-store = search in
+    let n : tie.After-new = search in
+    let gg : tie.After-get-grain = search in
+    let b : tie.Start = search in
+    let a = b .args in
+    landed-told (a .p) (a .pos) (a .clock) (n .new .ensures) (gg .get-grain .ensures) (s .store .ensures)
 
 pub land-spec : {M : Type 1} → statement M
 land-spec = tie.close (tie.spec get-grain-requires new-requires store-requires same-length returns)

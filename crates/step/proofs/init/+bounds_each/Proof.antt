@@ -3,7 +3,6 @@ use Rattle.acts.proofs.InTurn.{all-tail, tail-less}
 use Rattle.step.proofs.Does.{list-none, list-stop, list-on, after}
 use Rattle.model.specs.Doing.{boundaries}
 use lib.ListN.{length}
-use mathlib.Core.Path.{_∙_}
 use native.Mathlib.Omega.{arith}
 use Prim.Native.Nat.{ℕ, _<_}
 use borrow.Fn.Kinds.{In}
@@ -30,25 +29,37 @@ abbrev Rd : ℕ → bounds-each-lts.Claims
 Rd t = (schedule-bounds-reads.Asked, schedule-bounds-reads.Learnt, bounds-each-below t, bounds-each.Post)
 
 bounds-each-returns : (t : ℕ) → bounds-each-lts.Need-returns (Rd t) (bounds-each-at t) bounds-each.Post
-bounds-each-returns t c = let b = c .before .before .before .before .before .before in let a = b .args in list-none (λ n. boundaries (a .cell .index) n) (a .list .now) (c .if1 .taken)
+bounds-each-returns t c =
+    let b : bounds-each-lts.Start (Rd t) (bounds-each-at t) bounds-each.Post = search in
+    let a = b .args in
+    list-none (λ n. boundaries (a .cell .index) n) (a .list .now) (c .if1 .taken)
 
 bounds-each-shared-slice-read-schedule-bounds : (t : ℕ) → bounds-each-lts.Need-shared-slice-read-schedule-bounds (Rd t) (bounds-each-at t) bounds-each.Post
 bounds-each-shared-slice-read-schedule-bounds t c = omega arith
 
 bounds-each-schedule-bounds-requires : (t : ℕ) → bounds-each-lts.Need-schedule-bounds-requires (Rd t) (bounds-each-at t) bounds-each.Post
-bounds-each-schedule-bounds-requires t c κs = let b = c .before .before .before .before .before .before .before .before .before .before in let a = b .args in (b .pre .1 .0, b .pre .1 .1, all-tail (λ n. n < a .z .grains) (a .list .now) (b .pre .1 .2) (c .before .before .before .before .if1 .left) .0)
+bounds-each-schedule-bounds-requires t c κs =
+    let else1 : bounds-each-lts.Else1 (Rd t) (bounds-each-at t) bounds-each.Post = search in
+    let b : bounds-each-lts.Start (Rd t) (bounds-each-at t) bounds-each.Post = search in
+    let a = b .args in
+    (b .pre .1 .0, b .pre .1 .1, all-tail (λ n. n < a .z .grains) (a .list .now) (b .pre .1 .2) (else1 .if1 .left) .0)
 
 bounds-each-same-length : (t : ℕ) → bounds-each-lts.Need-same-length (Rd t) (bounds-each-at t) bounds-each.Post
-bounds-each-same-length t c = c .before .before .before .before .before .before .before .schedule-bounds .kept .1 .0
+bounds-each-same-length t c = search
 
 bounds-each-same-length-2 : (t : ℕ) → bounds-each-lts.Need-same-length-2 (Rd t) (bounds-each-at t) bounds-each.Post
-bounds-each-same-length-2 t c = c .before .before .before .before .before .before .before .schedule-bounds .kept .1 .1 .0
+bounds-each-same-length-2 t c = search
 
 bounds-each-same-length-3 : (t : ℕ) → bounds-each-lts.Need-same-length-3 (Rd t) (bounds-each-at t) bounds-each.Post
-bounds-each-same-length-3 t c = c .before .before .before .before .before .before .before .schedule-bounds .kept .1 .1 .1 .0
+bounds-each-same-length-3 t c = search
 
 bounds-each-returns-2 : (t : ℕ) → bounds-each-lts.Need-returns-2 (Rd t) (bounds-each-at t) bounds-each.Post
-bounds-each-returns-2 t c = let b = c .before .before .before .before .before .before .before .before .before .before .before .before .before .before .before .before .before .before in let a = b .args in list-stop (λ n. boundaries (a .cell .index) n) (a .list .now) (c .before .before .before .before .before .before .before .before .before .before .before .before .if1 .left) (c .if2 .taken) (c .before .before .before .before .before .before .before .schedule-bounds .ensures)
+bounds-each-returns-2 t c =
+    let sb : bounds-each-lts.After-schedule-bounds (Rd t) (bounds-each-at t) bounds-each.Post = search in
+    let else1 : bounds-each-lts.Else1 (Rd t) (bounds-each-at t) bounds-each.Post = search in
+    let b : bounds-each-lts.Start (Rd t) (bounds-each-at t) bounds-each.Post = search in
+    let a = b .args in
+    list-stop (λ n. boundaries (a .cell .index) n) (a .list .now) (else1 .if1 .left) (c .if2 .taken) (sb .schedule-bounds .ensures)
 
 bounds-each-sub-bounds-each : (t : ℕ) → bounds-each-lts.Need-sub-bounds-each (Rd t) (bounds-each-at t) bounds-each.Post
 bounds-each-sub-bounds-each t c = omega arith
@@ -60,19 +71,42 @@ bounds-each-part-bounds-each-end : (t : ℕ) → bounds-each-lts.Need-part-bound
 bounds-each-part-bounds-each-end t c = omega arith
 
 bounds-each-bounds-each-requires : (t : ℕ) → bounds-each-lts.Need-bounds-each-requires (Rd t) (bounds-each-at t) bounds-each.Post
-bounds-each-bounds-each-requires t c κs = let b = c .before .before .before .before .before .before .before .before .before .before .before .before .before .before .before .before .before .before .before .before .before .before in let a = b .args in (omega (arith, tail-less (a .list .now) (c .before .before .before .before .before .before .before .before .before .before .before .before .before .before .before .before .if1 .left), b .pre .0), (after (c .before .before .before .before .before .before .before .before .before .before .before .schedule-bounds .ensures) (b .pre .1 .0), b .pre .1 .1, all-tail (λ n. n < a .z .grains) (a .list .now) (b .pre .1 .2) (c .before .before .before .before .before .before .before .before .before .before .before .before .before .before .before .before .if1 .left) .1))
+bounds-each-bounds-each-requires t c κs =
+    let sb : bounds-each-lts.After-schedule-bounds (Rd t) (bounds-each-at t) bounds-each.Post = search in
+    let else1 : bounds-each-lts.Else1 (Rd t) (bounds-each-at t) bounds-each.Post = search in
+    let b : bounds-each-lts.Start (Rd t) (bounds-each-at t) bounds-each.Post = search in
+    let a = b .args in (
+      omega (arith, tail-less (a .list .now) (else1 .if1 .left), b .pre .0),
+      (after (sb .schedule-bounds .ensures) (b .pre .1 .0), b .pre .1 .1, all-tail (λ n. n < a .z .grains) (a .list .now) (b .pre .1 .2) (else1 .if1 .left) .1),
+    )
 
 bounds-each-same-length-4 : (t : ℕ) → bounds-each-lts.Need-same-length-4 (Rd t) (bounds-each-at t) bounds-each.Post
-bounds-each-same-length-4 t c = c .before .before .before .before .before .before .bounds-each .kept .1 .1 .0 ∙ c .before .before .before .before .before .before .before .before .before .before .before .before .before .before .before .before .before .before .schedule-bounds .kept .1 .0
+bounds-each-same-length-4 t c =
+    let be : bounds-each-lts.After-bounds-each (Rd t) (bounds-each-at t) bounds-each.Post = search in
+    let sb : bounds-each-lts.After-schedule-bounds (Rd t) (bounds-each-at t) bounds-each.Post = search in
+    be .bounds-each .kept .1 .1 .0 ∙ sb .schedule-bounds .kept .1 .0
 
 bounds-each-same-length-5 : (t : ℕ) → bounds-each-lts.Need-same-length-5 (Rd t) (bounds-each-at t) bounds-each.Post
-bounds-each-same-length-5 t c = c .before .before .before .before .before .before .bounds-each .kept .1 .1 .1 .0 ∙ c .before .before .before .before .before .before .before .before .before .before .before .before .before .before .before .before .before .before .schedule-bounds .kept .1 .1 .0
+bounds-each-same-length-5 t c =
+    let be : bounds-each-lts.After-bounds-each (Rd t) (bounds-each-at t) bounds-each.Post = search in
+    let sb : bounds-each-lts.After-schedule-bounds (Rd t) (bounds-each-at t) bounds-each.Post = search in
+    be .bounds-each .kept .1 .1 .1 .0 ∙ sb .schedule-bounds .kept .1 .1 .0
 
 bounds-each-same-length-6 : (t : ℕ) → bounds-each-lts.Need-same-length-6 (Rd t) (bounds-each-at t) bounds-each.Post
-bounds-each-same-length-6 t c = c .before .before .before .before .before .before .bounds-each .kept .1 .1 .1 .1 .0 ∙ c .before .before .before .before .before .before .before .before .before .before .before .before .before .before .before .before .before .before .schedule-bounds .kept .1 .1 .1 .0
+bounds-each-same-length-6 t c =
+    let be : bounds-each-lts.After-bounds-each (Rd t) (bounds-each-at t) bounds-each.Post = search in
+    let sb : bounds-each-lts.After-schedule-bounds (Rd t) (bounds-each-at t) bounds-each.Post = search in
+    be .bounds-each .kept .1 .1 .1 .1 .0 ∙ sb .schedule-bounds .kept .1 .1 .1 .0
 
 bounds-each-returns-3 : (t : ℕ) → bounds-each-lts.Need-returns-3 (Rd t) (bounds-each-at t) bounds-each.Post
-bounds-each-returns-3 t c = let b = c .before .before .before .before .before .before .before .before .before .before .before .before .before .before .before .before .before .before .before .before .before .before .before .before .before .before .before .before .before in let a = b .args in list-on (λ n. boundaries (a .cell .index) n) (a .list .now) (c .before .before .before .before .before .before .before .before .before .before .before .before .before .before .before .before .before .before .before .before .before .before .before .if1 .left) (c .before .before .before .before .before .before .before .before .before .before .before .if2 .left) (c .before .before .before .before .before .before .before .before .before .before .before .before .before .before .before .before .before .before .schedule-bounds .ensures) (c .before .before .before .before .before .before .bounds-each .ensures)
+bounds-each-returns-3 t c =
+    let be : bounds-each-lts.After-bounds-each (Rd t) (bounds-each-at t) bounds-each.Post = search in
+    let else2 : bounds-each-lts.Else2 (Rd t) (bounds-each-at t) bounds-each.Post = search in
+    let sb : bounds-each-lts.After-schedule-bounds (Rd t) (bounds-each-at t) bounds-each.Post = search in
+    let else1 : bounds-each-lts.Else1 (Rd t) (bounds-each-at t) bounds-each.Post = search in
+    let b : bounds-each-lts.Start (Rd t) (bounds-each-at t) bounds-each.Post = search in
+    let a = b .args in
+    list-on (λ n. boundaries (a .cell .index) n) (a .list .now) (else1 .if1 .left) (else2 .if2 .left) (sb .schedule-bounds .ensures) (be .bounds-each .ensures)
 
 pub +bounds-each-spec : {M : Type 1} → statement M
 +bounds-each-spec = close μ-bounds-each λ t. bounds-each-lts.spec (

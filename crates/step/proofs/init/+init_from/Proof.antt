@@ -1,9 +1,8 @@
 use Rattle.step.proofs.Does.{range-none, range-stop, range-on, after, below-it}
-use Rattle.model.specs.Start.{initCell}
-use Prim.Native.Nat.{_-_}
+use Rattle.model.specs.Doing.{initCell}
+use Prim.Native.Nat.{_-_, ℕ, _<_}
 use mathlib.Core.Path.{_∙_}
 use native.Mathlib.Omega.{arith}
-use Prim.Native.Nat.{ℕ, _<_}
 use borrow.Fn.Kinds.{In}
 use borrow.Fn.PlainCycle.{Measures, is, falls, and}
 use Rattle.step.proofs.init.init_from.Reads as init-from
@@ -27,40 +26,76 @@ abbrev Rd : ℕ → init-from-lts.Claims
 Rd t = (init-cell-reads.Asked, init-cell-reads.Learnt, init-from-below t, init-from.Post)
 
 init-from-returns : (t : ℕ) → init-from-lts.Need-returns (Rd t) (init-from-at t) init-from.Post
-init-from-returns t c = let b = c .before .before .before .before .before .before .before in let a = b .args in range-none initCell (a .z .cells) (a .cell) (c .if1 .taken)
+init-from-returns t c =
+    let b : init-from-lts.Start (Rd t) (init-from-at t) init-from.Post = search in
+    let a = b .args in
+    range-none initCell (a .z .cells) (a .cell) (c .if1 .taken)
 
 init-from-init-cell-requires : (t : ℕ) → init-from-lts.Need-init-cell-requires (Rd t) (init-from-at t) init-from.Post
-init-from-init-cell-requires t c κs = let b = c .before .before .before .before .before .before .before .before .before .before in let a = b .args in let n = c .before .before .before .if1 .left in let h = b .pre .1 .2 in (b .pre .1 .0, b .pre .1 .1, below-it h n)
+init-from-init-cell-requires t c κs =
+    let else1 : init-from-lts.Else1 (Rd t) (init-from-at t) init-from.Post = search in
+    let b : init-from-lts.Start (Rd t) (init-from-at t) init-from.Post = search in
+    let n = else1 .if1 .left in
+    let h = b .pre .1 .2 in
+    (b .pre .1 .0, b .pre .1 .1, below-it h n)
 
 init-from-same-length : (t : ℕ) → init-from-lts.Need-same-length (Rd t) (init-from-at t) init-from.Post
-init-from-same-length t c = c .before .before .before .before .before .before .before .init-cell .kept .1 .1 .0
+init-from-same-length t c = search
 
 init-from-same-length-2 : (t : ℕ) → init-from-lts.Need-same-length-2 (Rd t) (init-from-at t) init-from.Post
-init-from-same-length-2 t c = c .before .before .before .before .before .before .before .init-cell .kept .1 .1 .1 .0
+init-from-same-length-2 t c = search
 
 init-from-same-length-3 : (t : ℕ) → init-from-lts.Need-same-length-3 (Rd t) (init-from-at t) init-from.Post
-init-from-same-length-3 t c = c .before .before .before .before .before .before .before .init-cell .kept .1 .1 .1 .1 .0
+init-from-same-length-3 t c = search
 
 init-from-returns-2 : (t : ℕ) → init-from-lts.Need-returns-2 (Rd t) (init-from-at t) init-from.Post
-init-from-returns-2 t c = let b = c .before .before .before .before .before .before .before .before .before .before .before .before .before .before .before .before .before .before in let a = b .args in let n = c .before .before .before .before .before .before .before .before .before .before .before .if1 .left in let h = b .pre .1 .2 in range-stop initCell (a .z .cells) (a .cell) (below-it h n) (c .if2 .taken) (c .before .before .before .before .before .before .before .init-cell .ensures)
+init-from-returns-2 t c =
+    let ic : init-from-lts.After-init-cell (Rd t) (init-from-at t) init-from.Post = search in
+    let else1 : init-from-lts.Else1 (Rd t) (init-from-at t) init-from.Post = search in
+    let b : init-from-lts.Start (Rd t) (init-from-at t) init-from.Post = search in
+    let a = b .args in
+    let n = else1 .if1 .left in
+    let h = b .pre .1 .2 in
+    range-stop initCell (a .z .cells) (a .cell) (below-it h n) (c .if2 .taken) (ic .init-cell .ensures)
 
 init-from-add-init-from : (t : ℕ) → init-from-lts.Need-add-init-from (Rd t) (init-from-at t) init-from.Post
-init-from-add-init-from t c = let b = c .before .before .before .before .before .before .before .before .before .before .before .before .before .before .before .before .before .before .before .before .before in let a = b .args in let n = c .before .before .before .before .before .before .before .before .before .before .before .before .before .before .if1 .left in let h = b .pre .1 .2 in let k = below-it h n in let m = (b .pre .1 .0) .1 .seen .queued .ranged .cells-most in omega arith
+init-from-add-init-from t c = omega arith
 
 init-from-init-from-requires : (t : ℕ) → init-from-lts.Need-init-from-requires (Rd t) (init-from-at t) init-from.Post
-init-from-init-from-requires t c κs = let b = c .before .before .before .before .before .before .before .before .before .before .before .before .before .before .before .before .before .before .before .before .before in let a = b .args in let n = c .before .before .before .before .before .before .before .before .before .before .before .before .before .before .if1 .left in let h = b .pre .1 .2 in let k = below-it h n in (omega (arith, b .pre .0), (after (c .before .before .before .before .before .before .before .before .before .before .init-cell .ensures) (b .pre .1 .0), b .pre .1 .1, omega arith))
+init-from-init-from-requires t c κs =
+    let ic : init-from-lts.After-init-cell (Rd t) (init-from-at t) init-from.Post = search in
+    let b : init-from-lts.Start (Rd t) (init-from-at t) init-from.Post = search in
+    (omega (arith, b .pre .0), (after (ic .init-cell .ensures) (b .pre .1 .0), b .pre .1 .1, omega arith))
 
 init-from-same-length-4 : (t : ℕ) → init-from-lts.Need-same-length-4 (Rd t) (init-from-at t) init-from.Post
-init-from-same-length-4 t c = c .before .before .before .before .before .before .init-from .kept .1 .1 .0 ∙ c .before .before .before .before .before .before .before .before .before .before .before .before .before .before .before .before .before .init-cell .kept .1 .1 .0
+init-from-same-length-4 t c =
+    let ini : init-from-lts.After-init-from (Rd t) (init-from-at t) init-from.Post = search in
+    let ic : init-from-lts.After-init-cell (Rd t) (init-from-at t) init-from.Post = search in
+    ini .init-from .kept .1 .1 .0 ∙ ic .init-cell .kept .1 .1 .0
 
 init-from-same-length-5 : (t : ℕ) → init-from-lts.Need-same-length-5 (Rd t) (init-from-at t) init-from.Post
-init-from-same-length-5 t c = c .before .before .before .before .before .before .init-from .kept .1 .1 .1 .0 ∙ c .before .before .before .before .before .before .before .before .before .before .before .before .before .before .before .before .before .init-cell .kept .1 .1 .1 .0
+init-from-same-length-5 t c =
+    let ini : init-from-lts.After-init-from (Rd t) (init-from-at t) init-from.Post = search in
+    let ic : init-from-lts.After-init-cell (Rd t) (init-from-at t) init-from.Post = search in
+    ini .init-from .kept .1 .1 .1 .0 ∙ ic .init-cell .kept .1 .1 .1 .0
 
 init-from-same-length-6 : (t : ℕ) → init-from-lts.Need-same-length-6 (Rd t) (init-from-at t) init-from.Post
-init-from-same-length-6 t c = c .before .before .before .before .before .before .init-from .kept .1 .1 .1 .1 .0 ∙ c .before .before .before .before .before .before .before .before .before .before .before .before .before .before .before .before .before .init-cell .kept .1 .1 .1 .1 .0
+init-from-same-length-6 t c =
+    let ini : init-from-lts.After-init-from (Rd t) (init-from-at t) init-from.Post = search in
+    let ic : init-from-lts.After-init-cell (Rd t) (init-from-at t) init-from.Post = search in
+    ini .init-from .kept .1 .1 .1 .1 .0 ∙ ic .init-cell .kept .1 .1 .1 .1 .0
 
 init-from-returns-3 : (t : ℕ) → init-from-lts.Need-returns-3 (Rd t) (init-from-at t) init-from.Post
-init-from-returns-3 t c = let b = c .before .before .before .before .before .before .before .before .before .before .before .before .before .before .before .before .before .before .before .before .before .before .before .before .before .before .before .before in let a = b .args in let n = c .before .before .before .before .before .before .before .before .before .before .before .before .before .before .before .before .before .before .before .before .before .if1 .left in let h = b .pre .1 .2 in range-on initCell (a .z .cells) (a .cell) (below-it h n) (c .before .before .before .before .before .before .before .before .before .before .if2 .left) (c .before .before .before .before .before .before .before .before .before .before .before .before .before .before .before .before .before .init-cell .ensures) (c .before .before .before .before .before .before .init-from .ensures)
+init-from-returns-3 t c =
+    let ini : init-from-lts.After-init-from (Rd t) (init-from-at t) init-from.Post = search in
+    let else2 : init-from-lts.Else2 (Rd t) (init-from-at t) init-from.Post = search in
+    let ic : init-from-lts.After-init-cell (Rd t) (init-from-at t) init-from.Post = search in
+    let else1 : init-from-lts.Else1 (Rd t) (init-from-at t) init-from.Post = search in
+    let b : init-from-lts.Start (Rd t) (init-from-at t) init-from.Post = search in
+    let a = b .args in
+    let n = else1 .if1 .left in
+    let h = b .pre .1 .2 in
+    range-on initCell (a .z .cells) (a .cell) (below-it h n) (else2 .if2 .left) (ic .init-cell .ensures) (ini .init-from .ensures)
 
 pub +init-from-spec : {M : Type 1} → statement M
 +init-from-spec = close μ-init-from λ t. init-from-lts.spec (

@@ -1,23 +1,29 @@
 use Rattle.step.proofs.Does.{range-all}
-use Rattle.model.specs.Start.{initCell}
+use Rattle.model.specs.Doing.{initCell}
 use native.Mathlib.Omega.{arith}
 use Rattle.step.proofs.init.init_events.Statement.{statement}
 use Rattle.step.proofs.init.init_events.Tie as tie
 
 init-from-requires : tie.Need-init-from-requires
-init-from-requires c κs = let b = c .before .before .before .before .before .before .before .before in let a = b .args in (b .pre .0, b .pre .1, omega arith)
+init-from-requires c κs =
+    let b : tie.Start = search in
+    (b .pre .0, b .pre .1, omega arith)
 
 same-length : tie.Need-same-length
-same-length c = c .before .before .before .before .before .before .init-from .kept .1 .1 .0
+same-length c = search
 
 same-length-2 : tie.Need-same-length-2
-same-length-2 c = c .before .before .before .before .before .before .init-from .kept .1 .1 .1 .0
+same-length-2 c = search
 
 same-length-3 : tie.Need-same-length-3
-same-length-3 c = c .before .before .before .before .before .before .init-from .kept .1 .1 .1 .1 .0
+same-length-3 c = search
 
 returns : tie.Need-returns
-returns c = let b = c .before .before .before .before .before .before .before .before .before .before .before .before .before .before .before in let a = b .args in range-all initCell (a .z .cells) (c .before .before .before .before .before .before .init-from .ensures)
+returns c =
+    let ini : tie.After-init-from = search in
+    let b : tie.Start = search in
+    let a = b .args in
+    range-all initCell (a .z .cells) (ini .init-from .ensures)
 
 pub init-events-spec : {M : Type 1} → statement M
 init-events-spec =

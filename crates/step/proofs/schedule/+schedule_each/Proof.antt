@@ -3,7 +3,6 @@ use Rattle.acts.proofs.InTurn.{all-tail, tail-less}
 use Rattle.step.proofs.Does.{list-none, list-stop, list-on, after}
 use Rattle.model.specs.Doing.{scheduleEvents}
 use lib.ListN.{length}
-use mathlib.Core.Path.{_∙_}
 use native.Mathlib.Omega.{arith}
 use Prim.Native.Nat.{ℕ, _<_}
 use borrow.Fn.Kinds.{In}
@@ -34,28 +33,40 @@ abbrev Rd : ℕ → schedule-each-lts.Claims
 Rd t = (schedule-events-reads.Asked, schedule-events-reads.Learnt, schedule-each-below t, schedule-each.Post)
 
 schedule-each-returns : (t : ℕ) → schedule-each-lts.Need-returns (Rd t) (schedule-each-at t) schedule-each.Post
-schedule-each-returns t c = let b = c .before .before .before .before .before .before .before in let a = b .args in list-none (λ n. scheduleEvents (a .p) n) (a .list .now) (c .if1 .taken)
+schedule-each-returns t c =
+    let b : schedule-each-lts.Start (Rd t) (schedule-each-at t) schedule-each.Post = search in
+    let a = b .args in
+    list-none (λ n. scheduleEvents (a .p) n) (a .list .now) (c .if1 .taken)
 
 schedule-each-shared-slice-read-schedule-events : (t : ℕ) → schedule-each-lts.Need-shared-slice-read-schedule-events (Rd t) (schedule-each-at t) schedule-each.Post
 schedule-each-shared-slice-read-schedule-events t c = omega arith
 
 schedule-each-schedule-events-requires : (t : ℕ) → schedule-each-lts.Need-schedule-events-requires (Rd t) (schedule-each-at t) schedule-each.Post
-schedule-each-schedule-events-requires t c κs = let b = c .before .before .before .before .before .before .before .before .before .before .before .before in let a = b .args in (b .pre .1 .0, b .pre .1 .1, b .pre .1 .2, all-tail (λ n. n < a .z .cells) (a .list .now) (b .pre .1 .3) (c .before .before .before .before .before .if1 .left) .0)
+schedule-each-schedule-events-requires t c κs =
+    let else1 : schedule-each-lts.Else1 (Rd t) (schedule-each-at t) schedule-each.Post = search in
+    let b : schedule-each-lts.Start (Rd t) (schedule-each-at t) schedule-each.Post = search in
+    let a = b .args in
+    (b .pre .1 .0, b .pre .1 .1, b .pre .1 .2, all-tail (λ n. n < a .z .cells) (a .list .now) (b .pre .1 .3) (else1 .if1 .left) .0)
 
 schedule-each-same-length : (t : ℕ) → schedule-each-lts.Need-same-length (Rd t) (schedule-each-at t) schedule-each.Post
-schedule-each-same-length t c = c .before .before .before .before .before .before .before .before .before .schedule-events .kept .1 .0
+schedule-each-same-length t c = search
 
 schedule-each-same-length-2 : (t : ℕ) → schedule-each-lts.Need-same-length-2 (Rd t) (schedule-each-at t) schedule-each.Post
-schedule-each-same-length-2 t c = c .before .before .before .before .before .before .before .before .before .schedule-events .kept .1 .1 .0
+schedule-each-same-length-2 t c = search
 
 schedule-each-same-length-3 : (t : ℕ) → schedule-each-lts.Need-same-length-3 (Rd t) (schedule-each-at t) schedule-each.Post
-schedule-each-same-length-3 t c = c .before .before .before .before .before .before .before .before .before .schedule-events .kept .1 .1 .1 .0
+schedule-each-same-length-3 t c = search
 
 schedule-each-same-length-4 : (t : ℕ) → schedule-each-lts.Need-same-length-4 (Rd t) (schedule-each-at t) schedule-each.Post
-schedule-each-same-length-4 t c = c .before .before .before .before .before .before .before .before .before .schedule-events .kept .1 .1 .1 .1 .0
+schedule-each-same-length-4 t c = search
 
 schedule-each-returns-2 : (t : ℕ) → schedule-each-lts.Need-returns-2 (Rd t) (schedule-each-at t) schedule-each.Post
-schedule-each-returns-2 t c = let b = c .before .before .before .before .before .before .before .before .before .before .before .before .before .before .before .before .before .before .before .before .before .before in let a = b .args in list-stop (λ n. scheduleEvents (a .p) n) (a .list .now) (c .before .before .before .before .before .before .before .before .before .before .before .before .before .before .before .if1 .left) (c .if2 .taken) (c .before .before .before .before .before .before .before .before .before .schedule-events .ensures)
+schedule-each-returns-2 t c =
+    let se : schedule-each-lts.After-schedule-events (Rd t) (schedule-each-at t) schedule-each.Post = search in
+    let else1 : schedule-each-lts.Else1 (Rd t) (schedule-each-at t) schedule-each.Post = search in
+    let b : schedule-each-lts.Start (Rd t) (schedule-each-at t) schedule-each.Post = search in
+    let a = b .args in
+    list-stop (λ n. scheduleEvents (a .p) n) (a .list .now) (else1 .if1 .left) (c .if2 .taken) (se .schedule-events .ensures)
 
 schedule-each-sub-schedule-each : (t : ℕ) → schedule-each-lts.Need-sub-schedule-each (Rd t) (schedule-each-at t) schedule-each.Post
 schedule-each-sub-schedule-each t c = omega arith
@@ -67,22 +78,48 @@ schedule-each-part-schedule-each-end : (t : ℕ) → schedule-each-lts.Need-part
 schedule-each-part-schedule-each-end t c = omega arith
 
 schedule-each-schedule-each-requires : (t : ℕ) → schedule-each-lts.Need-schedule-each-requires (Rd t) (schedule-each-at t) schedule-each.Post
-schedule-each-schedule-each-requires t c κs = let b = c .before .before .before .before .before .before .before .before .before .before .before .before .before .before .before .before .before .before .before .before .before .before .before .before .before .before .before in let a = b .args in (omega (arith, tail-less (a .list .now) (c .before .before .before .before .before .before .before .before .before .before .before .before .before .before .before .before .before .before .before .before .if1 .left), b .pre .0), (after (c .before .before .before .before .before .before .before .before .before .before .before .before .before .before .schedule-events .ensures) (b .pre .1 .0), b .pre .1 .1, b .pre .1 .2, all-tail (λ n. n < a .z .cells) (a .list .now) (b .pre .1 .3) (c .before .before .before .before .before .before .before .before .before .before .before .before .before .before .before .before .before .before .before .before .if1 .left) .1))
+schedule-each-schedule-each-requires t c κs =
+    let se : schedule-each-lts.After-schedule-events (Rd t) (schedule-each-at t) schedule-each.Post = search in
+    let else1 : schedule-each-lts.Else1 (Rd t) (schedule-each-at t) schedule-each.Post = search in
+    let b : schedule-each-lts.Start (Rd t) (schedule-each-at t) schedule-each.Post = search in
+    let a = b .args in (
+      omega (arith, tail-less (a .list .now) (else1 .if1 .left), b .pre .0),
+      (after (se .schedule-events .ensures) (b .pre .1 .0), b .pre .1 .1, b .pre .1 .2, all-tail (λ n. n < a .z .cells) (a .list .now) (b .pre .1 .3) (else1 .if1 .left) .1),
+    )
 
 schedule-each-same-length-5 : (t : ℕ) → schedule-each-lts.Need-same-length-5 (Rd t) (schedule-each-at t) schedule-each.Post
-schedule-each-same-length-5 t c = c .before .before .before .before .before .before .before .before .schedule-each .kept .1 .1 .0 ∙ c .before .before .before .before .before .before .before .before .before .before .before .before .before .before .before .before .before .before .before .before .before .before .before .schedule-events .kept .1 .0
+schedule-each-same-length-5 t c =
+    let se : schedule-each-lts.After-schedule-each (Rd t) (schedule-each-at t) schedule-each.Post = search in
+    let sc : schedule-each-lts.After-schedule-events (Rd t) (schedule-each-at t) schedule-each.Post = search in
+    se .schedule-each .kept .1 .1 .0 ∙ sc .schedule-events .kept .1 .0
 
 schedule-each-same-length-6 : (t : ℕ) → schedule-each-lts.Need-same-length-6 (Rd t) (schedule-each-at t) schedule-each.Post
-schedule-each-same-length-6 t c = c .before .before .before .before .before .before .before .before .schedule-each .kept .1 .1 .1 .0 ∙ c .before .before .before .before .before .before .before .before .before .before .before .before .before .before .before .before .before .before .before .before .before .before .before .schedule-events .kept .1 .1 .0
+schedule-each-same-length-6 t c =
+    let se : schedule-each-lts.After-schedule-each (Rd t) (schedule-each-at t) schedule-each.Post = search in
+    let sc : schedule-each-lts.After-schedule-events (Rd t) (schedule-each-at t) schedule-each.Post = search in
+    se .schedule-each .kept .1 .1 .1 .0 ∙ sc .schedule-events .kept .1 .1 .0
 
 schedule-each-same-length-7 : (t : ℕ) → schedule-each-lts.Need-same-length-7 (Rd t) (schedule-each-at t) schedule-each.Post
-schedule-each-same-length-7 t c = c .before .before .before .before .before .before .before .before .schedule-each .kept .1 .1 .1 .1 .0 ∙ c .before .before .before .before .before .before .before .before .before .before .before .before .before .before .before .before .before .before .before .before .before .before .before .schedule-events .kept .1 .1 .1 .0
+schedule-each-same-length-7 t c =
+    let se : schedule-each-lts.After-schedule-each (Rd t) (schedule-each-at t) schedule-each.Post = search in
+    let sc : schedule-each-lts.After-schedule-events (Rd t) (schedule-each-at t) schedule-each.Post = search in
+    se .schedule-each .kept .1 .1 .1 .1 .0 ∙ sc .schedule-events .kept .1 .1 .1 .0
 
 schedule-each-same-length-8 : (t : ℕ) → schedule-each-lts.Need-same-length-8 (Rd t) (schedule-each-at t) schedule-each.Post
-schedule-each-same-length-8 t c = c .before .before .before .before .before .before .before .before .schedule-each .kept .1 .1 .1 .1 .1 .0 ∙ c .before .before .before .before .before .before .before .before .before .before .before .before .before .before .before .before .before .before .before .before .before .before .before .schedule-events .kept .1 .1 .1 .1 .0
+schedule-each-same-length-8 t c =
+    let se : schedule-each-lts.After-schedule-each (Rd t) (schedule-each-at t) schedule-each.Post = search in
+    let sc : schedule-each-lts.After-schedule-events (Rd t) (schedule-each-at t) schedule-each.Post = search in
+    se .schedule-each .kept .1 .1 .1 .1 .1 .0 ∙ sc .schedule-events .kept .1 .1 .1 .1 .0
 
 schedule-each-returns-3 : (t : ℕ) → schedule-each-lts.Need-returns-3 (Rd t) (schedule-each-at t) schedule-each.Post
-schedule-each-returns-3 t c = let b = c .before .before .before .before .before .before .before .before .before .before .before .before .before .before .before .before .before .before .before .before .before .before .before .before .before .before .before .before .before .before .before .before .before .before .before .before in let a = b .args in list-on (λ n. scheduleEvents (a .p) n) (a .list .now) (c .before .before .before .before .before .before .before .before .before .before .before .before .before .before .before .before .before .before .before .before .before .before .before .before .before .before .before .before .before .if1 .left) (c .before .before .before .before .before .before .before .before .before .before .before .before .before .before .if2 .left) (c .before .before .before .before .before .before .before .before .before .before .before .before .before .before .before .before .before .before .before .before .before .before .before .schedule-events .ensures) (c .before .before .before .before .before .before .before .before .schedule-each .ensures)
+schedule-each-returns-3 t c =
+    let se : schedule-each-lts.After-schedule-each (Rd t) (schedule-each-at t) schedule-each.Post = search in
+    let else2 : schedule-each-lts.Else2 (Rd t) (schedule-each-at t) schedule-each.Post = search in
+    let sc : schedule-each-lts.After-schedule-events (Rd t) (schedule-each-at t) schedule-each.Post = search in
+    let else1 : schedule-each-lts.Else1 (Rd t) (schedule-each-at t) schedule-each.Post = search in
+    let b : schedule-each-lts.Start (Rd t) (schedule-each-at t) schedule-each.Post = search in
+    let a = b .args in
+    list-on (λ n. scheduleEvents (a .p) n) (a .list .now) (else1 .if1 .left) (else2 .if2 .left) (sc .schedule-events .ensures) (se .schedule-each .ensures)
 
 pub +schedule-each-spec : {M : Type 1} → statement M
 +schedule-each-spec = close μ-schedule-each λ t. schedule-each-lts.spec (

@@ -24,13 +24,25 @@ schedule-requires-3 : tie.Need-schedule-requires-3
 schedule-requires-3 c κs = search needs
 
 returns : tie.Need-returns
-returns c = let b = c .before .before .before in let a = b .args in c .schedule .ensures ∙ ap (λ k. planTold (finder k (a .dim) (a .w .domain) (a .w .clock) (a .cell .index) (a .i) (a .p))) (sym (c .before .enum-told .given .1))
+returns c =
+    let et : tie.After-enum-told = search in
+    let b : tie.Start = search in
+    let a = b .args in
+    c .schedule .ensures ∙ ap (λ k. planTold (finder k (a .dim) (a .w .domain) (a .w .clock) (a .cell .index) (a .i) (a .p))) (sym (et .enum-told .given .1))
 
 returns-2 : tie.Need-returns-2
-returns-2 c = let b = c .before .before .before in let a = b .args in c .schedule2 .ensures ∙ ap (λ k. planTold (finder k (a .dim) (a .w .domain) (a .w .clock) (a .cell .index) (a .i) (a .p))) (sym (c .before .enum-told2 .given .1))
+returns-2 c =
+    let et2 : tie.After-enum-told2 = search in
+    let b : tie.Start = search in
+    let a = b .args in
+    c .schedule2 .ensures ∙ ap (λ k. planTold (finder k (a .dim) (a .w .domain) (a .w .clock) (a .cell .index) (a .i) (a .p))) (sym (et2 .enum-told2 .given .1))
 
 returns-3 : tie.Need-returns-3
-returns-3 c = let b = c .before .before .before in let a = b .args in c .schedule3 .ensures ∙ ap (λ k. planTold (finder k (a .dim) (a .w .domain) (a .w .clock) (a .cell .index) (a .i) (a .p))) (sym (c .before .enum-told3 .given .1))
+returns-3 c =
+    let et3 : tie.After-enum-told3 = search in
+    let b : tie.Start = search in
+    let a = b .args in
+    c .schedule3 .ensures ∙ ap (λ k. planTold (finder k (a .dim) (a .w .domain) (a .w .clock) (a .cell .index) (a .i) (a .p))) (sym (et3 .enum-told3 .given .1))
 
 pub plan-bound-spec : {M : Type 1} → statement M
 plan-bound-spec =

@@ -5,10 +5,12 @@ use lib.ListN.{length}
 use lib.Ieee.{Float}
 use Rattle.halting.specs.Out.{eachOf}
 use Rattle.halting.specs.Every.{All}
-use Rattle.model.specs.Doing.{others, scheduleCollision}
+use Rattle.model.specs.Doing.{scheduleCollision}
+use Rattle.model.specs.Rows.{others}
 use Rattle.step.specs.World.{Seen, Some, Does}
 use Rattle.acts.proofs.InTurn.{all-tail, tail-less}
 use Rattle.step.proofs.Does.{but-none, but-stop, but-on, after}
+use native.Mathlib.Nat.{ne-of-gt}
 use native.Mathlib.Omega.{arith}
 use borrow.Author.Needs.{needs}
 use Rattle.step.proofs.schedule.schedule_collisions.Statement.{statement}
@@ -24,25 +26,56 @@ abbrev μ-loop : tie.MeasureT-loop
 μ-loop list grains queue₀ events₀ order₀ z w cell p but rest₀ queue events order rest = length rest
 
 loop-holds : tie.Need-loop-holds Inv-loop μ-loop
-loop-holds c = let p = c .before .before .before .before .before .pre in (p .0, p .3, refl, refl, refl, λ q e o r d. d)
+loop-holds c =
+    let b : tie.Start Inv-loop μ-loop = search in
+    let p = b .pre in
+    (p .0, p .3, refl, refl, refl, λ q e o r d. d)
 
 shared-slice-read-q : tie.Need-shared-slice-read-q Inv-loop μ-loop
 shared-slice-read-q c = search needs
 
 schedule-collision-requires : tie.Need-schedule-collision-requires Inv-loop μ-loop
-schedule-collision-requires c κs = let l = c .before .before .before .before .before .loop in let a = c .before .before .before .before .before .before .before .before .before .before .before in (l .inv .0, a .pre .1, a .pre .2, all-tail (λ n. n < a .args .z .grains) (l .rest .now) (l .inv .1) (let h = c .before .before .before .before .loop-test .taken in λ (e : length (c .before .before .before .before .before .loop .rest .now) ≡ 0). absurd (omega (arith, e, h))) .0)
+schedule-collision-requires c κs =
+    let in-loop : tie.In-loop Inv-loop μ-loop = search in
+    let at-loop : tie.At-loop Inv-loop μ-loop = search in
+    let b : tie.Start Inv-loop μ-loop = search in
+    let l = at-loop .loop in
+    let u = ne-of-gt (in-loop .loop-test .taken) in (
+      l .inv .0,
+      b .pre .1,
+      b .pre .2,
+      all-tail (λ n. n < b .args .z .grains) (l .rest .now) (l .inv .1) u .0,
+    )
 
 same-length : tie.Need-same-length Inv-loop μ-loop
-same-length c = c .before .before .before .before .before .before .before .schedule-collision .kept .1 .0 ∙ c .before .before .before .before .before .before .before .before .before .before .before .before .before .loop .inv .2
+same-length c =
+    let sc : tie.After-schedule-collision Inv-loop μ-loop = search in
+    let at-loop : tie.At-loop Inv-loop μ-loop = search in
+    sc .schedule-collision .kept .1 .0 ∙ at-loop .loop .inv .2
 
 same-length-2 : tie.Need-same-length-2 Inv-loop μ-loop
-same-length-2 c = c .before .before .before .before .before .before .before .schedule-collision .kept .1 .1 .0 ∙ c .before .before .before .before .before .before .before .before .before .before .before .before .before .loop .inv .3
+same-length-2 c =
+    let sc : tie.After-schedule-collision Inv-loop μ-loop = search in
+    let at-loop : tie.At-loop Inv-loop μ-loop = search in
+    sc .schedule-collision .kept .1 .1 .0 ∙ at-loop .loop .inv .3
 
 same-length-3 : tie.Need-same-length-3 Inv-loop μ-loop
-same-length-3 c = c .before .before .before .before .before .before .before .schedule-collision .kept .1 .1 .1 .0 ∙ c .before .before .before .before .before .before .before .before .before .before .before .before .before .loop .inv .4
+same-length-3 c =
+    let sc : tie.After-schedule-collision Inv-loop μ-loop = search in
+    let at-loop : tie.At-loop Inv-loop μ-loop = search in
+    sc .schedule-collision .kept .1 .1 .1 .0 ∙ at-loop .loop .inv .4
 
 returns : tie.Need-returns Inv-loop μ-loop
-returns c = let l = c .before .before .before .before .before .before .before .before .before .before .before .before .before .loop in let a = c .before .before .before .before .before .before .before .before .before .before .before .before .before .before .before .before .before .before .before .args in l .inv .5 _ _ _ _ (but-stop (a .but) (scheduleCollision (a .cell .index) (a .p)) (l .rest .now) (let h = c .before .before .before .before .before .before .before .before .before .before .before .before .loop-test .taken in λ (e : length (c .before .before .before .before .before .before .before .before .before .before .before .before .before .loop .rest .now) ≡ 0). absurd (omega (arith, e, h))) (c .if1 .taken) (c .before .before .before .before .before .before .before .schedule-collision .ensures))
+returns c =
+    let sc : tie.After-schedule-collision Inv-loop μ-loop = search in
+    let in-loop : tie.In-loop Inv-loop μ-loop = search in
+    let at-loop : tie.At-loop Inv-loop μ-loop = search in
+    let b : tie.Start Inv-loop μ-loop = search in
+    let l = at-loop .loop in
+    let u = ne-of-gt (in-loop .loop-test .taken) in
+    let a = b .args in
+    l .inv .5 _ _ _ _
+    (but-stop (a .but) (scheduleCollision (a .cell .index) (a .p)) (l .rest .now) u (c .if1 .taken) (sc .schedule-collision .ensures))
 
 sub-rest : tie.Need-sub-rest Inv-loop μ-loop
 sub-rest c = search needs
@@ -54,33 +87,46 @@ part-rest-end : tie.Need-part-rest-end Inv-loop μ-loop
 part-rest-end c = search needs
 
 loop-less : tie.Need-loop-less Inv-loop μ-loop
-loop-less c = omega (arith, tail-less (c .before .before .before .before .before .before .before .before .before .before .before .before .before .before .loop .rest .now) (let h = c .before .before .before .before .before .before .before .before .before .before .before .before .before .loop-test .taken in λ (e : length (c .before .before .before .before .before .before .before .before .before .before .before .before .before .before .loop .rest .now) ≡ 0). absurd (omega (arith, e, h))))
+loop-less c =
+    let in-loop : tie.In-loop Inv-loop μ-loop = search in
+    let at-loop : tie.At-loop Inv-loop μ-loop = search in
+    omega (arith, tail-less (at-loop .loop .rest .now) (ne-of-gt (in-loop .loop-test .taken)))
 
 loop-again : tie.Need-loop-again Inv-loop μ-loop
 loop-again c =
-    let l = c .before .before .before .before .before .before .before .before .before .before .before .before .before .before .loop in
-    let a = c .before .before .before .before .before .before .before .before .before .before .before .before .before .before .before .before .before .before .before .before .args in
-    let z : length (l .rest .now) ≡ 0 → ⊥ = (let h = c .before .before .before .before .before .before .before .before .before .before .before .before .before .loop-test .taken in λ (e : length (c .before .before .before .before .before .before .before .before .before .before .before .before .before .before .loop .rest .now) ≡ 0). absurd (omega (arith, e, h))) in
-    let d = c .before .before .before .before .before .before .before .before .schedule-collision in (
+    let else1 : tie.Else1 Inv-loop μ-loop = search in
+    let sc : tie.After-schedule-collision Inv-loop μ-loop = search in
+    let in-loop : tie.In-loop Inv-loop μ-loop = search in
+    let at-loop : tie.At-loop Inv-loop μ-loop = search in
+    let b : tie.Start Inv-loop μ-loop = search in
+    let l = at-loop .loop in
+    let a = b .args in
+    let u = ne-of-gt (in-loop .loop-test .taken) in
+    let d = sc .schedule-collision in (
       after (d .ensures) (l .inv .0),
-      all-tail (λ n. n < a .z .grains) (l .rest .now) (l .inv .1) z .1,
+      all-tail (λ n. n < a .z .grains) (l .rest .now) (l .inv .1) u .1,
       d .kept .1 .0 ∙ l .inv .2,
       d .kept .1 .1 .0 ∙ l .inv .3,
       d .kept .1 .1 .1 .0 ∙ l .inv .4,
-      λ q e o r n. l .inv .5 q e o r (but-on (a .but) (scheduleCollision (a .cell .index) (a .p)) (l .rest .now) z (c .before .if1 .left) (d .ensures) n),
+      λ q e o r n. l .inv .5 q e o r (but-on (a .but) (scheduleCollision (a .cell .index) (a .p)) (l .rest .now) u (else1 .if1 .left) (d .ensures) n),
     )
 
 same-length-4 : tie.Need-same-length-4 Inv-loop μ-loop
-same-length-4 c = c .before .loop .inv .2
+same-length-4 c = search
 
 same-length-5 : tie.Need-same-length-5 Inv-loop μ-loop
-same-length-5 c = c .before .loop .inv .3
+same-length-5 c = search
 
 same-length-6 : tie.Need-same-length-6 Inv-loop μ-loop
-same-length-6 c = c .before .loop .inv .4
+same-length-6 c = search
 
 returns-2 : tie.Need-returns-2 Inv-loop μ-loop
-returns-2 c = let l = c .before .loop in let a = c .before .before .before .before .before .before .before .args in l .inv .5 _ _ _ _ (but-none (a .but) (scheduleCollision (a .cell .index) (a .p)) (l .rest .now) (omega arith))
+returns-2 c =
+    let at-loop : tie.At-loop Inv-loop μ-loop = search in
+    let b : tie.Start Inv-loop μ-loop = search in
+    let l = at-loop .loop in
+    let a = b .args in
+    l .inv .5 _ _ _ _ (but-none (a .but) (scheduleCollision (a .cell .index) (a .p)) (l .rest .now) (omega arith))
 
 pub schedule-collisions-spec : {M : Type 1} → statement M
 schedule-collisions-spec =

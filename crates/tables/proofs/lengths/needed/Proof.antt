@@ -1,5 +1,4 @@
 -- `needed` meets its contract: no length overflows. Assumes nothing.
-use native.Mathlib.Omega.{arith}
 use borrow.Author.Needs.{needs}
 use Rattle.tables.proofs.lengths.needed.Statement.{statement}
 use Rattle.tables.proofs.lengths.needed.Tie as tie

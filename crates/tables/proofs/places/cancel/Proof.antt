@@ -16,7 +16,10 @@ same-length-2 : tie.Need-same-length-2
 same-length-2 c = search needs
 
 returns : tie.Need-returns
-returns c = (search needs, λ live rest e h. cancel-ends (c .before .before .before .before .before .before .before .before .before .before .before .keep .ensures .1 live rest e h) e (c .before .before .before .before .clear .ensures))
+returns c =
+    let cl : tie.After-clear = search in
+    let k : tie.After-keep = search in
+    (search needs, λ live rest e h. cancel-ends (k .keep .ensures .1 live rest e h) e (cl .clear .ensures))
 
 pub cancel-spec : {M : Type 1} → statement M
 cancel-spec = tie.close (tie.spec keep-requires clear-requires same-length same-length-2 returns)

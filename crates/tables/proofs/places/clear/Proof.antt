@@ -34,12 +34,16 @@ loop-less c = search needs
 
 loop-again : tie.Need-loop-again Inv-loop μ-loop
 loop-again c =
-    let l = c .before .before .before .before .before .before .before .before .before .loop in (
+    let pp : tie.After-put-place Inv-loop μ-loop = search in
+    let zp : tie.After-zero-place Inv-loop μ-loop = search in
+    let in-loop : tie.In-loop Inv-loop μ-loop = search in
+    let at-loop : tie.At-loop Inv-loop μ-loop = search in
+    let l = at-loop .loop in (
       omega arith,
       omega arith,
       search needs,
       search needs,
-      λ kept given rest e d h. clearing-more (l .inv .4 kept given rest e d h) e d (l .inv .0) (c .before .before .before .before .before .before .before .before .loop-test .taken) (c .before .before .before .before .before .zero-place .ensures) (c .before .before .before .before .put-place .ensures),
+      λ kept given rest e d h. clearing-more (l .inv .4 kept given rest e d h) e d (l .inv .0) (in-loop .loop-test .taken) (zp .zero-place .ensures) (pp .put-place .ensures),
     )
 
 same-length : tie.Need-same-length Inv-loop μ-loop

@@ -24,22 +24,72 @@ is-finite-requires-2 : tie.Need-is-finite-requires-2
 is-finite-requires-2 c κs = search needs
 
 returns : tie.Need-returns
-returns c = both _ _ _ _ (c .before .before .before .before .before .before .before .before .before .before .before .is-finite .ensures) (c .before .before .before .before .before .before .before .before .before .before .if1 .taken) (both _ _ _ _ refl (c .before .before .before .before .before .before .before .before .before .if2 .taken) (both _ _ _ _ (c .before .before .before .before .before .before .before .before .fine-vec .ensures) (c .before .before .before .before .before .before .before .if3 .taken) (both _ _ _ _ (c .before .before .before .before .before .before .fine-vec2 .ensures) (c .before .before .before .before .before .if4 .taken) (both _ _ _ _ (c .before .before .before .before .fine-vec3 .ensures) (c .before .before .before .if5 .taken) (both _ _ _ _ (c .before .before .fine-vec4 .ensures) (c .before .if6 .taken) (c .is-finite2 .ensures)))))) ∙ sym (fine-is (c .before .before .before .before .before .before .before .before .before .before .before .before .args .s))
+returns c =
+    let then5 : tie.Then5 = search in
+    let fv3 : tie.After-fine-vec3 = search in
+    let then4 : tie.Then4 = search in
+    let fv2 : tie.After-fine-vec2 = search in
+    let then3 : tie.Then3 = search in
+    let fv : tie.After-fine-vec = search in
+    let then2 : tie.Then2 = search in
+    let then1 : tie.Then1 = search in
+    let is : tie.After-is-finite = search in
+    let b : tie.Start = search in
+    both _ _ _ _ (is .is-finite .ensures) (then1 .if1 .taken) (both _ _ _ _ refl (then2 .if2 .taken)
+    (both _ _ _ _ (fv .fine-vec .ensures) (then3 .if3 .taken)
+    (both _ _ _ _ (fv2 .fine-vec2 .ensures) (then4 .if4 .taken)
+    (both _ _ _ _ (fv3 .fine-vec3 .ensures) (then5 .if5 .taken) (both _ _ _ _ (c .before .before .fine-vec4 .ensures) (c .before .if6 .taken) (c .is-finite2 .ensures)))))) ∙ sym (fine-is (b .args .s))
 
 returns-2 : tie.Need-returns-2
-returns-2 c = both _ _ _ _ (c .before .before .before .before .before .before .before .before .before .before .is-finite .ensures) (c .before .before .before .before .before .before .before .before .before .if1 .taken) (both _ _ _ _ refl (c .before .before .before .before .before .before .before .before .if2 .taken) (both _ _ _ _ (c .before .before .before .before .before .before .before .fine-vec .ensures) (c .before .before .before .before .before .before .if3 .taken) (both _ _ _ _ (c .before .before .before .before .before .fine-vec2 .ensures) (c .before .before .before .before .if4 .taken) (both _ _ _ _ (c .before .before .before .fine-vec3 .ensures) (c .before .before .if5 .taken) (neither _ _ _ (c .before .fine-vec4 .ensures) (c .if6 .left)))))) ∙ sym (fine-is (c .before .before .before .before .before .before .before .before .before .before .before .args .s))
+returns-2 c =
+    let fv3 : tie.After-fine-vec3 = search in
+    let then4 : tie.Then4 = search in
+    let fv2 : tie.After-fine-vec2 = search in
+    let then3 : tie.Then3 = search in
+    let fv : tie.After-fine-vec = search in
+    let then2 : tie.Then2 = search in
+    let then1 : tie.Then1 = search in
+    let is : tie.After-is-finite = search in
+    let b : tie.Start = search in
+    both _ _ _ _ (is .is-finite .ensures) (then1 .if1 .taken) (both _ _ _ _ refl (then2 .if2 .taken)
+    (both _ _ _ _ (fv .fine-vec .ensures) (then3 .if3 .taken)
+    (both _ _ _ _ (fv2 .fine-vec2 .ensures) (then4 .if4 .taken)
+    (both _ _ _ _ (fv3 .fine-vec3 .ensures) (c .before .before .if5 .taken) (neither _ _ _ (c .before .fine-vec4 .ensures) (c .if6 .left)))))) ∙ sym (fine-is (b .args .s))
 
 returns-3 : tie.Need-returns-3
-returns-3 c = both _ _ _ _ (c .before .before .before .before .before .before .before .before .is-finite .ensures) (c .before .before .before .before .before .before .before .if1 .taken) (both _ _ _ _ refl (c .before .before .before .before .before .before .if2 .taken) (both _ _ _ _ (c .before .before .before .before .before .fine-vec .ensures) (c .before .before .before .before .if3 .taken) (both _ _ _ _ (c .before .before .before .fine-vec2 .ensures) (c .before .before .if4 .taken) (neither _ _ _ (c .before .fine-vec3 .ensures) (c .if5 .left))))) ∙ sym (fine-is (c .before .before .before .before .before .before .before .before .before .args .s))
+returns-3 c =
+    let fv2 : tie.After-fine-vec2 = search in
+    let then3 : tie.Then3 = search in
+    let fv : tie.After-fine-vec = search in
+    let then2 : tie.Then2 = search in
+    let then1 : tie.Then1 = search in
+    let is : tie.After-is-finite = search in
+    let b : tie.Start = search in
+    both _ _ _ _ (is .is-finite .ensures) (then1 .if1 .taken) (both _ _ _ _ refl (then2 .if2 .taken)
+    (both _ _ _ _ (fv .fine-vec .ensures) (then3 .if3 .taken)
+    (both _ _ _ _ (fv2 .fine-vec2 .ensures) (c .before .before .if4 .taken) (neither _ _ _ (c .before .fine-vec3 .ensures) (c .if5 .left))))) ∙ sym (fine-is (b .args .s))
 
 returns-4 : tie.Need-returns-4
-returns-4 c = both _ _ _ _ (c .before .before .before .before .before .before .is-finite .ensures) (c .before .before .before .before .before .if1 .taken) (both _ _ _ _ refl (c .before .before .before .before .if2 .taken) (both _ _ _ _ (c .before .before .before .fine-vec .ensures) (c .before .before .if3 .taken) (neither _ _ _ (c .before .fine-vec2 .ensures) (c .if4 .left)))) ∙ sym (fine-is (c .before .before .before .before .before .before .before .args .s))
+returns-4 c =
+    let fv : tie.After-fine-vec = search in
+    let then2 : tie.Then2 = search in
+    let then1 : tie.Then1 = search in
+    let is : tie.After-is-finite = search in
+    let b : tie.Start = search in
+    both _ _ _ _ (is .is-finite .ensures) (then1 .if1 .taken) (both _ _ _ _ refl (then2 .if2 .taken)
+    (both _ _ _ _ (fv .fine-vec .ensures) (c .before .before .if3 .taken) (neither _ _ _ (c .before .fine-vec2 .ensures) (c .if4 .left)))) ∙ sym (fine-is (b .args .s))
 
 returns-5 : tie.Need-returns-5
-returns-5 c = both _ _ _ _ (c .before .before .before .before .is-finite .ensures) (c .before .before .before .if1 .taken) (both _ _ _ _ refl (c .before .before .if2 .taken) (neither _ _ _ (c .before .fine-vec .ensures) (c .if3 .left))) ∙ sym (fine-is (c .before .before .before .before .before .args .s))
+returns-5 c =
+    let then1 : tie.Then1 = search in
+    let is : tie.After-is-finite = search in
+    let b : tie.Start = search in
+    both _ _ _ _ (is .is-finite .ensures) (then1 .if1 .taken) (both _ _ _ _ refl (c .before .before .if2 .taken) (neither _ _ _ (c .before .fine-vec .ensures) (c .if3 .left))) ∙ sym (fine-is (b .args .s))
 
 returns-6 : tie.Need-returns-6
-returns-6 c = both _ _ _ _ (c .before .before .is-finite .ensures) (c .before .if1 .taken) (neither _ _ _ refl (c .if2 .left)) ∙ sym (fine-is (c .before .before .before .args .s))
+returns-6 c =
+    let b : tie.Start = search in
+    both _ _ _ _ (c .before .before .is-finite .ensures) (c .before .if1 .taken) (neither _ _ _ refl (c .if2 .left)) ∙ sym (fine-is (b .args .s))
 
 returns-7 : tie.Need-returns-7
 returns-7 c = neither _ _ _ (c .before .is-finite .ensures) (c .if1 .left) ∙ sym (fine-is (c .before .before .args .s))

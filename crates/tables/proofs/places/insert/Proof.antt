@@ -50,7 +50,10 @@ same-length-2 : tie.Need-same-length-2
 same-length-2 c = search needs
 
 returns : tie.Need-returns
-returns c = λ live rest x e h. insert-ends rest x (c .before .before .before .before .before .before .before .passed .ensures .1 live (x ∷ rest) e h) e (c .before .before .before .before .push .ensures) h
+returns c =
+    let p : tie.After-push = search in
+    let pa : tie.After-passed = search in
+    λ live rest x e h. insert-ends rest x (pa .passed .ensures .1 live (x ∷ rest) e h) e (p .push .ensures) h
 
 pub insert-spec : {M : Type 1} → statement M
 insert-spec =

@@ -32,13 +32,16 @@ loop-less c = search needs
 
 loop-again : tie.Need-loop-again Inv-loop μ-loop
 loop-again c =
-    let l = c .before .before .before .before .before .before .before .before .loop in
-    let k = c .before .before .before .before .keep-one .ensures .0 in (
+    let ko : tie.After-keep-one Inv-loop μ-loop = search in
+    let in-loop : tie.In-loop Inv-loop μ-loop = search in
+    let at-loop : tie.At-loop Inv-loop μ-loop = search in
+    let l = at-loop .loop in
+    let k = ko .keep-one .ensures .0 in (
       omega arith,
       omega arith,
       search needs,
       search needs,
-      λ live rest e h. c .before .before .before .before .keep-one .ensures .1 live rest (let t = c .before .before .before .before .before .before .before .loop-test .taken in omega arith) (l .inv .4 live rest e h),
+      λ live rest e h. ko .keep-one .ensures .1 live rest (let t = in-loop .loop-test .taken in omega arith) (l .inv .4 live rest e h),
     )
 
 same-length : tie.Need-same-length Inv-loop μ-loop
@@ -49,9 +52,10 @@ same-length-2 c = search needs
 
 returns : tie.Need-returns Inv-loop μ-loop
 returns c =
+    let b : tie.Start Inv-loop μ-loop = search in
     let l = c .before .loop in
-    let p : l .i ≡ c .before .before .before .before .args .n = omega arith in
-    (omega arith, λ live rest e h. subst (λ (k : ℕ). Keeping (c .before .before .before .before .args .g) live rest k (l .kept) (l .nums) (l .reals)) p (l .inv .4 live rest e h))
+    let p : l .i ≡ b .args .n = omega arith in
+    (omega arith, λ live rest e h. subst (λ (k : ℕ). Keeping (b .args .g) live rest k (l .kept) (l .nums) (l .reals)) p (l .inv .4 live rest e h))
 
 pub keep-spec : {M : Type 1} → statement M
 keep-spec =

@@ -34,7 +34,11 @@ same-length-4 c = search needs
 
 returns-2 : tie.Need-returns-2
 returns-2 c =
-    (omega arith, λ live rest p m. keeping-kept m p (c .before .before .before .before .before .before .before .before .before .get-place .ensures) (c .before .before .before .before .before .before .before .before .names-grain .ensures) (c .before .before .before .before .before .before .before .if1 .left) (c .before .before .before .before .put-place .ensures))
+    let pp : tie.After-put-place = search in
+    let else1 : tie.Else1 = search in
+    let ng : tie.After-names-grain = search in
+    let gp : tie.After-get-place = search in
+    (omega arith, λ live rest p m. keeping-kept m p (gp .get-place .ensures) (ng .names-grain .ensures) (else1 .if1 .left) (pp .put-place .ensures))
 
 pub keep-one-spec : {M : Type 1} → statement M
 keep-one-spec =

@@ -30,13 +30,19 @@ loop-less c = search needs
 
 loop-again : tie.Need-loop-again Inv-loop μ-loop
 loop-again c =
-    let l = c .before .before .before .before .before .loop in
-    (omega arith, λ live rest e h. passing-more rest (l .inv .1 live rest e h) e (c .before .before .before .before .loop-test .taken) h (c .before .before .before .get-place .ensures) (c .if1 .taken))
+    let gp : tie.After-get-place Inv-loop μ-loop = search in
+    let in-loop : tie.In-loop Inv-loop μ-loop = search in
+    let at-loop : tie.At-loop Inv-loop μ-loop = search in
+    let l = at-loop .loop in
+    (omega arith, λ live rest e h. passing-more rest (l .inv .1 live rest e h) e (in-loop .loop-test .taken) h (gp .get-place .ensures) (c .if1 .taken))
 
 returns : tie.Need-returns Inv-loop μ-loop
 returns c =
-    let l = c .before .before .before .before .before .loop in
-    (l .inv .0, λ live rest e h. passed-here rest (l .inv .1 live rest e h) e (c .before .before .before .before .loop-test .taken) h (c .before .before .before .get-place .ensures) (c .if1 .left))
+    let gp : tie.After-get-place Inv-loop μ-loop = search in
+    let in-loop : tie.In-loop Inv-loop μ-loop = search in
+    let at-loop : tie.At-loop Inv-loop μ-loop = search in
+    let l = at-loop .loop in
+    (l .inv .0, λ live rest e h. passed-here rest (l .inv .1 live rest e h) e (in-loop .loop-test .taken) h (gp .get-place .ensures) (c .if1 .left))
 
 returns-2 : tie.Need-returns-2 Inv-loop μ-loop
 returns-2 c =

@@ -37,11 +37,15 @@ loop-less c = search needs
 
 loop-again : tie.Need-loop-again Inv-loop μ-loop
 loop-again c =
-    let l = c .before .before .before .before .before .before .before .before .before .before .before .loop in (
+    let pp : tie.After-put-place Inv-loop μ-loop = search in
+    let gp : tie.After-get-place Inv-loop μ-loop = search in
+    let in-loop : tie.In-loop Inv-loop μ-loop = search in
+    let at-loop : tie.At-loop Inv-loop μ-loop = search in
+    let l = at-loop .loop in (
       omega arith,
       search needs,
       search needs,
-      λ live rest x e h. moved-down (l .inv .3 live rest x e h) (let t = c .before .before .before .before .before .before .before .before .before .before .loop-test .taken in omega arith) (c .before .before .before .before .before .before .before .get-place .ensures) (c .before .before .before .before .put-place .ensures),
+      λ live rest x e h. moved-down (l .inv .3 live rest x e h) (let t = in-loop .loop-test .taken in omega arith) (gp .get-place .ensures) (pp .put-place .ensures),
     )
 
 zero-place-requires : tie.Need-zero-place-requires Inv-loop μ-loop
@@ -58,9 +62,13 @@ same-length-2 c = search needs
 
 returns : tie.Need-returns Inv-loop μ-loop
 returns c =
-    let l = c .before .before .before .before .before .before .before .before .before .loop in
-    let p : l .i ≡ c .before .before .before .before .before .before .before .before .before .before .before .before .args .n = omega arith in
-    λ live rest x e h. pull-ends (subst (λ (k : ℕ). Moved live rest k (l .nums) (l .reals)) p (l .inv .3 live rest x e h)) e (c .before .before .before .before .before .zero-place .ensures) (c .before .before .before .before .put-place2 .ensures)
+    let pp2 : tie.After-put-place2 Inv-loop μ-loop = search in
+    let zp : tie.After-zero-place Inv-loop μ-loop = search in
+    let at-loop : tie.At-loop Inv-loop μ-loop = search in
+    let b : tie.Start Inv-loop μ-loop = search in
+    let l = at-loop .loop in
+    let p : l .i ≡ b .args .n = omega arith in
+    λ live rest x e h. pull-ends (subst (λ (k : ℕ). Moved live rest k (l .nums) (l .reals)) p (l .inv .3 live rest x e h)) e (zp .zero-place .ensures) (pp2 .put-place2 .ensures)
 
 pub pull-spec : {M : Type 1} → statement M
 pull-spec =

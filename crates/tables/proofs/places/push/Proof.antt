@@ -37,12 +37,16 @@ loop-less c = search needs
 
 loop-again : tie.Need-loop-again Inv-loop μ-loop
 loop-again c =
-    let l = c .before .before .before .before .before .before .before .before .before .before .before .loop in (
+    let pp : tie.After-put-place Inv-loop μ-loop = search in
+    let gp : tie.After-get-place Inv-loop μ-loop = search in
+    let in-loop : tie.In-loop Inv-loop μ-loop = search in
+    let at-loop : tie.At-loop Inv-loop μ-loop = search in
+    let l = at-loop .loop in (
       omega arith,
       search needs,
       search needs,
-      λ live rest x e h. moved-up (l .inv .3 live rest x e h) (c .before .before .before .before .before .before .before .before .before .before .loop-test .taken)
-          (c .before .before .before .before .before .before .before .get-place .ensures) (c .before .before .before .before .put-place .ensures),
+      λ live rest x e h. moved-up (l .inv .3 live rest x e h) (in-loop .loop-test .taken)
+          (gp .get-place .ensures) (pp .put-place .ensures),
     )
 
 put-head-requires : tie.Need-put-head-requires Inv-loop μ-loop
@@ -56,8 +60,10 @@ same-length-2 c = search needs
 
 returns : tie.Need-returns Inv-loop μ-loop
 returns c =
-    let l = c .before .before .before .before .before .before .before .before .loop in
-    λ live rest x e h. push-ends (l .inv .3 live rest x e h) (omega arith) (c .before .before .before .before .put-head .ensures)
+    let ph : tie.After-put-head Inv-loop μ-loop = search in
+    let at-loop : tie.At-loop Inv-loop μ-loop = search in
+    let l = at-loop .loop in
+    λ live rest x e h. push-ends (l .inv .3 live rest x e h) (omega arith) (ph .put-head .ensures)
 
 pub push-spec : {M : Type 1} → statement M
 push-spec =

@@ -52,7 +52,11 @@ same-length-2 : tie.Need-same-length-2
 same-length-2 c = search needs
 
 returns : tie.Need-returns
-returns c = let b = c .before .before .before .before .before .before .before .before .before in let i = b .args .i in λ ps h. place-written h i (b .pre .1) (b .pre .2) (c .before .before .before .before .put-head .ensures (getD ps i zeroP) [] (place-read h i (b .pre .1) (b .pre .2)))
+returns c =
+    let ph : tie.After-put-head = search in
+    let b : tie.Start = search in
+    let i = b .args .i in
+    λ ps h. place-written h i (b .pre .1) (b .pre .2) (ph .put-head .ensures (getD ps i zeroP) [] (place-read h i (b .pre .1) (b .pre .2)))
 
 pub put-place-spec : {M : Type 1} → statement M
 put-place-spec =

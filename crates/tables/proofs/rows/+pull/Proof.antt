@@ -68,10 +68,16 @@ pull-pull-requires t c κs = (omega arith, simp (length-set, length-take, length
 
 pull-same-length-2 :
     (t : ℕ) → pull-lts.Need-same-length-2 (Rd t) (pull-at t) pull.Post
-pull-same-length-2 t c = let l = c .before .before .before .before .before .before .before .args .nums .now in let s : List ℕ = set l 0 (getD l 1 0) in same-len-mid 1 (length s - 1) s (c .before .before .pull .last .0) (c .before .before .pull .kept .0) ∙ length-set l 0 (getD l 1 0)
+pull-same-length-2 t c =
+    let b : pull-lts.Start (Rd t) (pull-at t) pull.Post = search in
+    let l = b .args .nums .now in
+    let s : List ℕ = set l 0 (getD l 1 0) in
+    same-len-mid 1 (length s - 1) s (c .before .before .pull .last .0) (c .before .before .pull .kept .0) ∙ length-set l 0 (getD l 1 0)
 
 pull-returns-2 : (t : ℕ) → pull-lts.Need-returns-2 (Rd t) (pull-at t) pull.Post
-pull-returns-2 t c = pull-more (c .before .before .before .before .before .if1 .left) (c .before .before .pull .ensures)
+pull-returns-2 t c =
+    let else1 : pull-lts.Else1 (Rd t) (pull-at t) pull.Post = search in
+    pull-more (else1 .if1 .left) (c .before .before .pull .ensures)
 
 pub +pull-spec : {M : Type 1} → statement M
 +pull-spec =

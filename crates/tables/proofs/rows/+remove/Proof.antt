@@ -28,37 +28,61 @@ remove-slice-read-if1 : (t : ℕ) → remove-lts.Need-slice-read-if1 (Rd t) (rem
 remove-slice-read-if1 t c = let b = c .before .before in let q = has-some (b .args .x) (b .args .n) (b .args .nums .now) (b .pre .1 .1) in omega (arith, q .0, q .1, b .pre .1 .0)
 
 remove-sub-pull : (t : ℕ) → remove-lts.Need-sub-pull (Rd t) (remove-at t) remove.Post
-remove-sub-pull t c = let b = c .before .before .before .before in let q = has-some (b .args .x) (b .args .n) (b .args .nums .now) (b .pre .1 .1) in omega (arith, q .0, q .1, b .pre .1 .0)
+remove-sub-pull t c =
+    let b : remove-lts.Start (Rd t) (remove-at t) remove.Post = search in
+    let q = has-some (b .args .x) (b .args .n) (b .args .nums .now) (b .pre .1 .1) in
+    omega (arith, q .0, q .1, b .pre .1 .0)
 
 remove-pull-requires : (t : ℕ) → remove-lts.Need-pull-requires (Rd t) (remove-at t) remove.Post
-remove-pull-requires t c κs = let b = c .before .before .before .before in let q = has-some (b .args .x) (b .args .n) (b .args .nums .now) (b .pre .1 .1) in omega (arith, q .0, q .1, b .pre .1 .0)
+remove-pull-requires t c κs =
+    let b : remove-lts.Start (Rd t) (remove-at t) remove.Post = search in
+    let q = has-some (b .args .x) (b .args .n) (b .args .nums .now) (b .pre .1 .1) in
+    omega (arith, q .0, q .1, b .pre .1 .0)
 
 remove-same-length : (t : ℕ) → remove-lts.Need-same-length (Rd t) (remove-at t) remove.Post
 remove-same-length t c = search needs
 
 remove-returns : (t : ℕ) → remove-lts.Need-returns (Rd t) (remove-at t) remove.Post
-remove-returns t c = let b = c .before .before .before .before .before .before .before in remove-here (b .args .x) (b .pre .1 .1) (c .before .before .before .before .if1 .taken) (c .before .before .pull .ensures)
+remove-returns t c =
+    let then1 : remove-lts.Then1 (Rd t) (remove-at t) remove.Post = search in
+    let b : remove-lts.Start (Rd t) (remove-at t) remove.Post = search in
+    remove-here (b .args .x) (b .pre .1 .1) (then1 .if1 .taken) (c .before .before .pull .ensures)
 
 remove-sub-remove : (t : ℕ) → remove-lts.Need-sub-remove (Rd t) (remove-at t) remove.Post
-remove-sub-remove t c = let b = c .before .before .before in let q = has-some (b .args .x) (b .args .n) (b .args .nums .now) (b .pre .1 .1) in omega (arith, q .0, q .1, b .pre .1 .0)
+remove-sub-remove t c =
+    let b : remove-lts.Start (Rd t) (remove-at t) remove.Post = search in
+    let q = has-some (b .args .x) (b .args .n) (b .args .nums .now) (b .pre .1 .1) in
+    omega (arith, q .0, q .1, b .pre .1 .0)
 
 remove-part-remove-start : (t : ℕ) → remove-lts.Need-part-remove-start (Rd t) (remove-at t) remove.Post
-remove-part-remove-start t c = let b = c .before .before .before in let q = has-some (b .args .x) (b .args .n) (b .args .nums .now) (b .pre .1 .1) in omega (arith, q .0, q .1, b .pre .1 .0)
+remove-part-remove-start t c =
+    let b : remove-lts.Start (Rd t) (remove-at t) remove.Post = search in
+    let q = has-some (b .args .x) (b .args .n) (b .args .nums .now) (b .pre .1 .1) in
+    omega (arith, q .0, q .1, b .pre .1 .0)
 
 remove-part-remove-end : (t : ℕ) → remove-lts.Need-part-remove-end (Rd t) (remove-at t) remove.Post
 remove-part-remove-end t c = search needs
 
 remove-sub-remove-2 : (t : ℕ) → remove-lts.Need-sub-remove-2 (Rd t) (remove-at t) remove.Post
-remove-sub-remove-2 t c = let b = c .before .before .before .before in let q = has-some (b .args .x) (b .args .n) (b .args .nums .now) (b .pre .1 .1) in omega (arith, q .0, q .1, b .pre .1 .0)
+remove-sub-remove-2 t c =
+    let b : remove-lts.Start (Rd t) (remove-at t) remove.Post = search in
+    let q = has-some (b .args .x) (b .args .n) (b .args .nums .now) (b .pre .1 .1) in
+    omega (arith, q .0, q .1, b .pre .1 .0)
 
 remove-remove-requires : (t : ℕ) → remove-lts.Need-remove-requires (Rd t) (remove-at t) remove.Post
-remove-remove-requires t c κs = let b = c .before .before .before .before in let q = has-some (b .args .x) (b .args .n) (b .args .nums .now) (b .pre .1 .1) in (omega (arith, b .pre .0, q .0), (simp (length-take, length-drop) (omega (arith, b .pre .1 .0, q .1)), has-rest (b .args .x) (b .args .n) (b .args .nums .now) (b .pre .1 .0) (b .pre .1 .1) (c .before .if1 .left)))
+remove-remove-requires t c κs =
+    let b : remove-lts.Start (Rd t) (remove-at t) remove.Post = search in
+    let q = has-some (b .args .x) (b .args .n) (b .args .nums .now) (b .pre .1 .1) in
+    (omega (arith, b .pre .0, q .0), (simp (length-take, length-drop) (omega (arith, b .pre .1 .0, q .1)), has-rest (b .args .x) (b .args .n) (b .args .nums .now) (b .pre .1 .0) (b .pre .1 .1) (c .before .if1 .left)))
 
 remove-same-length-2 : (t : ℕ) → remove-lts.Need-same-length-2 (Rd t) (remove-at t) remove.Post
 remove-same-length-2 t c = search needs
 
 remove-returns-2 : (t : ℕ) → remove-lts.Need-returns-2 (Rd t) (remove-at t) remove.Post
-remove-returns-2 t c = let b = c .before .before .before .before .before .before .before in remove-more (b .args .x) (b .pre .1 .1) (c .before .before .before .before .if1 .left) (c .before .before .remove .ensures)
+remove-returns-2 t c =
+    let else1 : remove-lts.Else1 (Rd t) (remove-at t) remove.Post = search in
+    let b : remove-lts.Start (Rd t) (remove-at t) remove.Post = search in
+    remove-more (b .args .x) (b .pre .1 .1) (else1 .if1 .left) (c .before .before .remove .ensures)
 
 pub +remove-spec : {M : Type 1} → statement M
 +remove-spec = close μ-remove λ t. remove-lts.spec (Rd t)

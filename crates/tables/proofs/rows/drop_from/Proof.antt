@@ -21,19 +21,28 @@ part-remove-end : tie.Need-part-remove-end
 part-remove-end c = search needs
 
 remove-requires : tie.Need-remove-requires
-remove-requires c κs = let b = c .before .before .before in (simp (length-take, length-drop) (omega (arith, row-fits (b .pre .0) (b .pre .1))), row-has (b .args .x) (b .pre .0) (b .pre .1) (b .pre .2))
+remove-requires c κs =
+    let b : tie.Start = search in
+    (simp (length-take, length-drop) (omega (arith, row-fits (b .pre .0) (b .pre .1))), row-has (b .args .x) (b .pre .0) (b .pre .1) (b .pre .2))
 
 sub-row : tie.Need-sub-row
-sub-row c = let b = c .before .before .before .before .before .before in omega (arith, row-fits (b .pre .0) (b .pre .1), row-some (b .args .x) (b .pre .0) (b .pre .1) (b .pre .2))
+sub-row c =
+    let b : tie.Start = search in
+    omega (arith, row-fits (b .pre .0) (b .pre .1), row-some (b .args .x) (b .pre .0) (b .pre .1) (b .pre .2))
 
 slice-write-row : tie.Need-slice-write-row
-slice-write-row c = let b = c .before .before .before .before .before .before in let l = b .args .row .now in omega (arith, same-len-mid 1 (length l - 1) l (c .before .before .remove .last .0) (c .before .before .remove .kept .0), row-fits (b .pre .0) (b .pre .1))
+slice-write-row c =
+    let b : tie.Start = search in
+    let l = b .args .row .now in
+    omega (arith, same-len-mid 1 (length l - 1) l (c .before .before .remove .last .0) (c .before .before .remove .kept .0), row-fits (b .pre .0) (b .pre .1))
 
 same-length : tie.Need-same-length
 same-length c = search needs
 
 returns : tie.Need-returns
-returns c = let b = c .before .before .before .before .before .before in row-dropped (b .args .x) (row-has (b .args .x) (b .pre .0) (b .pre .1) (b .pre .2)) (c .before .before .remove .ensures)
+returns c =
+    let b : tie.Start = search in
+    row-dropped (b .args .x) (row-has (b .args .x) (b .pre .0) (b .pre .1) (b .pre .2)) (c .before .before .remove .ensures)
 
 pub drop-from-spec : {M : Type 1} → statement M
 drop-from-spec =

@@ -23,7 +23,12 @@ shared-slice-read-if1 : tie.Need-shared-slice-read-if1 Inv-loop μ-loop
 shared-slice-read-if1 c = search needs
 
 returns : tie.Need-returns Inv-loop μ-loop
-returns c = let l = c .before .before .before .loop in let a = c .before .before .before .before .args in l .inv .1 true (has-here (a .x) (l .left) (l .rest .now) (some (c .before .before .loop-test .taken)) (l .inv .0) (c .if1 .taken))
+returns c =
+    let at-loop : tie.At-loop Inv-loop μ-loop = search in
+    let b : tie.Start Inv-loop μ-loop = search in
+    let l = at-loop .loop in
+    let a = b .args in
+    l .inv .1 true (has-here (a .x) (l .left) (l .rest .now) (some (c .before .before .loop-test .taken)) (l .inv .0) (c .if1 .taken))
 
 sub-rest : tie.Need-sub-rest Inv-loop μ-loop
 sub-rest c = search needs
@@ -41,7 +46,14 @@ loop-less : tie.Need-loop-less Inv-loop μ-loop
 loop-less c = search needs
 
 loop-again : tie.Need-loop-again Inv-loop μ-loop
-loop-again c = let l = c .before .before .before .before .loop in let a = c .before .before .before .before .before .args in let e = tail-long 1 (l .rest .now) in (omega arith, λ r e. l .inv .1 r (e ∙ has-more (a .x) (l .left) (l .rest .now) (some (c .before .before .before .loop-test .taken)) (l .inv .0) (c .before .if1 .left)))
+loop-again c =
+    let in-loop : tie.In-loop Inv-loop μ-loop = search in
+    let at-loop : tie.At-loop Inv-loop μ-loop = search in
+    let b : tie.Start Inv-loop μ-loop = search in
+    let l = at-loop .loop in
+    let a = b .args in
+    let e = tail-long 1 (l .rest .now) in
+    (omega arith, λ r e. l .inv .1 r (e ∙ has-more (a .x) (l .left) (l .rest .now) (some (in-loop .loop-test .taken)) (l .inv .0) (c .before .if1 .left)))
 
 returns-2 : tie.Need-returns-2 Inv-loop μ-loop
 returns-2 c = let l = c .before .loop in l .inv .1 false (has-none _ (l .left) (l .rest .now) (omega arith))

@@ -19,10 +19,14 @@ part-has-end : tie.Need-part-has-end
 part-has-end c = search needs
 
 has-requires : tie.Need-has-requires
-has-requires c κs = let b = c .before .before .before in omega (arith, row-fits (b .pre .0) (b .pre .1))
+has-requires c κs =
+    let b : tie.Start = search in
+    omega (arith, row-fits (b .pre .0) (b .pre .1))
 
 returns : tie.Need-returns
-returns c = let b = c .before .before .before .before in λ r e. c .has .ensures ∙ ap (has (b .args .x)) (row-live r e)
+returns c =
+    let b : tie.Start = search in
+    λ r e. c .has .ensures ∙ ap (has (b .args .x)) (row-live r e)
 
 pub lists-spec : {M : Type 1} → statement M
 lists-spec =

@@ -16,11 +16,22 @@ along-requires-2 c κs = search needs
 along-requires-3 : tie.Need-along-requires-3
 along-requires-3 c κs = search needs
 
+radius-requires : tie.Need-radius-requires
+radius-requires c κs = search needs
+
 along-requires-4 : tie.Need-along-requires-4
 along-requires-4 c κs = search needs
 
 returns : tie.Need-returns
-returns c = course-by _ (c .before .before .before .before .before .args .cell) _ _ _ _ _ _ _ (c .before .before .before .before .before .pre) (c .before .before .before .before .periodic .ensures) (c .before .before .before .along .ensures) (c .before .before .along2 .ensures) (c .before .along3 .ensures) (c .along4 .ensures)
+returns c =
+    let c1 = c .before in
+    let c2 = c1 .before in
+    let c3 = c2 .before in
+    let c4 = c3 .before in
+    let c5 = c4 .before in
+    let b = c5 .before in
+    course-by _ (b .args .cell) _ _ _ _ _ _ _ _ (b .pre) (c5 .periodic .ensures) (c4 .along .ensures) (c3 .along2 .ensures) (c2 .along3 .ensures) (c1 .radius .ensures)
+    (c .along4 .ensures)
 
 pub new-spec : {M : Type 1} → statement M
 new-spec =
@@ -30,5 +41,6 @@ new-spec =
     along-requires
     along-requires-2
     along-requires-3
+    radius-requires
     along-requires-4
     returns)

@@ -2,8 +2,8 @@
 use mathlib.Core.Path.{ap, _∙_}
 use borrow.Author.Needs.{needs}
 use Rattle.listing_text.specs.declared.reader.Reader.{Reader}
-use Rattle.listing_text.specs.Reading.{feedOf}
-use Rattle.listing_text.proofs.Turns.{closed-ended, closed-same}
+use Rattle.listing_text.specs.Reading.{placeOf, feedOf}
+use Rattle.text.proofs.Turns.{closed-ended, closed-same}
 use Rattle.listing_text.proofs.reader.Reader.closed.Statement.{statement}
 use Rattle.listing_text.proofs.reader.Reader.closed.Tie as tie
 
@@ -14,10 +14,14 @@ feed-requires-2 : tie.Need-feed-requires-2
 feed-requires-2 c κs = search needs
 
 returns : tie.Need-returns
-returns c = closed-ended (c .before .before .before .before .args .self) (c .before .before .feed2 .result) (c .before .before .feed2 .ensures ∙ ap (λ (r : Reader). feedOf r 10) (c .before .before .before .feed .ensures)) (c .if1 .taken)
+returns c =
+    let c2 = c .before .before in
+    closed-ended feedOf placeOf _ (c2 .before .before .args .self) _ (c2 .feed2 .ensures ∙ ap (λ (r : Reader). feedOf r 10) (c2 .before .feed .ensures)) (c .if1 .taken)
 
 returns-2 : tie.Need-returns-2
-returns-2 c = closed-same (c .before .before .before .before .args .self) (c .before .before .feed2 .result) (c .before .before .feed2 .ensures ∙ ap (λ (r : Reader). feedOf r 10) (c .before .before .before .feed .ensures)) (c .if1 .left)
+returns-2 c =
+    let c2 = c .before .before in
+    closed-same feedOf placeOf _ (c2 .before .before .args .self) _ (c2 .feed2 .ensures ∙ ap (λ (r : Reader). feedOf r 10) (c2 .before .feed .ensures)) (c .if1 .left)
 
 pub closed-spec : {M : Type 1} → statement M
 closed-spec = tie.close (tie.spec feed-requires feed-requires-2 returns returns-2)

@@ -1,0 +1,43 @@
+-- What the inner functions ask of the tables that they are lent: a passed check 2, and counts within their room. Nobody needs it to know what the check is (Check).
+-- Assumes nothing: these are definitions.
+use Prim.Native.Nat.{ℕ, _+_, _*_, _≤_}
+use mathlib.Core.Path.{_≡_}
+use mathlib.Core.List.{List}
+use mathlib.Core.Bool.{true}
+use lib.ListN.{length, getD}
+use Rattle.layout.specs.Widths.{homeWide, membersWide, queueWide}
+use Rattle.model.specs.Sizes.{memberRoom, homeRoom}
+use Rattle.tables.specs.declared.Sizes.{Sizes}
+use Rattle.tables.specs.Lengths.{listsNeed, grainsNeed, queueNeed, eventsNeed, orderNeed}
+use Rattle.tables.specs.Decode.{Tables, sizesOf, homesPart, membersPart}
+use Rattle.checks.specs.Check.{counted}
+
+-- check 2 is passed
+pub record Sized (z : Sizes) (t : Tables) : Type 0 where
+  pub sizes : z ≡ sizesOf (t .lists)
+  pub grains-most : z .grains ≤ 256
+  pub cells-least : 9 ≤ z .cells
+  pub cells-most : z .cells ≤ 256
+  pub room-least : 16 ≤ z .room
+  pub room-most : z .room ≤ 256
+  pub lists-long : listsNeed z ≤ length (t .lists)
+  pub grains-long : grainsNeed z ≤ length (t .grains)
+  pub queue-long : queueNeed z ≤ length (t .queue)
+  pub events-long : eventsNeed z ≤ length (t .events)
+  pub order-long : orderNeed ≤ length (t .order)
+
+-- ---- counts are within their room: n rows, each w wide, whose counts are at most v; one such row; and all rows of the tables, whose flags are 0 or 1
+pub record Rowed (v w n : ℕ) (l : List ℕ) : Type 0 where
+  pub counts : counted v w n l ≡ true
+  pub long : n * w ≤ length l
+
+pub record First (v : ℕ) (l : List ℕ) : Type 0 where
+  pub count : getD l 0 0 ≤ v
+  pub long : v + 1 ≤ length l
+
+pub record Legible (z : Sizes) (l q : List ℕ) : Type 0 where
+  pub flag0 : getD l 4 0 ≤ 1
+  pub flag1 : getD l 5 0 ≤ 1
+  pub homes : counted homeRoom homeWide (z .grains) (homesPart l) ≡ true
+  pub members : counted memberRoom membersWide (z .cells) (membersPart (z .grains) l) ≡ true
+  pub events : counted (z .room) (queueWide (z .room)) (z .cells) q ≡ true

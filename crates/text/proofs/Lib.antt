@@ -1,0 +1,13 @@
+pub mod Floats
+pub mod HexDigits
+pub mod DecimalDigits
+pub mod Turns
+pub mod Places
+pub mod Fields
+pub mod Forward
+pub mod Kept
+pub mod FieldsBack
+pub mod Backward
+pub mod Putting
+pub mod Single
+pub mod Examples

@@ -1,0 +1,29 @@
+-- `Reader::closed` meets its contract. Assumes nothing.
+use mathlib.Core.Path.{ap, _∙_}
+use borrow.Author.Needs.{needs}
+use Rattle.text.specs.declared.reader.Reader.{Reader}
+use Rattle.text.specs.Reading.{feedOf}
+use Rattle.text.proofs.Turns.{closed-ended, closed-same}
+use Rattle.text.proofs.reader.Reader.closed.Statement.{statement}
+use Rattle.text.proofs.reader.Reader.closed.Tie as tie
+
+feed-requires : tie.Need-feed-requires
+feed-requires c κs = search needs
+
+feed-requires-2 : tie.Need-feed-requires-2
+feed-requires-2 c κs = search needs
+
+returns : tie.Need-returns
+returns c =
+    let c2 = c .before .before in
+    let a = c2 .before .before .before .args in
+    closed-ended (feedOf (a .plan .now) (a .line)) (λ (r : Reader). r .at) (a .line) (a .self) _ (c2 .feed2 .ensures ∙ ap (λ (r : Reader). feedOf (a .plan .now) (a .line) r 10) (c2 .before .feed .ensures)) (c .if1 .taken)
+
+returns-2 : tie.Need-returns-2
+returns-2 c =
+    let c2 = c .before .before in
+    let a = c2 .before .before .before .args in
+    closed-same (feedOf (a .plan .now) (a .line)) (λ (r : Reader). r .at) (a .line) (a .self) _ (c2 .feed2 .ensures ∙ ap (λ (r : Reader). feedOf (a .plan .now) (a .line) r 10) (c2 .before .feed .ensures)) (c .if1 .left)
+
+pub closed-spec : {M : Type 1} → statement M
+closed-spec = tie.close (tie.spec feed-requires feed-requires-2 returns returns-2)
