@@ -21,7 +21,7 @@
 extern "C" {
 #endif
 
-/* What the calls answer. 1 to 10 are document 01's numbers. */
+/* What the calls answer. 1 to 10 are document 01's numbers; no refusal's number comes near FESOLOPI_SPENT. */
 enum {
     FESOLOPI_DONE = 0,            /* accepted, or synchronised, or found */
     FESOLOPI_BAD_LENGTH = 1,      /* a box length is not from 9 to 48 */
@@ -34,7 +34,7 @@ enum {
     FESOLOPI_LISTED_ALREADY = 8,  /* halted: a grain enters a cell that lists it already */
     FESOLOPI_ONLY_CELL = 9,       /* halted: a grain would leave its only cell */
     FESOLOPI_BROKEN_FACT = 10,    /* the tables break a standing fact */
-    FESOLOPI_SPENT = 11           /* a run has spent its budget; it can go on */
+    FESOLOPI_SPENT = 100          /* a run has spent its budget; it can go on */
 };
 
 /* Starts a simulation in the five tables: a box of lengths l0 and l1, periodic or between walls in each
@@ -59,7 +59,7 @@ uint64_t fesolopi_start(double l0, double l1, bool periodic0, bool periodic1, ui
  * synchronisation to the next.
  *
  *   0         the last event was a synchronisation.
- *   11        the budget is spent. A second run goes on as one longer run would have.
+ *   100       the budget is spent. A second run goes on as one longer run would have.
  *   5 to 9    halted, by this run or by what came before it.
  *   2, 3, 10  refused, and no table is changed.
  *

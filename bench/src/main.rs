@@ -1,7 +1,10 @@
-// How many events a second the published Rust and the port do, on the same inputs, in turns, by processor time.
+// How many events a second the published Rust and the port do, on the same inputs, in turns, by processor time. With the name of a row: the port's
+// rounds of it alone, for a profiler.
 mod rows;
 
+use fesolopi::tables::GRAINS_HEAD;
 use fesolopi::{Domain, Ending, Grain, Simulation};
+use oracle::model::state::Inputs;
 use oracle::rust::{AsPublished, Published};
 use oracle::text::Start;
 use rows::{Row, ROWS};
@@ -36,7 +39,7 @@ fn timed(work: impl FnOnce()) -> f64 {
 
 /// One round of the port: its time, the events that it did, and how it ends.
 fn port_round(row: &Row, start: &Start) -> (f64, u64, Simulation) {
-    let grain = |&[x, y, vx, vy, value]: &[f64; 5]| Grain { position: [x, y], velocity: [vx, vy], value };
+    let grain = |&[x, y, vx, vy, value]: &Inputs| Grain { position: [x, y], velocity: [vx, vy], value };
     let grains: Vec<Grain> = start.grains.iter().map(grain).collect();
     let domain = Domain { lengths: start.lengths, periodic: start.periodic };
     let mut port = Simulation::start(&domain, start.room, &grains).expect("the start is accepted");
@@ -61,8 +64,8 @@ fn rust_round(start: &Start, events: u64) -> (f64, AsPublished) {
 /// Whether both hold the same grains, bit for bit.
 fn same(rust: &AsPublished, port: &Simulation) -> bool {
     let grains = rust.picture().grains;
-    let floats = grains.iter().flat_map(|g| [g.pos[0], g.pos[1], g.vel[0], g.vel[1], g.time, g.val]);
-    floats.map(f64::to_bits).eq(port.tables().grains[3..].iter().map(|x| x.to_bits()))
+    let floats = grains.iter().flat_map(|g| g.floats());
+    floats.map(f64::to_bits).eq(port.tables().grains[GRAINS_HEAD..].iter().map(|x| x.to_bits()))
 }
 
 /// Seconds that a run of a given budget takes, on the tables that a round leaves.
@@ -79,6 +82,19 @@ fn memory(port: &Simulation) -> usize {
 }
 
 fn main() {
+    match std::env::args().nth(1) {
+        Some(name) => alone(&name),
+        None => table(),
+    }
+}
+
+fn alone(name: &str) {
+    let row = ROWS.iter().find(|row| row.name == name).expect("a row of the table");
+    let start = row.start();
+    (0..ROUNDS).for_each(|_| drop(port_round(row, &start)));
+}
+
+fn table() {
     println!("| Box | Grains | Room | Tables, kB | Events | Rust, M/s | Port, M/s | Port / Rust | Checks of a run, µs | Port / Rust, one event a run |");
     println!("|---|---|---|---|---|---|---|---|---|---|");
     for row in &ROWS {

@@ -1,4 +1,5 @@
 // The inputs: boxes with grains at random in a part of them, none touching another, at speeds up to 1 in each direction.
+use oracle::model::state::Inputs;
 use oracle::random::Random;
 use oracle::text::Start;
 
@@ -32,7 +33,7 @@ impl Row {
     /// Periodic in the first direction and between walls in the second, as the published program has it.
     pub fn start(&self) -> Start {
         let mut random = Random(1);
-        let mut grains: Vec<[f64; 5]> = Vec::new();
+        let mut grains: Vec<Inputs> = Vec::new();
         while grains.len() < self.grains {
             let [x, y] = [(); 2].map(|()| random.between(0.5, self.filled - 0.5));
             if grains.iter().all(|g| (g[0] - x).hypot(g[1] - y) > 1.) {

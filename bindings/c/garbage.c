@@ -16,7 +16,7 @@ static struct {
     uint64_t length, size;
 } t[TABLES] = {{0, 0, 0, 8}, {0, 0, 0, 8}, {0, 0, 0, 8}, {0, 0, 0, 8}, {0, 0, 0, 8}, {0, 0, 0, 1}};
 
-static uint64_t seed, calls, answers[12];
+static uint64_t seed, calls, answers[FESOLOPI_SPENT + 1];
 
 static uint64_t draw(void) {
     uint64_t z = seed += 0x9E3779B97F4A7C15;
@@ -149,14 +149,14 @@ static uint64_t run(double rate, uint32_t budget) {
     uint64_t answer = fesolopi_run(PART(uint64_t, LISTS), PART(double, GRAINS), PART(uint64_t, QUEUE),
                                    PART(double, EVENTS), PART(uint8_t, ORDER), rate, budget, &clock, &done);
     calls++;
-    must(answer <= 11 && answer != 1 && answer != 4, "a run's answer");
+    must((answer <= 10 && answer != 1 && answer != 4) || answer == FESOLOPI_SPENT, "a run's answer");
     answers[answer]++;
     must(done <= budget, "no more events than the budget");
     if (answer == 2 || answer == 3 || answer == 10 || mark) {
-        must(answer != 0 && answer != 11, "a mark is not run");
+        must(answer != 0 && answer != FESOLOPI_SPENT, "a mark is not run");
         must(kept() && clock == 0 && done == 0, "a refused run changes nothing and reports zeros");
     }
-    if (answer == 11)
+    if (answer == FESOLOPI_SPENT)
         must(done == budget, "a spent budget");
     return answer;
 }
@@ -238,7 +238,7 @@ static void damaged(double l0, double l1, uint64_t count, uint64_t room) {
     for (int times = 0; times < 4 && answer < 5; times++) {
         answer = run(0.25, (uint32_t)below(40));
         must(answer != 2 && answer != 3 && answer != 10, "a sound run is not refused");
-        if (answer == 11)
+        if (answer == FESOLOPI_SPENT)
             answer = 0;
     }
     for (uint64_t times = 0; times < 30; times++) {
@@ -250,8 +250,8 @@ static void damaged(double l0, double l1, uint64_t count, uint64_t room) {
         put(which, place);
         answer = run(below(8) ? 1 : real(), (uint32_t)below(30));
         /* what ran keeps the standing facts, so that a run of nothing is taken */
-        if (answer == 0 || answer == 11)
-            must(run(1, 0) == 11, "the facts are kept");
+        if (answer == 0 || answer == FESOLOPI_SPENT)
+            must(run(1, 0) == FESOLOPI_SPENT, "the facts are kept");
         else if (kept())
             memcpy(at, was, t[which].size);
         else
@@ -284,7 +284,9 @@ int main(int words, char **word) {
     for (int n = 0; n < TABLES; n++)
         free(t[n].at), free(t[n].before);
     printf("calls on garbage: %llu, seed %s; answers", (unsigned long long)calls, words > 2 ? word[2] : "1");
-    for (int n = 0; n < 12; n++)
-        printf(" %d: %llu%s", n, (unsigned long long)answers[n], n < 11 ? "," : "\n");
+    for (int n = 0; n < FESOLOPI_SPENT; n++)
+        if (answers[n])
+            printf(" %d: %llu,", n, (unsigned long long)answers[n]);
+    printf(" %d: %llu\n", FESOLOPI_SPENT, (unsigned long long)answers[FESOLOPI_SPENT]);
     return 0;
 }

@@ -2,14 +2,14 @@
 // lines give the form). What a run leaves is the Rust's, with document 01's rules, wherever the tables hold
 // what the Rust does, and is checked against the model; refusals, halts and what follows damage are the
 // model's.
-use crate::model::grid::cells_along;
+use crate::files::write;
 use crate::model::run::{Report, Started, Told};
-use crate::model::state::{Row, State, HEAP, HOMES, MEMBERS, SYNC};
+use crate::model::state::{Row, State, HEAP, HOMES, INPUTS, MEMBERS, SYNC};
 use crate::rust::{Published, WithRules};
 use crate::scenes::{scenes, Command, Scene, MOST, MOST_INPUTS};
-use crate::tables::{needed, Tables};
+use crate::tables::{needed_by, Tables};
 use crate::text::Start;
-use std::path::Path;
+use crate::words::lines;
 
 #[derive(Default)]
 struct Figures {
@@ -31,12 +31,8 @@ pub fn replay(folder: &str) -> Result<(), String> {
         stage.play(scene, &mut written);
         memory.put_first(&stage.lent);
     }
-    let text: String = read.iter().map(|w| format!("{w:016X}\n")).collect();
-    let write = |name: &str, text: String| {
-        std::fs::write(Path::new(folder).join(name), text).map_err(|e| e.to_string())
-    };
-    write("stdin", text)?;
-    write("stdout", written)?;
+    write(folder, "stdin", lines(&read))?;
+    write(folder, "stdout", written)?;
     let Figures { runs, events, by_the_rust, words } = figures;
     println!(
         "replay: {} starts, {runs} runs, {events} events ({by_the_rust} by the Rust), {words} words",
@@ -48,9 +44,9 @@ pub fn replay(folder: &str) -> Result<(), String> {
 /// A scene as the program reads it.
 fn words(scene: &Scene, out: &mut Vec<u64>) {
     let Start { lengths, periodic, room, grains, .. } = &scene.start;
-    assert!(5 * grains.len() <= MOST_INPUTS && scene.lent.iter().zip(MOST).all(|(&n, most)| n <= most));
+    assert!(INPUTS * grains.len() <= MOST_INPUTS && scene.lent.iter().zip(MOST).all(|(&n, most)| n <= most));
     out.extend(scene.lent.map(|n| n as u64));
-    out.push(5 * grains.len() as u64);
+    out.push((INPUTS * grains.len()) as u64);
     out.extend(lengths.map(f64::to_bits));
     out.extend(periodic.map(u64::from));
     out.extend([scene.count, *room]);
@@ -107,9 +103,7 @@ impl Stage<'_> {
 
     fn start(&mut self, scene: &Scene) -> String {
         let start = &scene.start;
-        let cells = start.lengths.map(cells_along);
-        let wants = || needed(start.grains.len(), cells[0] * cells[1], start.room as usize);
-        let short = || scene.lent.iter().zip(wants()).any(|(&has, needs)| has < needs);
+        let short = || scene.lent.iter().zip(needed_by(start)).any(|(&has, needs)| has < needs);
         match start.model() {
             Started::Refused(number @ (1 | 2), _) => format!("refused {number:x}"),
             _ if scene.count > start.grains.len() as u64 || short() => "refused 2".into(),
@@ -129,8 +123,7 @@ impl Stage<'_> {
 
     /// If the Rust holds the same.
     fn as_the_rust(&self, s: &State) -> bool {
-        let same =
-            |rust: &WithRules| Tables::of(&whole(rust.picture(), s.room)).words().eq(Tables::of(s).words());
+        let same = |rust: &WithRules| Tables::of(&whole(rust.picture(), s.room)) == Tables::of(s);
         self.rust.as_ref().is_some_and(same)
     }
 

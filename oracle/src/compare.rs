@@ -9,6 +9,7 @@ use crate::model::run::{Report, Started, Told};
 use crate::model::state::State;
 use crate::mutate::{try_mutated, Mutations};
 use crate::random::Random;
+use crate::report::{head, parted, row};
 use crate::rust::{AsPublished, Published, WithRules};
 use crate::starts::{random_rate, random_start};
 use crate::text::Start;
@@ -197,34 +198,34 @@ fn split_agrees(state: &State, random: &mut Random) -> bool {
     } else {
         first
     };
-    let (mut a, mut b) = (Vec::new(), Vec::new());
-    held(&whole, &mut a);
-    held(&parts, &mut b);
+    let left = held(&whole);
     // a halt is answered for ever, and nothing changes
     if let Told::Refused(number) = long.told {
         let again = whole.run(rate, 1 + k);
         let zeros = Report { told: Told::Refused(number), clock: 0., events: 0 };
-        let mut c = Vec::new();
-        held(&whole, &mut c);
-        if !again.same(&zeros) || a != c {
+        if !again.same(&zeros) || left != held(&whole) {
             return false;
         }
     }
-    long.same(&both) && a == b
+    long.same(&both) && left == held(&parts)
 }
 
 fn print_figures(f: &Figures, seed: u64) {
-    println!("seed {seed}: {} starts", f.starts);
-    println!("events compared, whole state after each: {} ({} inside the domain)", f.events, f.inside);
-    println!("leaves compared: {LEAVES} of each kind; budgets split: {}", f.splits);
+    println!("seed {seed}");
     let Mutations { refused, ran, events } = f.mutations;
-    println!("mutated states: {refused} refused with nothing changed, {ran} run for {events} events");
-    for (cause, runs) in &f.causes {
-        println!("  runs {cause}: {runs}");
-    }
-    println!(
-        "as published: {} runs, {} states equal inside the domain, {} runs went another way",
-        f.published_runs, f.published_states, f.published_differs
-    );
+    head(&["What", "How many"]);
+    let count = |what: &str, many: u64| row(&[what, &parted(many)]);
+    count("starts", f.starts);
+    count("events compared, whole state after each", f.events);
+    count("of them inside the domain", f.inside);
+    count("leaves compared, of each kind", LEAVES);
+    count("budgets split", f.splits);
+    count("mutated states refused with nothing changed", refused);
+    count("mutated states run", ran);
+    count("events of these", events);
+    f.causes.iter().for_each(|(cause, &runs)| count(&format!("runs {cause}"), runs));
+    count("runs as published beside them", f.published_runs);
+    count("states of these equal inside the domain", f.published_states);
+    count("of these runs that went another way", f.published_differs);
     println!("mismatches: {}", f.mismatches);
 }

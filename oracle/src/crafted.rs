@@ -1,7 +1,8 @@
 // The smallest inputs known for each refusal, with what the model must answer; and the order of a run's
 // checks on states that no start gives. `oracle refusals` runs them all.
+use crate::known::{correction, correction_at_walls, grain, meeting, PERIODIC};
 use crate::model::run::{Report, Started, Told};
-use crate::model::state::{State, SYNC};
+use crate::model::state::{Inputs, State, SYNC};
 use crate::text::Start;
 use crate::words::held;
 
@@ -22,13 +23,7 @@ pub struct Crafted {
 /// More events than any crafted run needs to halt.
 const ENOUGH: u64 = 1000;
 
-const PERIODIC: [bool; 2] = [true, true];
-
-pub fn grain(x: f64, y: f64, vx: f64, vy: f64) -> [f64; 5] {
-    [x, y, vx, vy, 0.5]
-}
-
-fn case(name: &'static str, grains: &[[f64; 5]], answer: Answer) -> Crafted {
+fn case(name: &'static str, grains: &[Inputs], answer: Answer) -> Crafted {
     Crafted { name, start: Start::small(PERIODIC, 64, grains), answer }
 }
 
@@ -92,8 +87,7 @@ pub fn crafted() -> Vec<Crafted> {
 /// Starts that no random one comes near: the crafted ones, and those where the periodic correction shows.
 pub fn known_starts() -> Vec<Start> {
     let mut all: Vec<Start> = crafted().into_iter().map(|c| c.start).collect();
-    all.push(Start::small(PERIODIC, 64, &[grain(5.5, 1.625, -1., 0.25)]));
-    all.push(Start::small([false, true], 64, &[grain(8.5, 1.5, 1., 0.25), grain(8., 3.625, 0., 0.)]));
+    all.extend([correction(), correction_at_walls()]);
     all
 }
 
@@ -128,10 +122,7 @@ pub fn refusals() -> bool {
         let mut after = state.clone();
         let report = after.run(rate, 5);
         let zeros = Report { told: Told::Refused(number), clock: 0., events: 0 };
-        let (mut a, mut b) = (Vec::new(), Vec::new());
-        held(&state, &mut a);
-        held(&after, &mut b);
-        if !report.same(&zeros) || a != b {
+        if !report.same(&zeros) || held(&state) != held(&after) {
             println!("WRONG: {name}: {report:?}, not {number} with nothing changed");
             wrong += 1;
         }
@@ -144,21 +135,12 @@ pub fn refusals() -> bool {
     wrong == 0
 }
 
-/// A start with two grains, for `sound`.
-pub fn sound_start() -> Start {
-    Start::small([true, false], 64, &[grain(1.25, 4.75, 0.5, 0.25), grain(6.1, 4.6, -0.75, 0.3)])
-}
-
-/// The state that it leaves after three events.
+/// A state that breaks no fact: two grains that meet, after three events.
 pub fn sound() -> State {
-    match sound_start().model() {
-        Started::Done(mut s) => {
-            s.run(1., 1);
-            s.run(1., 2);
-            *s
-        }
-        Started::Refused(..) => unreachable!("an accepted start"),
-    }
+    let mut s = meeting().accepted();
+    s.run(1., 1);
+    s.run(1., 2);
+    s
 }
 
 /// States that break one standing fact each, or several checks at once, with the run's answer.
@@ -193,16 +175,7 @@ pub fn checks() -> Vec<(&'static str, State, f64, u64)> {
         ("a grain ahead of the clock", changed(|s| s.grains[1].time = s.clock.next_up()), 1., 10),
         ("a clock past an event", changed(|s| s.clock = 1e9), 1., 10),
         ("heap and lookups not inverse", changed(|s| s.look.swap(0, 1)), 1., 10),
-        (
-            "a parent later than its child",
-            changed(|s| {
-                s.heap.swap(0, 8);
-                let (first, last) = (s.heap[0] as usize, s.heap[8] as usize);
-                (s.look[first], s.look[last]) = (0, 8);
-            }),
-            1.,
-            10,
-        ),
+        ("a parent later than its child", changed(|s| s.change_places(0, 8)), 1., 10),
         (
             "a grain in no cell",
             changed(|s| {

@@ -1,7 +1,7 @@
 // `oracle differ`: each difference between the published Rust and document 01, shown by running.
-use crate::crafted::grain;
 use crate::domain::Watch;
-use crate::model::state::State;
+use crate::known::{self, grain};
+use crate::model::state::{Inputs, State};
 use crate::random::Random;
 use crate::rust::{AsPublished, Published, WithRules};
 use crate::text::{dump, Start};
@@ -90,13 +90,11 @@ fn differs_after(name: &str, start: &Start, event: u64, inside: bool) -> bool {
 }
 
 fn periodic_box() -> bool {
-    let start = Start::small([true, true], 64, &[grain(5.5, 1.625, -1., 0.25)]);
-    differs_after("correction, one grain in a periodic box", &start, 8, true)
+    differs_after("correction, one grain in a periodic box", &known::correction(), 8, true)
 }
 
 fn walled_box() -> bool {
-    let grains = [grain(8.5, 1.5, 1., 0.25), grain(8., 3.625, 0., 0.)];
-    let start = Start::small([false, true], 64, &grains);
+    let start = known::correction_at_walls();
     let halts = |mut w: Watch| {
         (0..30).for_each(|_| w.step(1.));
         w.halted()
@@ -122,7 +120,7 @@ fn no_refusals() -> bool {
     let endless = |s: &State| s.queues.iter().flat_map(|r| r.live()).any(|e| e.time == f64::INFINITY);
     let least = f64::from_bits(1);
     type Test<'a> = (&'a str, Start, &'a dyn Fn(&State) -> bool, u64);
-    let small = |room, grains: &[[f64; 5]]| Start::small([true, true], room, grains);
+    let small = |room, grains: &[Inputs]| Start::small([true, true], room, grains);
     let cases: [Test; 7] = [
         ("1: a box 8.5 long is run", Start { lengths: [8.5, 9.], ..small(64, &[]) }, &|s| s.clock > 1., 3),
         ("5: an event at time infinity", small(64, &[grain(4.5, 4.5, 1., least)]), &endless, 0),

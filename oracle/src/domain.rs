@@ -47,6 +47,11 @@ impl Watch {
         }
     }
 
+    /// A start that is known to be accepted.
+    pub fn of(start: &Start) -> Watch {
+        Watch::start(start).unwrap_or_else(|(number, _)| unreachable!("refused by {number}"))
+    }
+
     pub fn halted(&self) -> bool {
         self.state.mark != 0
     }

@@ -5,14 +5,14 @@
 //
 // Refusals 2 and 10 can't be reached (`answers/Never.answers-are`): the counts are in range where a text is not too large, and the tables that a
 // start leaves hold the standing facts.
-use crate::crafted::{crafted, grain};
+use crate::crafted::crafted;
+use crate::files::write;
+use crate::known::{grain, PERIODIC};
 use crate::model::run::{Report, Started, Told};
-use crate::model::state::State;
+use crate::model::state::{Inputs, State};
 use crate::random::Random;
 use crate::text::{hex, Start};
 use crate::walk::walk;
-use std::fs;
-use std::path::Path;
 
 const BOX: &str = "l0,l1,p0,p1,rate,n";
 const GRAINS: &str = "x,y,vx,vy,val";
@@ -30,10 +30,8 @@ pub fn listings(folder: &str) -> Result<(), String> {
         texts.extend(text);
         texts.push(0);
     }
-    let write =
-        |name, bytes: &[u8]| fs::write(Path::new(folder).join(name), bytes).map_err(|e| e.to_string());
-    write("stdin", &texts)?;
-    write("stdout", answers.as_bytes())
+    write(folder, "stdin", texts)?;
+    write(folder, "stdout", answers)
 }
 
 // ---- the answer
@@ -52,7 +50,7 @@ fn read(text: &[u8]) -> Option<Start> {
     let text = String::from_utf8(whole).ok()?;
     let mut lines = text.strip_suffix("\r\n").unwrap_or(&text).split("\r\n");
     let (first, numbers, second) = (lines.next()?, lines.next()?, lines.next()?);
-    let grains: Vec<[f64; 5]> =
+    let grains: Vec<Inputs> =
         lines.map(|line| floats(&line.split(',').collect::<Vec<_>>())).collect::<Option<_>>()?;
     let fields: Vec<&str> = numbers.split(',').collect();
     let [l0, l1, p0, p1, rate, n] = fields[..] else { return None };
@@ -137,8 +135,8 @@ fn spelt(start: &Start) -> String {
     out
 }
 
-fn small(grains: &[[f64; 5]]) -> Start {
-    Start::small([true, true], ROOM, grains)
+fn small(grains: &[Inputs]) -> Start {
+    Start::small(PERIODIC, ROOM, grains)
 }
 
 fn still() -> Start {

@@ -1,6 +1,7 @@
 // `oracle lost`: the grain that the text as published loses, and what document 01 answers there.
-use crate::crafted::grain;
 use crate::domain::Watch;
+use crate::known::grain;
+use crate::model::state::Inputs;
 use crate::rust::{AsPublished, Published};
 use crate::text::Start;
 
@@ -10,10 +11,10 @@ pub fn lost() -> bool {
     inputs.iter().all(|&g| follow(g))
 }
 
-fn follow(g: [f64; 5]) -> bool {
+fn follow(g: Inputs) -> bool {
     println!("9 by 9, periodic, rate 1, one grain at ({}, {}), velocity ({}, {})", g[0], g[1], g[2], g[3]);
     let start = Start::small([true, true], 64, &[g]);
-    let mut watch = Watch::start(&start).unwrap_or_else(|_| unreachable!("an accepted start"));
+    let mut watch = Watch::of(&start);
     let mut rust = AsPublished::start(&start);
     let mut lost = 0;
     for event in 0..=20 {

@@ -1,5 +1,5 @@
 // The oracle's commands.
-use oracle::{account, compare, crafted, differ, dumps, listings, lost, replay, straight, vectors};
+use oracle::{account, compare, crafted, differ, dumps, leaf_words, listings, lost, straight, vectors};
 
 const USAGE: &str = "usage:
   oracle dump published|rules|model [EVENTS..]   start text on stdin; dumps after so many events
@@ -8,8 +8,8 @@ const USAGE: &str = "usage:
   oracle differ                                  what docs/DIFFERENCES.md says, by running it
   oracle lost                                    the grain that the text as published loses
   oracle straight                                grains that no event names; a pair that is pending twice
-  oracle vectors FOLDER                          files for other programs to replay
-  oracle leaves                                  those of single schedulings and the like as words, on stdout
+  oracle vectors FOLDER                          whole runs and refusals for other programs to replay
+  oracle leaves                                  what the program leaves reads, on stdout
   oracle replay FOLDER                           what the program replay reads, and what it must write
   oracle listings FOLDER                         texts for the listing program, and their answers";
 
@@ -24,7 +24,7 @@ fn main() {
         ["vectors", folder] => vectors::vectors(folder),
         ["lost"] => passed(lost::lost()),
         ["straight"] => passed(straight::straight()),
-        ["leaves"] => replay::leaves(),
+        ["leaves"] => leaf_words::leaves(),
         ["replay", folder] => account::replay(folder),
         ["listings", folder] => listings::listings(folder),
         _ => Err(USAGE.into()),

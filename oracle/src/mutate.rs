@@ -22,15 +22,13 @@ pub fn try_mutated(state: &State, r: &mut Random, tally: &mut Mutations) -> Opti
         mutate(&mut s, r);
     }
     let stands = broken(&s).is_none();
-    let (mut before, mut after) = (Vec::new(), Vec::new());
-    held(&s, &mut before);
+    let before = held(&s);
     let clock = s.clock;
     let report = s.run(random_rate(r), r.below(40) as u32);
-    held(&s, &mut after);
     if !stands {
         tally.refused += 1;
         let refused = matches!(report.told, Told::Refused(_)) && report.events == 0;
-        return (!refused || before != after).then_some("a state that breaks a fact was run or changed");
+        return (!refused || before != held(&s)).then_some("a state that breaks a fact was run or changed");
     }
     tally.ran += 1;
     tally.events += report.events;
@@ -83,7 +81,7 @@ pub fn mutate(s: &mut State, r: &mut Random) {
             row.places[at] = number(r, row.places[at]);
         }
         (5, _) => s.members[cell].count = number(r, s.members[cell].count),
-        (6, _) => exchange(s, cell, r.below(cells as u64) as usize),
+        (6, _) => s.change_places(cell, r.below(cells as u64) as usize),
         (7, _) => s.clock = float(r, s.clock),
         (8, _) => s.mark = r.pick(&[0, 0, 0, 5, 9, 10, 1]),
         (9, _) if r.once_in(4) => s.periodic[r.below(2) as usize] ^= 1 + r.below(2),
@@ -107,11 +105,4 @@ fn mutate_event(e: &mut Place, r: &mut Random) {
         6 => e.c[1] = float(r, e.c[1]),
         _ => e.val = float(r, e.val),
     }
-}
-
-/// Exchanges two heap places, lookups with them.
-fn exchange(s: &mut State, i: usize, j: usize) {
-    s.heap.swap(i, j);
-    s.look[s.heap[i] as usize] = i as u64;
-    s.look[s.heap[j] as usize] = j as u64;
 }

@@ -1,5 +1,5 @@
 // The published Rust as the oracle sees it, whichever of the two trees it comes from.
-use crate::leaves::Leaf;
+use crate::leaf::Leaf;
 use crate::model::state::{Place, State};
 use crate::text::Start;
 

@@ -1,9 +1,10 @@
 // The starts that the program replay makes (crates/replay), each with the tables lent to it and the commands
 // behind it.
-use crate::crafted::{checks, crafted, grain, sound, sound_start, Answer};
-use crate::model::grid::cells_along;
+use crate::crafted::{checks, crafted, sound, Answer};
+use crate::known::{fast, grain, lattice, meeting, still, PERIODIC};
+use crate::model::run::{LARGEST_RATE, LEAST_RATE};
 use crate::random::Random;
-use crate::tables::{needed, Tables};
+use crate::tables::{needed, needed_by, Tables};
 use crate::text::Start;
 
 pub enum Command {
@@ -30,11 +31,8 @@ pub struct Scene {
 pub const MOST: [usize; 5] = [10768, 2048, 33040, 81936, 520];
 pub const MOST_INPUTS: usize = 1300;
 
-const PERIODIC: [bool; 2] = [true, true];
 const WALLS: [bool; 2] = [false, false];
 const MIXED: [bool; 2] = [true, false];
-const LEAST_RATE: f64 = 1. / 1_048_576.;
-const LARGEST_RATE: f64 = 1_048_576.;
 
 /// The tables are not cleared between the scenes: starts that are refused come upon those of ordinary motion,
 /// and the runs behind them go on with it.
@@ -63,8 +61,7 @@ fn runs(rate: f64, budget: u32, times: u64) -> Command {
 
 /// A start that has a few places more than it needs in each table.
 fn scene(start: Start, commands: Vec<Command>) -> Scene {
-    let cells = start.lengths.map(cells_along);
-    let wants = needed(start.grains.len(), cells[0] * cells[1], start.room as usize);
+    let wants = needed_by(&start);
     let lent = std::array::from_fn(|table| wants[table] + 3 + table);
     Scene { count: start.grains.len() as u64, lent, start, commands }
 }
@@ -139,11 +136,6 @@ fn drawn(seed: u64, lengths: [f64; 2], periodic: [bool; 2], room: u64, grains: u
 
 /// Ordinary motion, and round numbers on purpose.
 fn ordinary() -> Vec<Scene> {
-    let fast = [[1.3, 2.2, 900.5, 31.25, 0.5], [6.1, 7.7, -0., 0.3, 0.125]];
-    let lattice: Vec<[f64; 5]> = (0..6)
-        .map(|n| [1.5 + (n % 3) as f64, 3.5 + (n / 3) as f64, 0.37 - 0.11 * n as f64, 0.05 * n as f64, 1.])
-        .collect();
-    let still = Start::small(PERIODIC, 16, &[grain(4.5, 4.5, 0., -0.)]);
     let few = |start: Start| scene(start, shown(vec![runs(0.7, 1, 4), runs(LARGEST_RATE, 9, 2)]));
     let many = |start: Start| {
         let commands = plan(start.rate);
@@ -161,13 +153,13 @@ fn ordinary() -> Vec<Scene> {
     };
     vec![
         few(Start::small(PERIODIC, 16, &[])),
-        few(still),
+        few(still()),
         seen(drawn(1, [9., 9.], PERIODIC, 16, 1)),
         seen(drawn(2, [9., 9.], WALLS, 16, 1)),
         seen(drawn(3, [9., 9.], PERIODIC, 64, 2)),
         seen(drawn(4, [11.3, 9.7], MIXED, 64, 2)),
-        seen(Start::small([false, true], 64, &fast)),
-        scene(Start::small([false, true], 64, &lattice), shown(vec![runs(1., 1, 30)])),
+        seen(fast()),
+        scene(lattice(), shown(vec![runs(1., 1, 30)])),
         seen(drawn(5, [9., 12.], [false, true], 64, 8)),
         many(drawn(6, [9., 9.], WALLS, 256, 32)),
         many(drawn(7, [17.3, 14.9], PERIODIC, 64, 32)),
@@ -188,7 +180,7 @@ fn other_rates() -> Scene {
     commands.extend(wrong.map(|rate| runs(rate, 1, 1)));
     commands.push(runs(f64::NAN, 0, 1));
     commands.push(runs(0.9, 1, 5));
-    scene(sound_start(), shown(commands))
+    scene(meeting(), shown(commands))
 }
 
 /// What makes the first tables the second; they are of the same lengths.
@@ -219,7 +211,7 @@ fn damaged() -> Scene {
     commands.push(Put { table: 0, place: 6 + 8, word: 77 });
     commands.push(Put { table: 4, place: 513, word: 77 });
     commands.push(runs(0.9, 1, 10));
-    scene(sound_start(), shown(commands))
+    scene(meeting(), shown(commands))
 }
 
 /// A grain's velocity is changed to another finite one: the run goes on, and halts by 5 at the end.
@@ -227,7 +219,7 @@ fn altered() -> Scene {
     let velocity = |word: f64| Put { table: 1, place: 3 + 2, word: word.to_bits() };
     let commands =
         vec![runs(0.9, 1, 5), velocity(-0.125), runs(0.9, 1, 30), velocity(f64::MAX), runs(0.9, 1, 10)];
-    scene(sound_start(), shown(commands))
+    scene(meeting(), shown(commands))
 }
 
 /// Counts that the tables hold, out of range or in it: 2 where the tables are too short for them too, otherwise
@@ -246,5 +238,5 @@ fn other_counts() -> Scene {
         }
     }
     let lent = needed(3, 12, 64);
-    Scene { lent, ..scene(sound_start(), commands) }
+    Scene { lent, ..scene(meeting(), commands) }
 }

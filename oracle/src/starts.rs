@@ -1,5 +1,6 @@
 // Random starts of many kinds: boxes, packings, positions on and off every border, speeds and zeros.
 use crate::model::grid::cells_along;
+use crate::model::run::{LARGEST_RATE, LEAST_RATE};
 use crate::random::Random;
 use crate::text::Start;
 
@@ -50,8 +51,8 @@ fn random_styles(r: &mut Random) -> [(u64, u64); 2] {
 /// A rate within document 01's range, its ends included.
 pub fn random_rate(r: &mut Random) -> f64 {
     match r.below(12) {
-        0 => 1. / 1_048_576.,
-        1 => 1_048_576.,
+        0 => LEAST_RATE,
+        1 => LARGEST_RATE,
         2 => 1.,
         3 => 0.25,
         4 | 5 => r.between(0.01, 0.2),

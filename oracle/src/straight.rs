@@ -1,7 +1,7 @@
 // `oracle straight`: moving grains that a cell lists and that no pending event names, and a pair that is pending twice.
-use crate::crafted::grain;
 use crate::differ::told;
 use crate::domain::Watch;
+use crate::known::grain;
 use crate::model::state::{State, COLLISION};
 use crate::rust::{AsPublished, Published};
 use crate::text::{dump, Start};
@@ -24,7 +24,7 @@ fn named(s: &State, grain: u64) -> bool {
 
 /// The model's state after each event, the start's first.
 fn states(start: &Start) -> (Watch, Vec<State>) {
-    let mut watch = Watch::start(start).unwrap_or_else(|_| unreachable!("an accepted start"));
+    let mut watch = Watch::of(start);
     let mut states = vec![*watch.state.clone()];
     for _ in 0..EVENTS {
         watch.step(start.rate);

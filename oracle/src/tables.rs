@@ -1,23 +1,12 @@
 // A state as the five tables that a caller lends (docs/TABLES.md), and back.
 use crate::model::run::counts_in_range;
-use crate::model::state::{Grain, Place, Row, State, HEAP, HOMES, MEMBERS};
+use crate::model::state::{Grain, Place, Row, State};
+use crate::text::Start;
 
-/// Numbers ahead of the lists, floats ahead of the grains.
-const LISTS_HEAD: usize = 6;
-const GRAINS_HEAD: usize = 3;
-/// Floats of a grain; numbers and floats of an event's place.
-const GRAIN: usize = 6;
-const NUMBERS: usize = 4;
-const FLOATS: usize = 10;
-
-#[derive(Clone)]
-pub struct Tables {
-    pub lists: Vec<u64>,
-    pub grains: Vec<f64>,
-    pub queue: Vec<u64>,
-    pub events: Vec<f64>,
-    pub order: Vec<u8>,
-}
+// the bindings' tables and their sizes: plain data, with nothing of the calls
+#[path = "../../bindings/rust/src/tables.rs"]
+mod plain;
+pub use plain::{Tables, FLOATS, GRAIN, GRAINS_HEAD, HEAP, HOMES, LISTS_HEAD, MEMBERS, NUMBERS};
 
 /// How long the tables must be, in the order of `Tables`.
 pub fn needed(grains: usize, cells: usize, room: usize) -> [usize; 5] {
@@ -30,18 +19,12 @@ pub fn needed(grains: usize, cells: usize, room: usize) -> [usize; 5] {
     ]
 }
 
-impl Tables {
-    /// Tables of these lengths, every place zero.
-    pub fn cleared([lists, grains, queue, events, order]: [usize; 5]) -> Tables {
-        Tables {
-            lists: vec![0; lists],
-            grains: vec![0.; grains],
-            queue: vec![0; queue],
-            events: vec![0.; events],
-            order: vec![0; order],
-        }
-    }
+/// What a start needs whose numbers are in range.
+pub fn needed_by(start: &Start) -> [usize; 5] {
+    needed(start.grains.len(), start.cells(), start.room as usize)
+}
 
+impl Tables {
     /// Tables that are no longer than the state needs. Its rows have all their places.
     pub fn of(s: &State) -> Tables {
         let mut tables = Tables::cleared(needed(s.grains.len(), s.members.len(), s.room as usize));
@@ -113,21 +96,11 @@ impl Tables {
         over(&mut self.order, &other.order);
     }
 
-    pub fn lengths(&self) -> [usize; 5] {
-        let Tables { lists, grains, queue, events, order } = self;
-        [lists.len(), grains.len(), queue.len(), events.len(), order.len()]
-    }
-
     /// Every place as a word, in five parts.
     pub fn parts(&self) -> [Vec<u64>; 5] {
         let floats = |list: &[f64]| list.iter().map(|x| x.to_bits()).collect();
         let order = self.order.iter().map(|&n| n.into()).collect();
         [self.lists.clone(), floats(&self.grains), self.queue.clone(), floats(&self.events), order]
-    }
-
-    /// Every place as a word, table after table: two are equal exactly if their bits are.
-    pub fn words(&self) -> impl Iterator<Item = u64> + '_ {
-        self.parts().into_iter().flatten()
     }
 }
 
@@ -150,7 +123,7 @@ fn lists(s: &State) -> Vec<u64> {
 fn grains(s: &State) -> Vec<f64> {
     let mut out = vec![s.lengths[0], s.lengths[1], s.clock];
     for g in &s.grains {
-        out.extend([g.pos[0], g.pos[1], g.vel[0], g.vel[1], g.time, g.val]);
+        out.extend(g.floats());
     }
     out
 }
@@ -209,24 +182,17 @@ fn events_in(numbers: &[u64], floats: &[f64]) -> Row<Place> {
 #[cfg(test)]
 mod tests {
     use super::*;
-    use crate::crafted::{grain, known_starts};
+    use crate::crafted::known_starts;
+    use crate::known::{grain, PERIODIC};
     use crate::model::run::Started;
     use crate::mutate::mutate;
     use crate::random::Random;
     use crate::starts::random_start;
-    use crate::text::Start;
     use crate::words::held;
-
-    fn same(s: &State, t: &State) -> bool {
-        let (mut a, mut b) = (Vec::new(), Vec::new());
-        held(s, &mut a);
-        held(t, &mut b);
-        a == b
-    }
 
     fn there_and_back(s: &State) {
         let back = Tables::of(s).read().expect("a state's own tables are long enough");
-        assert!(same(s, &back));
+        assert!(held(s) == held(&back));
     }
 
     #[test]
@@ -254,8 +220,7 @@ mod tests {
     #[test]
     fn every_place_is_where_the_document_says() {
         let start = Start::small([true, false], 16, &[grain(4.5, 4.5, 0., 0.), grain(7.5, 7., 0., -0.25)]);
-        let Started::Done(s) = start.model() else { unreachable!("an accepted start") };
-        let t = Tables::of(&s);
+        let t = Tables::of(&start.accepted());
         assert_eq!(t.lengths(), [6 + 18 + 33 * 9, 3 + 12, 9 * 65, 9 * 160, 512]);
         assert_eq!(t.lists[..6], [0, 2, 9, 16, 1, 0]);
         // the first grain is in cell 4, the second in cell 8
@@ -273,8 +238,7 @@ mod tests {
 
     #[test]
     fn short_tables_and_counts_out_of_range_hold_no_state() {
-        let start = Start::small([true, true], 16, &[grain(4.5, 4.5, 0., 0.)]);
-        let Started::Done(s) = start.model() else { unreachable!("an accepted start") };
+        let s = Start::small(PERIODIC, 16, &[grain(4.5, 4.5, 0., 0.)]).accepted();
         let whole = Tables::of(&s);
         for table in 0..5 {
             let mut short = whole.clone();

@@ -12,8 +12,9 @@
 //   e TIME W P F             wall: position, velocity, value
 //   heap : C C ..            as many places as cells
 //   look : N N ..
+use crate::model::grid::cells_along;
 use crate::model::run::{start, Started};
-use crate::model::state::{State, COLLISION, NEIGHBOUR, OUT, SYNC, WALL};
+use crate::model::state::{Inputs, State, COLLISION, NEIGHBOUR, OUT, SYNC, WALL};
 use std::fmt::Write;
 
 #[derive(Clone, Debug)]
@@ -22,13 +23,12 @@ pub struct Start {
     pub periodic: [bool; 2],
     pub rate: f64,
     pub room: u64,
-    /// x, y, vx, vy, val of each grain.
-    pub grains: Vec<[f64; 5]>,
+    pub grains: Vec<Inputs>,
 }
 
 impl Start {
     /// A 9 by 9 box, synchronised once in a unit of time.
-    pub fn small(periodic: [bool; 2], room: u64, grains: &[[f64; 5]]) -> Start {
+    pub fn small(periodic: [bool; 2], room: u64, grains: &[Inputs]) -> Start {
         Start { lengths: [9., 9.], periodic, rate: 1., room, grains: grains.to_vec() }
     }
 
@@ -37,13 +37,26 @@ impl Start {
         start(self.lengths, self.periodic, self.room, &self.grains)
     }
 
+    /// The model's state of a start that is known to be accepted.
+    pub fn accepted(&self) -> State {
+        match self.model() {
+            Started::Done(state) => *state,
+            Started::Refused(number, _) => unreachable!("refused by {number}"),
+        }
+    }
+
+    /// How many cells the box has.
+    pub fn cells(&self) -> usize {
+        self.lengths.map(cells_along).iter().product()
+    }
+
     pub fn read(text: &str) -> Result<Start, String> {
         let mut lines = text.lines();
         let first: Vec<&str> = lines.next().unwrap_or("").split(' ').collect();
         let [l0, l1, p0, p1, rate, room, n] = first[..] else {
             return Err("the first line has seven fields".into());
         };
-        let grains: Vec<[f64; 5]> = lines.map(grain).collect::<Result<_, _>>()?;
+        let grains: Vec<Inputs> = lines.map(grain).collect::<Result<_, _>>()?;
         if grains.len() as u64 != decimal(n)? {
             return Err(format!("{n} grains announced, {} given", grains.len()));
         }
@@ -72,7 +85,7 @@ pub fn hex(x: f64) -> String {
     format!("{:016X}", x.to_bits())
 }
 
-fn grain(line: &str) -> Result<[f64; 5], String> {
+fn grain(line: &str) -> Result<Inputs, String> {
     let floats: Vec<f64> = line.split(' ').map(float).collect::<Result<_, _>>()?;
     floats.try_into().map_err(|_| format!("a grain has five floats: {line}"))
 }
@@ -114,8 +127,7 @@ pub fn dump(s: &State) -> String {
     let mut out = String::new();
     writeln!(out, "clock {} mark {}", hex(s.clock), s.mark).unwrap();
     for (n, (g, home)) in s.grains.iter().zip(&s.homes).enumerate() {
-        let floats = [g.pos[0], g.pos[1], g.vel[0], g.vel[1], g.time, g.val];
-        write!(out, "g {n} {}", run_together(&floats)).unwrap();
+        write!(out, "g {n} {}", run_together(&g.floats())).unwrap();
         numbers(&mut out, home.live());
     }
     for (n, (members, queue)) in s.members.iter().zip(&s.queues).enumerate() {

@@ -20,22 +20,23 @@ pub fn seen(s: &State, out: &mut Vec<u64>) {
 }
 
 /// Everything that the tables hold, unused places too.
-pub fn held(s: &State, out: &mut Vec<u64>) {
-    out.clear();
+pub fn held(s: &State) -> Vec<u64> {
+    let mut out = Vec::new();
     out.extend(s.lengths.map(f64::to_bits));
     out.extend(s.periodic);
     out.extend([s.clock.to_bits(), s.mark, s.room]);
-    s.grains.iter().for_each(|g| grain(g, out));
+    s.grains.iter().for_each(|g| grain(g, &mut out));
     for row in s.homes.iter().chain(&s.members) {
         out.push(row.count);
         out.extend(&row.places);
     }
     for queue in &s.queues {
         out.push(queue.count);
-        queue.places.iter().for_each(|e| place(e, out));
+        queue.places.iter().for_each(|e| place(e, &mut out));
     }
     out.extend(&s.heap);
     out.extend(&s.look);
+    out
 }
 
 /// If every place that is not in use is zero, as a start and the runs after it leave them.
@@ -56,11 +57,16 @@ fn list(live: &[u64], out: &mut Vec<u64>) {
 }
 
 fn grain(g: &Grain, out: &mut Vec<u64>) {
-    out.extend([g.pos[0], g.pos[1], g.vel[0], g.vel[1], g.time, g.val].map(f64::to_bits));
+    out.extend(g.floats().map(f64::to_bits));
 }
 
 /// A place's numbers and floats, in table order.
 pub fn place(e: &Place, out: &mut Vec<u64>) {
     out.extend([e.kind, e.p, e.q, e.cell, e.time.to_bits()]);
     out.extend(e.floats().map(f64::to_bits));
+}
+
+/// Words as the programs of crates/ read them: 16 upper-case hex digits on a line each.
+pub fn lines(words: &[u64]) -> String {
+    words.iter().map(|w| format!("{w:016X}\n")).collect()
 }

@@ -5,8 +5,7 @@ use crate::lent::{junk, Lent};
 #[path = "../../bindings/rust/src/linked.rs"]
 mod linked;
 
-/// The number of a run that spent its budget.
-pub const SPENT: u64 = 11;
+pub use linked::SPENT;
 
 /// What a run answers.
 #[derive(Clone, Copy, Debug)]

@@ -1,8 +1,8 @@
 // Tables compared word for word: with a state's encoding, and with other tables.
 use crate::guarded::Word;
 use crate::lent::{junk, Lent, NAMES};
-use oracle::model::state::{Place, Row, State, HEAP, HOMES, MEMBERS};
-use oracle::tables::Tables;
+use oracle::model::state::{Place, Row, State};
+use oracle::tables::{Tables, FLOATS, HEAP, HOMES, MEMBERS, NUMBERS};
 use std::fmt;
 
 /// The first place of a table that does not hold what it should.
@@ -104,7 +104,7 @@ fn grains(t: &Lent, s: &State, beyond: Beyond) -> Result<(), Difference> {
     let mut at = Reading::new(NAMES[1], &t.grains);
     at.words([s.lengths[0], s.lengths[1], s.clock].map(f64::to_bits))?;
     for g in &s.grains {
-        at.words([g.pos[0], g.pos[1], g.vel[0], g.vel[1], g.time, g.val].map(f64::to_bits))?;
+        at.words(g.floats().map(f64::to_bits))?;
     }
     at.rest(beyond)
 }
@@ -114,7 +114,7 @@ fn queue(t: &Lent, s: &State, beyond: Beyond) -> Result<(), Difference> {
     for queue in &s.queues {
         at.word(queue.count)?;
         queue.live().iter().try_for_each(|e: &Place| at.words([e.kind, e.p, e.q, e.cell]))?;
-        at.zeros(4 * (s.room as usize - queue.live().len()))?;
+        at.zeros(NUMBERS * (s.room as usize - queue.live().len()))?;
     }
     at.rest(beyond)
 }
@@ -126,7 +126,7 @@ fn events(t: &Lent, s: &State, beyond: Beyond) -> Result<(), Difference> {
             at.word(e.time.to_bits())?;
             at.words(e.floats().map(f64::to_bits))?;
         }
-        at.zeros(10 * (s.room as usize - queue.live().len()))?;
+        at.zeros(FLOATS * (s.room as usize - queue.live().len()))?;
     }
     at.rest(beyond)
 }

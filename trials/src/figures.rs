@@ -1,4 +1,5 @@
 // What the differential runs count.
+use oracle::report::{head, parted, row, tally};
 use std::collections::BTreeMap;
 
 #[derive(Default)]
@@ -35,33 +36,26 @@ pub fn class(cells: usize) -> u64 {
     [9, 20, 64].into_iter().find(|&most| cells as u64 <= most).unwrap_or(256)
 }
 
-/// A tally as `number: how many, ..`.
-pub fn listed(tally: &BTreeMap<u64, u64>) -> String {
-    let entries: Vec<String> = tally.iter().map(|(number, many)| format!("{number}: {many}")).collect();
-    if entries.is_empty() {
-        "none".into()
-    } else {
-        entries.join(", ")
-    }
-}
-
 impl Figures {
     pub fn print(&self) {
-        let Figures { events, inside, splits, split_events, rates, .. } = self;
-        println!("starts: {}", self.starts);
-        println!("  refused, by number: {}", listed(&self.refused));
-        println!("  halted in the start, by number: {}", listed(&self.halted_at_start));
-        println!("events compared, whole tables after each: {events}");
-        println!("  inside the domain, with the published Rust: {inside}");
-        println!("  outside it, with the model: {}", events - inside);
-        println!("  by kind (docs/TABLES.md): {}", listed(&self.kinds));
-        println!("  by cells of the box, up to 9, 20, 64 and 256: {}", listed(&self.cells));
-        println!("runs of j+k, and of j and k: {splits}, over {split_events} events");
-        println!("changes of the rate: {rates}");
-        println!("runs that left the domain by a halt, by number: {}", listed(&self.halted));
-        println!("runs that left it by equal times, and were compared further: {}", self.equal_times);
-        println!("  of them halted later, by number: {}", listed(&self.halted_later));
-        println!("runs that came to their last event: {}", self.ended);
+        let count = |what: &str, many: u64| row(&[what, &parted(many)]);
+        let counts = |what: &str, counts: &BTreeMap<u64, u64>| row(&[what, &tally(counts)]);
+        head(&["What", "How many"]);
+        count("starts", self.starts);
+        counts("refused, by number", &self.refused);
+        counts("halted in the start, by number", &self.halted_at_start);
+        count("events compared, whole tables after each", self.events);
+        count("inside the domain, with the published Rust", self.inside);
+        count("outside it, with the model", self.events - self.inside);
+        counts("by kind (docs/TABLES.md)", &self.kinds);
+        counts("by cells of the box, up to 9, 20, 64 and 256", &self.cells);
+        count("runs of j+k, and of j and k, and of single events", self.splits);
+        count("events of these", self.split_events);
+        count("changes of the rate", self.rates);
+        counts("runs that left the domain by a halt, by number", &self.halted);
+        count("runs that left it by equal times, and were compared further", self.equal_times);
+        counts("of them halted later, by number", &self.halted_later);
+        count("runs that came to their last event", self.ended);
         println!("mismatches: {}", self.mismatches);
     }
 }

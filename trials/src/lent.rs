@@ -1,6 +1,7 @@
 // What a caller lends: the inputs, the five tables and the places for answers, each between pages that
 // nobody may touch.
 use crate::guarded::{Guarded, Side, Word};
+use oracle::model::state::INPUTS;
 use oracle::tables::{needed, Tables};
 
 /// What a slice may be longer than any counts need.
@@ -42,7 +43,7 @@ impl Default for Lent {
     fn default() -> Lent {
         let [lists, grains, queue, events, order] = needed(256, 256, 256).map(|most| most + MORE);
         let mut lent = Lent {
-            inputs: Guarded::new(5 * 256 + MORE),
+            inputs: Guarded::new(INPUTS * 256 + MORE),
             lists: Guarded::new(lists),
             grains: Guarded::new(grains),
             queue: Guarded::new(queue),

@@ -1,6 +1,5 @@
 // The starts that are tried: mostly small boxes with little room, whose tables are short, so that many
 // events can be compared; large ones now and then; and starts that are refused.
-use oracle::model::grid::cells_along;
 use oracle::random::Random;
 use oracle::starts::{random_rate, random_start, start_with};
 use oracle::text::Start;
@@ -103,6 +102,5 @@ fn refused_start(r: &mut Random) -> Start {
 
 /// About how many words the tables of a start have.
 pub fn words(start: &Start) -> u64 {
-    let cells = start.lengths.map(cells_along).iter().product::<usize>() as u64;
-    cells.saturating_mul(start.room.saturating_mul(14))
+    (start.cells() as u64).saturating_mul(start.room.saturating_mul(14))
 }

@@ -7,7 +7,6 @@ use crate::guarded::Side;
 use crate::lent::Lent;
 use crate::starts::{one_of, trial_rate, words};
 use oracle::domain::equal_times;
-use oracle::model::grid::cells_along;
 use oracle::model::run::{Started, Told};
 use oracle::model::state::State;
 use oracle::random::Random;
@@ -78,8 +77,7 @@ fn started(
     t: &mut Lent,
     figures: &mut Figures,
 ) -> Result<Option<State>, Fault> {
-    let cells = start.lengths.map(cells_along).iter().product::<usize>().min(256);
-    let need = needed(start.grains.len().min(256), cells, start.room.min(256) as usize);
+    let need = needed(start.grains.len().min(256), start.cells().min(256), start.room.min(256) as usize);
     t.place(need.map(|n| n + random.below(10) as usize), side(random));
     t.hand_in(&start.grains.concat(), side(random));
     t.spoil([0; 5]);

@@ -1,11 +1,11 @@
 // The trials can see a fault: whatever bit of a table is changed behind their back, they notice and name it;
 // and what touches memory beyond a lent table ends by a signal.
-use oracle::crafted::grain;
-use oracle::model::run::Started;
+use oracle::known::{grain, meeting};
+use oracle::model::state::Inputs;
 use oracle::random::Random;
 use oracle::tables::Tables;
 use oracle::text::Start;
-use trials::calls::Report;
+use trials::calls::{Report, SPENT};
 use trials::differential::smallest;
 use trials::equal::{holds_state, holds_tables, Beyond};
 use trials::figures::Figures;
@@ -14,14 +14,14 @@ use trials::hostile::{base, case, Tally};
 use trials::lent::{Lent, NAMES};
 use trials::walk::{follow, Fault, Ground};
 
-/// Two grains that meet, between walls in one direction; nothing is refused for a long while.
-fn meeting() -> Start {
-    Start::small([true, false], 16, &[grain(1.25, 4.75, 0.5, 0.25), grain(6.1, 4.6, -0.75, 0.3)])
+/// Two grains that meet, in tables with little room.
+fn small() -> Start {
+    Start { room: 16, ..meeting() }
 }
 
 /// The tables of a few events after the start, with some places beyond what is needed.
 fn lent() -> (Lent, Tables, oracle::model::state::State) {
-    let Started::Done(mut s) = meeting().model() else { unreachable!("an accepted start") };
+    let mut s = small().accepted();
     for _ in 0..9 {
         s.step(1.).expect("no refusal");
     }
@@ -34,7 +34,7 @@ fn lent() -> (Lent, Tables, oracle::model::state::State) {
     lent.queue[..tables.queue.len()].copy_from_slice(&tables.queue);
     lent.events[..tables.events.len()].copy_from_slice(&tables.events);
     lent.order[..tables.order.len()].copy_from_slice(&tables.order);
-    (lent, tables, *s)
+    (lent, tables, s)
 }
 
 #[test]
@@ -75,7 +75,7 @@ fn the_differential_run_notices_one_bit_at_its_event() {
     let (mut random, mut ground) = (Random(3), Ground::default());
     for walk in 0..200 {
         let mut quiet = Figures::default();
-        follow(&meeting(), walk, &mut ground, &mut quiet, &mut |_, _| ()).expect("nothing differs");
+        follow(&small(), walk, &mut ground, &mut quiet, &mut |_, _| ()).expect("nothing differs");
         assert!(quiet.events >= 40);
         let (at, table) = (1 + random.below(quiet.events), random.below(5) as usize);
         let mut place = 0;
@@ -85,7 +85,7 @@ fn the_differential_run_notices_one_bit_at_its_event() {
                 t.flip(table, place, random.below(64) as u32);
             }
         };
-        let outcome = follow(&meeting(), walk, &mut ground, &mut Figures::default(), &mut meddle);
+        let outcome = follow(&small(), walk, &mut ground, &mut Figures::default(), &mut meddle);
         let fault = outcome.expect_err("a bit was changed");
         assert_eq!(fault.events, at);
         let named = format!("table {}, place {place}:", NAMES[table]);
@@ -116,7 +116,7 @@ fn hostile_calls_notice_one_bit() {
 
 #[test]
 fn reports_differ_in_each_field() {
-    let report = Report { number: 11, clock: 0., done: 3 };
+    let report = Report { number: SPENT, clock: 0., done: 3 };
     assert!(report.same(&report));
     assert!(!report.same(&Report { number: 0, ..report }));
     assert!(!report.same(&Report { clock: -0., ..report }));
@@ -126,7 +126,7 @@ fn reports_differ_in_each_field() {
 #[test]
 fn a_reproduction_keeps_only_the_grains_it_needs() {
     let mut random = Random(5);
-    let grains: Vec<[f64; 5]> = (0..37).map(|_| grain(random.between(1., 8.), 4.5, 0., 0.)).collect();
+    let grains: Vec<Inputs> = (0..37).map(|_| grain(random.between(1., 8.), 4.5, 0., 0.)).collect();
     let start = Start::small([true, true], 64, &grains);
     let bad = [grains[4], grains[31]];
     let fault = || Fault { what: String::new(), events: 0 };

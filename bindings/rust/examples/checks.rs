@@ -1,6 +1,7 @@
-//! What the checks of a run cost at the largest tables: the time of a run with budget 0.
+//! What the checks of a run cost at the largest tables: the time of a run with budget 0, as a table.
 //!
 //!     cargo run --release --offline --example checks
+use fesolopi::tables::{FLOATS, HEAP, HOMES, LISTS_HEAD, MEMBERS, NUMBERS};
 use fesolopi::{Domain, Ending, Grain, Simulation, Tables};
 use std::time::Instant;
 
@@ -25,29 +26,28 @@ fn largest() -> Simulation {
 fn full(wide: usize) -> Simulation {
     let mut t: Tables = largest().into_tables();
     let groups = GRAINS / wide;
-    t.lists[6..].fill(0);
+    t.lists[LISTS_HEAD..].fill(0);
     t.queue.fill(0);
     for grain in 0..GRAINS {
-        let cells = (0..8).map(|n| (grain / wide + groups * n) as u64);
-        fill(&mut t.lists, 6 + 9 * grain, cells);
+        let cells = (0..HOMES).map(|n| (grain / wide + groups * n) as u64);
+        fill(&mut t.lists, LISTS_HEAD + (1 + HOMES) * grain, cells);
     }
-    for cell in 0..groups * 8 {
+    for cell in 0..groups * HOMES {
         let first = cell % groups * wide;
         let last = (first + wide - 1) as u64;
         let grains = (first..first + wide).map(|n| n as u64);
-        fill(&mut t.lists, 6 + 9 * GRAINS + 33 * cell, grains);
-        t.queue[(1 + 4 * ROOM) * cell] = ROOM as u64;
+        fill(&mut t.lists, LISTS_HEAD + (1 + HOMES) * GRAINS + (1 + MEMBERS) * cell, grains);
+        let queue = (1 + NUMBERS * ROOM) * cell;
+        t.queue[queue] = ROOM as u64;
         for place in 0..ROOM {
             let synchronisation = cell == 0 && place == 0;
             let numbers = if synchronisation { [5, 0, 0, 0] } else { [1, last - 1, last, 0] };
-            let queue = (1 + 4 * ROOM) * cell + 1 + 4 * place;
-            t.queue[queue..queue + 4].copy_from_slice(&numbers);
-            let events = 10 * (ROOM * cell + place);
-            t.events[events..events + 10].fill(1.);
+            t.queue[queue + 1 + NUMBERS * place..][..NUMBERS].copy_from_slice(&numbers);
+            t.events[FLOATS * (ROOM * cell + place)..][..FLOATS].fill(1.);
         }
     }
     for n in 0..CELLS {
-        (t.order[n], t.order[256 + n]) = (n as u8, n as u8);
+        (t.order[n], t.order[HEAP + n]) = (n as u8, n as u8);
     }
     Simulation::from_tables(t)
 }
@@ -71,20 +71,18 @@ fn measure(name: &str, mut simulation: Simulation) {
         assert_eq!((report.ending, report.events), (Ending::Spent, 0));
     }
     times.sort_by(f64::total_cmp);
-    println!(
-        "{name}: {listed} entries, {events} events; a run of budget 0: least {:.0}, median {:.0} microseconds",
-        times[0],
-        times[times.len() / 2]
-    );
+    println!("| {name} | {listed} | {events} | {:.0} | {:.0} |", times[0], times[times.len() / 2]);
 }
 
 fn main() {
+    println!("| Tables | Entries in lists | Events | Microseconds, least of 200 | median |");
+    println!("|---|---|---|---|---|");
     measure("a start", largest());
     let mut run = largest();
     for _ in 0..20 {
         run.run(1., 1_000_000).expect("a run that does not halt");
     }
     measure("after 20 synchronisations", run);
-    measure("every event place in use", full(8));
-    measure("64 cells with 32 grains each", full(32));
+    measure("made so that every event place is in use", full(8));
+    measure("made so that 64 cells list 32 grains each", full(32));
 }

@@ -6,6 +6,12 @@
 //!     cargo run --release --offline --example rounded
 use fesolopi::{Domain, Error, Grain, Simulation};
 
+// the oracle's generator, of which this needs a part
+#[allow(dead_code)]
+#[path = "../../../oracle/src/random.rs"]
+mod random;
+use random::Random;
+
 const SEED: u64 = 1;
 const STARTS: usize = 300;
 const GRAINS: usize = 200;
@@ -33,24 +39,6 @@ const KINDS: [Kind; 6] = [
     Kind { name: "full floats", scale: None, jitter: 0. },
     Kind { name: "1 decimal, jitter 0.001", scale: Some(10.), jitter: 0.001 },
 ];
-
-/// A small generator of random numbers (splitmix64), so that a seed gives the same starts everywhere.
-struct Random(u64);
-
-impl Random {
-    fn bits(&mut self) -> u64 {
-        self.0 = self.0.wrapping_add(0x9E37_79B9_7F4A_7C15);
-        let mut z = self.0;
-        z = (z ^ (z >> 30)).wrapping_mul(0xBF58_476D_1CE4_E5B9);
-        z = (z ^ (z >> 27)).wrapping_mul(0x94D0_49BB_1331_11EB);
-        z ^ (z >> 31)
-    }
-
-    /// A float from `low` to `high`, full width.
-    fn between(&mut self, low: f64, high: f64) -> f64 {
-        low + (high - low) * ((self.bits() >> 11) as f64 / (1u64 << 53) as f64)
-    }
-}
 
 fn coordinate(kind: &Kind, random: &mut Random) -> f64 {
     let any = random.between(0., LENGTH);

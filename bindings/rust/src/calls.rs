@@ -33,13 +33,7 @@ pub fn needed(lengths: [f64; 2], count: u64, room: u64) -> Tables {
     // the number tells no more than the zeros do
     linked::needed(lengths, count, room, &mut told);
     let [_, lists, grains, queue, events, order] = told.map(|length| length as usize);
-    Tables {
-        lists: vec![0; lists],
-        grains: vec![0.; grains],
-        queue: vec![0; queue],
-        events: vec![0.; events],
-        order: vec![0; order],
-    }
+    Tables::cleared([lists, grains, queue, events, order])
 }
 
 /// The square root, or 5.

@@ -1,4 +1,5 @@
 //! Pending events, as the queue and events tables hold them.
+use crate::tables::{FLOATS, NUMBERS};
 
 /// An event that a cell holds.
 #[derive(Clone, Copy, Debug, PartialEq)]
@@ -27,8 +28,8 @@ pub enum Event {
 }
 
 impl Pending {
-    /// The event of a place's four numbers and ten floats.
-    pub(crate) fn of(numbers: &[u64; 4], floats: &[f64; 10]) -> Pending {
+    /// The event of a place's numbers and floats.
+    pub(crate) fn of(numbers: &[u64; NUMBERS], floats: &[f64; FLOATS]) -> Pending {
         let &[kind, p, q, cell] = numbers;
         let &[time, a0, a1, b0, b1, c0, c1, d0, d1, value] = floats;
         let event = match kind {

@@ -25,14 +25,13 @@
 //! reads them gives nothing where there is nothing.
 #![deny(unsafe_code)]
 
-#[allow(unsafe_code)]
 mod calls;
-#[allow(unsafe_code)]
-mod linked;
 mod error;
 mod event;
+#[allow(unsafe_code)]
+mod linked;
 mod simulation;
-mod tables;
+pub mod tables;
 
 pub use error::{Error, Halt};
 pub use event::{Event, Pending};

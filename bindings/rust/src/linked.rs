@@ -4,6 +4,10 @@
 //! behind it are those of one lent table, that pointers are aligned and not null, and that nothing lent
 //! overlaps. Rust's references give all of that: each pointer below is made from one, its length from the
 //! same slice, and two `&mut` never overlap.
+
+/// The number of a run that spent its budget.
+pub const SPENT: u64 = 100;
+
 extern "C" {
     fn fesolopi_start(
         l0: f64,

@@ -2,7 +2,8 @@
 use crate::calls;
 use crate::error::{Error, Halt};
 use crate::event::Pending;
-use crate::tables::Tables;
+use crate::linked::SPENT;
+use crate::tables::{Tables, FLOATS, GRAIN, GRAINS_HEAD, HEAP, HOMES, LISTS_HEAD, MEMBERS, NUMBERS};
 
 /// A box.
 #[derive(Clone, Copy, Debug, PartialEq)]
@@ -84,7 +85,7 @@ impl Simulation {
         let (number, clock, events) = calls::run(&mut self.tables, rate, budget);
         match (number, Halt::of(number)) {
             (0, _) => Ok(Report { ending: Ending::Synchronised, clock, events }),
-            (11, _) => Ok(Report { ending: Ending::Spent, clock, events }),
+            (SPENT, _) => Ok(Report { ending: Ending::Spent, clock, events }),
             (2, _) => Err(Error::Count),
             (3, _) => Err(Error::Rate),
             (_, Some(by)) => Err(Error::Halted { by, clock, events }),
@@ -167,7 +168,7 @@ impl Simulation {
         if grain >= self.count() {
             return &[];
         }
-        self.row(at(6, grain, 9), 8)
+        self.row(at(LISTS_HEAD, grain, 1 + HOMES), HOMES)
     }
 
     /// The grains that a cell lists, in its order.
@@ -175,17 +176,18 @@ impl Simulation {
         if cell >= self.cells() {
             return &[];
         }
-        self.row(at(6, self.count(), 9).and_then(|base| at(base, cell, 33)), 32)
+        let cells = at(LISTS_HEAD, self.count(), 1 + HOMES);
+        self.row(cells.and_then(|base| at(base, cell, 1 + MEMBERS)), MEMBERS)
     }
 
     /// The events that a cell holds, in their order: the first is the next due.
     pub fn pending(&self, cell: u64) -> impl Iterator<Item = Pending> + '_ {
         let room = if cell < self.cells() { self.room() } else { 0 };
-        let base = room.checked_mul(4).and_then(|w| at(0, cell, w.checked_add(1)?));
+        let base = at(1, room, NUMBERS).and_then(|width| at(0, cell, width));
         let count = base.and_then(|b| self.tables.queue.get(b).copied()).unwrap_or(0).min(room);
         (0..count).map_while(move |n| {
-            let numbers = chunk(&self.tables.queue, at(base?.checked_add(1)?, n, 4)?)?;
-            let floats = chunk(&self.tables.events, at(at(0, cell, room.checked_mul(10)?)?, n, 10)?)?;
+            let numbers = chunk(&self.tables.queue, at(base?.checked_add(1)?, n, NUMBERS)?)?;
+            let floats = chunk(&self.tables.events, at(at(0, cell, at(0, room, FLOATS)?)?, n, FLOATS)?)?;
             Some(Pending::of(numbers, floats))
         })
     }
@@ -197,18 +199,18 @@ impl Simulation {
 
     /// For each cell, its index in the heap.
     pub fn lookups(&self) -> &[u8] {
-        self.places(256)
+        self.places(HEAP)
     }
 
     fn header(&self, place: usize) -> u64 {
         self.tables.lists.get(place).copied().unwrap_or(0)
     }
 
-    fn grain_floats(&self, index: u64) -> Option<&[f64; 6]> {
+    fn grain_floats(&self, index: u64) -> Option<&[f64; GRAIN]> {
         if index >= self.count() {
             return None;
         }
-        chunk(&self.tables.grains, at(3, index, 6)?)
+        chunk(&self.tables.grains, at(GRAINS_HEAD, index, GRAIN)?)
     }
 
     /// A row of the lists: a count, then its places. A count past them reads as all of them.
@@ -220,15 +222,15 @@ impl Simulation {
     }
 
     fn places(&self, from: usize) -> &[u8] {
-        let used = usize::try_from(self.cells()).unwrap_or(256).min(256);
+        let used = usize::try_from(self.cells()).unwrap_or(HEAP).min(HEAP);
         let rest = self.tables.order.get(from..).unwrap_or(&[]);
         &rest[..used.min(rest.len())]
     }
 }
 
 /// Place `base + index * width`, if there is such a number.
-fn at(base: usize, index: u64, width: u64) -> Option<usize> {
-    usize::try_from(index.checked_mul(width)?).ok()?.checked_add(base)
+fn at(base: usize, index: u64, width: usize) -> Option<usize> {
+    usize::try_from(index).ok()?.checked_mul(width)?.checked_add(base)
 }
 
 /// The `N` items from `from` on, if the table has them.

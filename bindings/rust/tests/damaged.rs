@@ -1,5 +1,8 @@
 //! Tables that no start gives: refused by 2 or 10 with nothing changed, and read without a panic.
+use fesolopi::tables::{FLOATS, HEAP, HOMES, LISTS_HEAD, MEMBERS, NUMBERS};
 use fesolopi::{Domain, Error, Grain, Simulation, Tables};
+
+const ROOM: usize = 16;
 
 /// Two grains in a box with walls in y, after three events.
 fn sound() -> Tables {
@@ -8,7 +11,7 @@ fn sound() -> Tables {
         Grain { position: [1.25, 4.75], velocity: [0.5, 0.25], value: 0.5 },
         Grain { position: [6.1, 4.6], velocity: [-0.75, 0.3], value: 0.5 },
     ];
-    let mut simulation = Simulation::start(&domain, 16, &grains).unwrap();
+    let mut simulation = Simulation::start(&domain, ROOM as u64, &grains).unwrap();
     simulation.run(1., 1).unwrap();
     simulation.run(1., 2).unwrap();
     simulation.into_tables()
@@ -29,13 +32,14 @@ fn changed(change: impl Fn(&mut Tables)) -> Tables {
 }
 
 /// Where the lists of the grains and of the cells begin.
-const GRAINS: usize = 6;
-const CELLS: usize = 6 + 2 * 9;
+const GRAINS: usize = LISTS_HEAD;
+const CELLS: usize = LISTS_HEAD + 2 * (1 + HOMES);
 
 /// Where the numbers and the floats of an event begin that is the first of several.
 fn event(t: &Tables) -> (usize, usize) {
-    let cell = (1..9).find(|c| t.queue[c * 65] > 1).unwrap();
-    (cell * 65 + 1, cell * 160)
+    let width = 1 + NUMBERS * ROOM;
+    let cell = (1..9).find(|c| t.queue[c * width] > 1).unwrap();
+    (cell * width + 1, cell * FLOATS * ROOM)
 }
 
 #[test]
@@ -54,12 +58,12 @@ fn a_standing_fact_broken() {
         ("an event count past its places", changed(|t| t.queue[0] = 17)),
         ("a cell number past the cells", changed(|t| t.lists[GRAINS + 1] = 9)),
         ("a grain in no cell", changed(|t| t.lists[GRAINS] = 0)),
-        ("a grain number past the grains", changed(|t| t.lists[CELLS + 33 * 3 + 1] = 2)),
+        ("a grain number past the grains", changed(|t| t.lists[CELLS + (1 + MEMBERS) * 3 + 1] = 2)),
         ("a value not finite", changed(|t| t.grains[8] = f64::INFINITY)),
         ("a clock not finite", changed(|t| t.grains[2] = f64::NAN)),
         ("a clock past an event", changed(|t| t.grains[2] = 1e9)),
         ("a grain ahead of the clock", changed(|t| t.grains[7] = t.grains[2].next_up())),
-        ("heap and lookups not inverse", changed(|t| t.order.swap(256, 257))),
+        ("heap and lookups not inverse", changed(|t| t.order.swap(HEAP, HEAP + 1))),
         ("a heap place past the cells", changed(|t| t.order[3] = 9)),
         ("a second synchronisation", changed(|t| t.queue[numbers] = 5)),
         ("a kind that is none", changed(|t| t.queue[numbers] = 6)),
@@ -80,7 +84,7 @@ fn a_heap_out_of_order() {
     let tables = changed(|t| {
         t.order.swap(0, 8);
         let (first, last) = (t.order[0] as usize, t.order[8] as usize);
-        (t.order[256 + first], t.order[256 + last]) = (0, 8);
+        (t.order[HEAP + first], t.order[HEAP + last]) = (0, 8);
     });
     assert_eq!(answer(tables, 1.), Err(Error::Fact));
 }

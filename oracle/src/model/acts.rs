@@ -22,7 +22,8 @@ impl State {
         }
     }
 
-    fn change_places(&mut self, i: usize, j: usize) {
+    /// Exchanges two heap places, their lookups with them.
+    pub fn change_places(&mut self, i: usize, j: usize) {
         self.heap.swap(i, j);
         self.look[self.heap[i] as usize] = i as u64;
         self.look[self.heap[j] as usize] = j as u64;
@@ -54,7 +55,7 @@ impl State {
 
     /// Stores a grain's new numbers: 5.
     pub fn store(&mut self, grain: u64, new: Grain) -> Act {
-        if !finite(&[new.pos[0], new.pos[1], new.vel[0], new.vel[1], new.time, new.val]) {
+        if !finite(&new.floats()) {
             return Err(5);
         }
         self.grains[grain as usize] = new;

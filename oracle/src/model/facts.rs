@@ -1,5 +1,5 @@
 // The standing facts, tested on any state whose counts are in range.
-use super::grid::cells_along;
+use super::grid::{box_in_range, cells_along};
 use super::state::{Place, Row, State, COLLISION, NEIGHBOUR, OUT, SYNC, WALL};
 
 type Fact = (fn(&State) -> bool, &'static str);
@@ -8,7 +8,7 @@ type Fact = (fn(&State) -> bool, &'static str);
 pub fn broken(s: &State) -> Option<&'static str> {
     let facts: [Fact; 13] = [
         (no_mark, "no mark"),
-        (box_in_range, "box lengths and flags in range"),
+        (box_stands, "box lengths and flags in range"),
         (cells_of_box, "cells as the box gives them"),
         (counts_in_range, "list counts in range"),
         (indices_in_range, "indices in range"),
@@ -28,8 +28,8 @@ fn no_mark(s: &State) -> bool {
     s.mark == 0
 }
 
-fn box_in_range(s: &State) -> bool {
-    s.lengths.iter().all(|&l| (9. ..=48.).contains(&l)) && s.periodic.iter().all(|&p| p < 2)
+fn box_stands(s: &State) -> bool {
+    box_in_range(s.lengths) && s.periodic.iter().all(|&p| p < 2)
 }
 
 fn cells_of_box(s: &State) -> bool {
@@ -61,7 +61,7 @@ fn indices_in_range(s: &State) -> bool {
 fn numbers_finite(s: &State) -> bool {
     let all = |x: &[f64]| x.iter().all(|f| f.is_finite());
     s.clock.is_finite()
-        && s.grains.iter().all(|g| all(&g.pos) && all(&g.vel) && all(&[g.time, g.val]))
+        && s.grains.iter().all(|g| all(&g.floats()))
         && s.queues.iter().flat_map(|r| r.live()).all(|e| e.time.is_finite() && all(&e.floats()))
 }
 

@@ -10,6 +10,11 @@ pub enum Edge {
     Positive,
 }
 
+/// If a box's lengths are in range.
+pub fn box_in_range(lengths: [f64; 2]) -> bool {
+    lengths.iter().all(|l| (9. ..=48.).contains(l))
+}
+
 /// Cells in one direction: length/3 cut to a whole number, and at least 3.
 pub fn cells_along(length: f64) -> usize {
     let whole = (length / CELL_SIZE) as usize;

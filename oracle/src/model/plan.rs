@@ -8,7 +8,7 @@ pub type Plan = Result<Option<Place>, u64>;
 const RESTITUTION: f64 = 0.99;
 const SMALL: f64 = 2.220446049250313e-16; // 2^-52
 
-pub fn dot(u: [f64; 2], v: [f64; 2]) -> f64 {
+fn dot(u: [f64; 2], v: [f64; 2]) -> f64 {
     u[0] * v[0] + u[1] * v[1]
 }
 

@@ -1,8 +1,12 @@
 // The public calls: start and run, with their checks in document 01's order.
 use super::acts::Act;
 use super::facts::broken;
-use super::grid::{cells_along, from_p_to_c};
-use super::state::{Grain, Row, State, HEAP, HOMES, MEMBERS};
+use super::grid::{box_in_range, cells_along, from_p_to_c, RADIUS};
+use super::state::{Grain, Inputs, Row, State, HEAP, HOMES, MEMBERS};
+
+/// The ends of the sync rate's range.
+pub const LEAST_RATE: f64 = 1. / 1_048_576.;
+pub const LARGEST_RATE: f64 = 1_048_576.;
 
 /// What a start answers: a number with the grain that 4 names, or a state, which may be halted.
 pub enum Started {
@@ -38,9 +42,9 @@ pub fn counts_in_range(grains: usize, cells: usize, room: u64) -> bool {
 }
 
 /// If a grain's start numbers x, y, vx, vy, val are in range.
-fn accepted(lengths: [f64; 2], periodic: [bool; 2], grain: &[f64; 5]) -> bool {
+fn accepted(lengths: [f64; 2], periodic: [bool; 2], grain: &Inputs) -> bool {
     let inside = |dim: usize| {
-        let (low, high) = if periodic[dim] { (0., lengths[dim]) } else { (0.5, lengths[dim] - 0.5) };
+        let (low, high) = if periodic[dim] { (0., lengths[dim]) } else { (RADIUS, lengths[dim] - RADIUS) };
         low <= grain[dim] && grain[dim] <= high
     };
     let speed = |v: f64| (-1024. ..=1024.).contains(&v);
@@ -48,8 +52,8 @@ fn accepted(lengths: [f64; 2], periodic: [bool; 2], grain: &[f64; 5]) -> bool {
 }
 
 /// Start: checks 1, 2, 4; then the grains with their entries, and the first events.
-pub fn start(lengths: [f64; 2], periodic: [bool; 2], room: u64, grains: &[[f64; 5]]) -> Started {
-    if !lengths.iter().all(|l| (9. ..=48.).contains(l)) {
+pub fn start(lengths: [f64; 2], periodic: [bool; 2], room: u64, grains: &[Inputs]) -> Started {
+    if !box_in_range(lengths) {
         return Started::Refused(1, None);
     }
     let cells = cells_along(lengths[0]) * cells_along(lengths[1]);
@@ -76,10 +80,11 @@ pub fn start(lengths: [f64; 2], periodic: [bool; 2], room: u64, grains: &[[f64; 
 }
 
 /// The acts of a start: each grain's numbers, then its entries; after the last, the first events.
-fn fill(s: &mut State, grains: &[[f64; 5]]) -> Act {
-    for (n, &[x, y, vx, vy, val]) in grains.iter().enumerate() {
-        s.store(n as u64, Grain { pos: [x, y], vel: [vx, vy], time: 0., val })?;
-        for cell in from_p_to_c(s.lengths, [x, y]) {
+fn fill(s: &mut State, grains: &[Inputs]) -> Act {
+    for (n, inputs) in grains.iter().enumerate() {
+        let grain = Grain::given(inputs, 0.);
+        s.store(n as u64, grain)?;
+        for cell in from_p_to_c(s.lengths, grain.pos) {
             s.enter(n as u64, cell)?;
         }
     }
@@ -95,7 +100,7 @@ impl State {
         if (5..=9).contains(&self.mark) {
             return Err(self.mark);
         }
-        if !(1. / 1_048_576. ..=1_048_576.).contains(&rate) {
+        if !(LEAST_RATE..=LARGEST_RATE).contains(&rate) {
             return Err(3);
         }
         if broken(self).is_some() {

@@ -12,12 +12,29 @@ pub const MEMBERS: usize = 32;
 pub const HOMES: usize = 8;
 pub const HEAP: usize = 256;
 
+/// What a start is given of a grain: x, y, vx, vy, val.
+pub const INPUTS: usize = 5;
+pub type Inputs = [f64; INPUTS];
+
 #[derive(Clone, Copy, Default)]
 pub struct Grain {
     pub pos: [f64; 2],
     pub vel: [f64; 2],
     pub time: f64,
     pub val: f64,
+}
+
+impl Grain {
+    /// A grain that a start is given, at a time.
+    pub fn given(&[x, y, vx, vy, val]: &Inputs, time: f64) -> Grain {
+        Grain { pos: [x, y], vel: [vx, vy], time, val }
+    }
+
+    /// The floats, in table order.
+    pub fn floats(&self) -> [f64; 6] {
+        let Grain { pos, vel, time, val } = *self;
+        [pos[0], pos[1], vel[0], vel[1], time, val]
+    }
 }
 
 /// A place for one pending event. Collision: a, b positions and c, d velocities of p and q, val the mean

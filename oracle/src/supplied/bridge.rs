@@ -13,8 +13,8 @@ use super::event::wall_reflection::WallReflection;
 use super::event::{Event, EventType};
 use super::particle::{from_p_to_c, Particle, RADIUS};
 use super::{Domain, Simulator, NDIMS};
-use crate::leaves::Leaf;
-use crate::model::state::{Grain, Place, Row, State, COLLISION, NEIGHBOUR, OUT, SYNC, WALL};
+use crate::leaf::Leaf;
+use crate::model::state::{Grain, Inputs, Place, Row, State, COLLISION, NEIGHBOUR, OUT, SYNC, WALL};
 use crate::rust::Published;
 use crate::text::Start;
 
@@ -23,10 +23,10 @@ pub fn init_particles(
     domain: &Domain,
     ncells: &[usize; NDIMS],
     cells: &[Rc<RefCell<Cell>>],
-    grains: &[[f64; 5]],
+    grains: &[Inputs],
     time: f64,
 ) -> Vec<Rc<RefCell<Particle>>> {
-    let enter = |(index, grain): (usize, &[f64; 5])| {
+    let enter = |(index, grain): (usize, &Inputs)| {
         let [x, y, vx, vy, val] = *grain;
         let (pos, vel) = (MyVec::new([x, y]), MyVec::new([vx, vy]));
         let cells_of = from_p_to_c(&domain.lengths, ncells, RADIUS, &pos);
@@ -48,7 +48,7 @@ pub fn find_minimum_distance(_: &Domain, _: MyVec, _: MyVec) -> f64 {
 
 impl Published for Simulator {
     fn start(start: &Start) -> Simulator {
-        let grains: Vec<[f64; 5]> = start.grains.clone();
+        let grains: Vec<Inputs> = start.grains.clone();
         Simulator::new(start.rate, start.lengths, start.periodic, &grains)
     }
 

@@ -9,10 +9,11 @@ mod starts;
 mod tables;
 mod values;
 
-use crate::figures::listed;
+use crate::calls::SPENT;
 use crate::lent::Lent;
 use base::Base;
 use oracle::random::Random;
+use oracle::report::{head, parted, row, tally};
 use std::collections::BTreeMap;
 use std::ffi::c_int;
 use std::sync::atomic::{AtomicU64, Ordering};
@@ -48,15 +49,19 @@ impl Tally {
     }
 
     fn print(&self) {
+        head(&["Calls", "How many", &format!("Answers by number; {SPENT} is a budget spent")]);
         for (kind, answers) in &self.kinds {
-            println!("  {kind}: {} calls; {}", answers.values().sum::<u64>(), listed(answers));
+            row(&[kind, parted(answers.values().sum()).as_str(), &tally(answers)]);
         }
         let mut all = BTreeMap::new();
         for (answer, many) in self.kinds.values().flatten() {
             *all.entry(*answer).or_default() += many;
         }
-        println!("  all: {} calls; {}", self.calls(), listed(&all));
-        println!("  NaNs in the tables after a run, each with the bits that it should have: {}", self.nans);
+        row(&["all", &parted(self.calls()), &tally(&all)]);
+        println!(
+            "NaNs in the tables after a run, each with the bits that it should have: {}",
+            parted(self.nans)
+        );
     }
 }
 
@@ -115,7 +120,7 @@ pub fn hostile(seconds: u64, seed: u64) -> bool {
         }
         wrong += u64::from(!passes(seed, number, &block, &mut lent, &mut tally));
     }
-    println!("seed {seed}, {seconds} seconds; answers by number, 11 is a budget spent");
+    println!("seed {seed}, {seconds} seconds");
     tally.print();
     println!("wrong answers or tables: {wrong}");
     wrong == 0

@@ -1,9 +1,13 @@
 // The two calls beside start and run: the lengths needed, and the square root.
+use super::starts::cells;
 use super::values::{bound, float};
 use super::{Outcome, Trial};
 use crate::calls;
 use crate::starts::one_of;
-use oracle::model::grid::cells_along;
+use oracle::model::grid::box_in_range;
+use oracle::model::plan::root;
+use oracle::model::run::counts_in_range;
+use oracle::model::state::INPUTS;
 use oracle::tables::needed;
 
 impl Trial<'_> {
@@ -15,18 +19,19 @@ impl Trial<'_> {
         });
         let count = one_of([r.below(257), bound(r), r.bits()], r);
         let room = one_of([16 + r.below(241), bound(r), r.bits()], r);
-        let number = if !lengths.iter().all(|l| (9. ..=48.).contains(l)) {
+        let cells = cells(lengths);
+        let grains = usize::try_from(count).unwrap_or(usize::MAX);
+        let number = if !box_in_range(lengths) {
             1
-        } else if count > 256 || !(16..=256).contains(&room) {
+        } else if !counts_in_range(grains, cells, room) {
             2
         } else {
             0
         };
         let mut places = [0; 6];
         if number == 0 {
-            let cells = cells_along(lengths[0]) * cells_along(lengths[1]);
-            let tables = needed(count as usize, cells, room as usize).map(|n| n as u64);
-            places[0] = 5 * count;
+            let tables = needed(grains, cells, room as usize).map(|n| n as u64);
+            places[0] = INPUTS as u64 * count;
             places[1..].copy_from_slice(&tables);
         }
         let told = calls::needed(lengths, count, room);
@@ -43,7 +48,7 @@ impl Trial<'_> {
         let r = &mut self.random;
         let d = float(r, 2., &[]);
         let d = if r.once_in(2) { d.abs() } else { d };
-        let expected = if d.is_nan() || d < 0. { (5, 0.) } else { (0, d.sqrt()) };
+        let expected = root(d).map_or_else(|number| (number, 0.), |found| (0, found));
         let told = calls::square_root(self.lent, d);
         self.tally.count("square root", told.0);
         if (told.0, told.1.to_bits()) != (expected.0, expected.1.to_bits()) {

@@ -1,8 +1,8 @@
 // The kinds of places that tables have, and one number changed in a place of a kind.
 use super::values::{float, number};
-use oracle::model::state::{State, HEAP, HOMES, MEMBERS};
+use oracle::model::state::State;
 use oracle::random::Random;
-use oracle::tables::{needed, Tables};
+use oracle::tables::{needed, Tables, FLOATS, GRAIN, GRAINS_HEAD, HEAP, HOMES, LISTS_HEAD, MEMBERS, NUMBERS};
 
 const KINDS: [&str; 30] = [
     "run, changed: mark",
@@ -94,7 +94,7 @@ fn place(s: &State, t: &Tables, kind: usize, r: &mut Random) -> Option<At> {
         12 => Some((1, 2)),
         13..=16 => {
             let field = [r.below(2), 2 + r.below(2), 4, 5][kind - 13] as usize;
-            below(r, s.grains.len()).map(|grain| (1, 3 + 6 * grain + field))
+            below(r, s.grains.len()).map(|grain| (1, GRAINS_HEAD + GRAIN * grain + field))
         }
         17..=22 => queue(s, kind - 17, r),
         23..=25 => event(s, kind - 23, r),
@@ -110,7 +110,7 @@ fn place(s: &State, t: &Tables, kind: usize, r: &mut Random) -> Option<At> {
 /// Of a grain's list: its count, a place in use, an unused place.
 fn home(s: &State, what: usize, r: &mut Random) -> Option<At> {
     let grain = below(r, s.grains.len())?;
-    let at = 6 + (1 + HOMES) * grain;
+    let at = LISTS_HEAD + (1 + HOMES) * grain;
     if what == 0 {
         return Some((0, at));
     }
@@ -120,7 +120,7 @@ fn home(s: &State, what: usize, r: &mut Random) -> Option<At> {
 /// The same of a cell's list.
 fn member(s: &State, what: usize, r: &mut Random) -> Option<At> {
     let cell = below(r, s.members.len())?;
-    let at = 6 + (1 + HOMES) * s.grains.len() + (1 + MEMBERS) * cell;
+    let at = LISTS_HEAD + (1 + HOMES) * s.grains.len() + (1 + MEMBERS) * cell;
     if what == 0 {
         return Some((0, at));
     }
@@ -130,13 +130,13 @@ fn member(s: &State, what: usize, r: &mut Random) -> Option<At> {
 /// Of a cell's events: their count, one of the four numbers of a place in use, a number of an unused one.
 fn queue(s: &State, what: usize, r: &mut Random) -> Option<At> {
     let (cell, room) = (below(r, s.queues.len())?, s.room as usize);
-    let at = (1 + 4 * room) * cell;
+    let at = (1 + NUMBERS * room) * cell;
     let number = match what {
         0 => return Some((2, at)),
         1..=4 => what - 1,
-        _ => r.below(4) as usize,
+        _ => r.below(NUMBERS as u64) as usize,
     };
-    in_row(r, what < 5, s.queues[cell].count, room).map(|n| (2, at + 1 + 4 * n + number))
+    in_row(r, what < 5, s.queues[cell].count, room).map(|n| (2, at + 1 + NUMBERS * n + number))
 }
 
 /// The time or a float of a place in use, or one of an unused place.
@@ -144,10 +144,10 @@ fn event(s: &State, what: usize, r: &mut Random) -> Option<At> {
     let (cell, room) = (below(r, s.queues.len())?, s.room as usize);
     let float = match what {
         0 => 0,
-        1 => 1 + r.below(9) as usize,
-        _ => r.below(10) as usize,
+        1 => 1 + r.below(FLOATS as u64 - 1) as usize,
+        _ => r.below(FLOATS as u64) as usize,
     };
-    in_row(r, what < 2, s.queues[cell].count, room).map(|n| (3, 10 * (room * cell + n) + float))
+    in_row(r, what < 2, s.queues[cell].count, room).map(|n| (3, FLOATS * (room * cell + n) + float))
 }
 
 /// A heap place, a lookup, or either past the cells.

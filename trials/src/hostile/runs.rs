@@ -11,10 +11,13 @@ use crate::guarded::Side;
 use crate::starts::one_of;
 use oracle::model::run::Told;
 use oracle::mutate::mutate;
-use oracle::tables::Tables;
+use oracle::tables::{Tables, GRAINS_HEAD, LISTS_HEAD};
 
 /// Budgets above this are used only where the run ends earlier by itself.
 const MOST: u32 = 400;
+
+/// Places ahead of what each table lists.
+const HEADS: [usize; 5] = [LISTS_HEAD, GRAINS_HEAD, 0, 0, 0];
 
 impl Trial<'_> {
     pub fn run(&mut self, base: &Base) -> Outcome {
@@ -62,12 +65,12 @@ impl Trial<'_> {
                 "run, tables of one byte or of noise"
             }
             30 => {
-                (0..5).for_each(|table| noise(&mut t, table, [6, 3, 0, 0, 0][table], r));
+                (0..5).for_each(|table| noise(&mut t, table, HEADS[table], r));
                 "run, noise behind true headers"
             }
             31 => {
                 let table = r.below(5) as usize;
-                noise(&mut t, table, [6, 3, 0, 0, 0][table], r);
+                noise(&mut t, table, HEADS[table], r);
                 "run, one table of noise"
             }
             _ => {

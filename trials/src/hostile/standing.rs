@@ -108,8 +108,7 @@ fn exchange(s: &mut State, i: usize, r: &mut Random) {
     let j = r.below(s.members.len() as u64) as usize;
     let (a, b) = (s.heap[i] as usize, s.heap[j] as usize);
     if s.head(a).to_bits() == s.head(b).to_bits() {
-        s.heap.swap(i, j);
-        (s.look[a], s.look[b]) = (j as u64, i as u64);
+        s.change_places(i, j);
     }
 }
 

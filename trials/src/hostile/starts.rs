@@ -8,7 +8,7 @@ use crate::guarded::Side;
 use crate::starts::{one_of, small_start};
 use oracle::model::grid::cells_along;
 use oracle::model::run::{counts_in_range, start, Started};
-use oracle::model::state::State;
+use oracle::model::state::{Inputs, State, INPUTS};
 use oracle::random::Random;
 use oracle::tables::{needed, Tables};
 
@@ -99,13 +99,14 @@ impl Trial<'_> {
     }
 }
 
-fn cells(counts: &Counts) -> usize {
-    counts.lengths.map(|l| cells_along(l).min(16)).iter().product()
+/// How many cells the box has, and no more than one in range can have.
+pub fn cells(lengths: [f64; 2]) -> usize {
+    lengths.map(|l| cells_along(l).min(16)).iter().product()
 }
 
 /// What the counts need, as far as they are in range.
 fn exact(counts: &Counts) -> [usize; 5] {
-    needed(counts.count.min(256) as usize, cells(counts), counts.room.min(256) as usize)
+    needed(counts.count.min(256) as usize, cells(counts.lengths), counts.room.min(256) as usize)
 }
 
 /// What the model answers: the number, the grain that it names, the state if the start is accepted.
@@ -115,14 +116,14 @@ fn expected(handed: &Handed) -> (u64, u64, Option<Box<State>>) {
         return (1, 0, None);
     }
     let grains = usize::try_from(*count).unwrap_or(usize::MAX);
-    if !counts_in_range(grains, cells(&handed.counts), *room) || inputs.len() < 5 * grains {
+    if !counts_in_range(grains, cells(*lengths), *room) || inputs.len() < INPUTS * grains {
         return (2, 0, None);
     }
     if handed.lengths.iter().zip(exact(&handed.counts)).any(|(&has, needs)| has < needs) {
         return (2, 0, None);
     }
-    let grains: Vec<[f64; 5]> =
-        inputs.chunks_exact(5).take(grains).map(|g| g.try_into().expect("five floats")).collect();
+    let grains: Vec<Inputs> =
+        inputs.chunks_exact(INPUTS).take(grains).map(|g| g.try_into().expect("a grain's")).collect();
     match start(*lengths, *periodic, *room, &grains) {
         Started::Refused(number, grain) => (number, grain.unwrap_or(0) as u64, None),
         Started::Done(s) => (s.mark, 0, Some(s)),
@@ -157,7 +158,7 @@ fn anything(handed: &mut Handed, r: &mut Random) {
     c.room = one_of([c.room, 16 + r.below(17), bound(r), r.bits()], r);
     let need = exact(c);
     handed.lengths = need.map(|n| if r.once_in(6) { length(r, n) } else { n });
-    let new = one_of([handed.inputs.len(), 5 * r.below(12) as usize], r);
+    let new = one_of([handed.inputs.len(), INPUTS * r.below(12) as usize], r);
     handed.inputs.resize_with(new, || r.between(0.5, 1.));
     if r.once_in(3) {
         handed.inputs.fill_with(|| f64::from_bits(r.bits()));

@@ -1,4 +1,5 @@
 // Numbers, floats, rates, budgets and lengths of every kind.
+use oracle::model::run::{LARGEST_RATE, LEAST_RATE};
 use oracle::random::Random;
 use oracle::starts::random_rate;
 
@@ -60,7 +61,7 @@ pub fn nan(r: &mut Random) -> f64 {
 
 /// A rate, in range for the most part.
 pub fn rate(r: &mut Random) -> f64 {
-    let (low, high) = (1. / 1_048_576., 1_048_576.);
+    let (low, high) = (LEAST_RATE, LARGEST_RATE);
     match r.below(16) {
         0 => r.pick(&[low, high, low.next_down(), high.next_up(), low.next_up(), high.next_down()]),
         1 => float(r, 1., &[]),

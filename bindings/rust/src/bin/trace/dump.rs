@@ -11,6 +11,7 @@
 //!     heap : C C ..           as many places as there are cells
 //!     look : N N ..
 use crate::start::{decimal, float};
+use fesolopi::tables::{FLOATS, GRAIN, GRAINS_HEAD, HEAP, HOMES, LISTS_HEAD, MEMBERS, NUMBERS};
 use fesolopi::{Event, Pending, Simulation, Tables};
 use std::fmt::{Display, Write};
 
@@ -77,8 +78,8 @@ fn hex(floats: &[f64]) -> String {
 /// Puts a dump's state into the tables of a start with the same box, counts and room.
 pub fn put(text: &str, tables: &mut Tables) -> Result<(), String> {
     let [_, grains, _, room, ..] = tables.lists[..] else { return Err("no started tables".into()) };
-    let members = 6 + 9 * grains as usize;
-    tables.lists[6..].fill(0);
+    let members = LISTS_HEAD + (1 + HOMES) * grains as usize;
+    tables.lists[LISTS_HEAD..].fill(0);
     tables.queue.fill(0);
     tables.events.fill(0.);
     let mut cell = 0;
@@ -93,19 +94,16 @@ pub fn put(text: &str, tables: &mut Tables) -> Result<(), String> {
             }
             ["g", n, digits] => {
                 let n = decimal(n)? as usize;
-                row(&mut tables.lists, 6 + 9 * n, &items).and(copy(
-                    &mut tables.grains,
-                    3 + 6 * n,
-                    &floats(digits)?,
-                ))
+                let listed = row(&mut tables.lists, LISTS_HEAD + (1 + HOMES) * n, &items);
+                listed.and(copy(&mut tables.grains, GRAINS_HEAD + GRAIN * n, &floats(digits)?))
             }
             ["c", n] => {
                 cell = decimal(n)? as usize;
-                row(&mut tables.lists, members + 33 * cell, &items)
+                row(&mut tables.lists, members + (1 + MEMBERS) * cell, &items)
             }
             ["e", time, ref rest @ ..] => append(tables, room as usize, cell, float(time)?, rest)?,
             ["heap"] => bytes(&mut tables.order, 0, &items),
-            ["look"] => bytes(&mut tables.order, 256, &items),
+            ["look"] => bytes(&mut tables.order, HEAP, &items),
             _ => None,
         };
         known.ok_or_else(|| format!("not a line of such a dump: {text}"))?;
@@ -128,19 +126,16 @@ fn append(t: &mut Tables, room: usize, cell: usize, time: f64, words: &[&str]) -
         all = vec![x, y, 0., 0., vx, vy, 0., 0., value];
     }
     // a collision's mean value stands twice
-    all.truncate(9);
-    let base = (1 + 4 * room) * cell;
+    all.truncate(FLOATS - 1);
+    let base = (1 + NUMBERS * room) * cell;
     let Some(count) = t.queue.get_mut(base).filter(|count| (**count as usize) < room) else {
         return Ok(None);
     };
     let place = *count as usize;
     *count += 1;
     all.insert(0, time);
-    Ok(copy(&mut t.queue, base + 1 + 4 * place, &numbers).and(copy(
-        &mut t.events,
-        10 * (room * cell + place),
-        &all,
-    )))
+    let put = copy(&mut t.queue, base + 1 + NUMBERS * place, &numbers);
+    Ok(put.and(copy(&mut t.events, FLOATS * (room * cell + place), &all)))
 }
 
 /// A row of a list: its count, then its items.

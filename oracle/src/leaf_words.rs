@@ -1,13 +1,17 @@
-// `oracle leaves`: the vectors of single schedulings, steppings, cells and boxes as words, 16 upper-case hex
-// digits on a line each, for the program of the crate leaves; its first lines give the form. Beside the
-// vectors stand cases written by hand: document 01's examples that are run, and refusals by 5.
-use crate::crafted::grain;
-use crate::leaves::Leaf;
+// `oracle leaves`: single schedulings, steppings, cells and boxes with what is to be found, as words, 16 upper-case hex digits on a line each,
+// for the program of the crate leaves; its first lines give the form. They are drawn at random and found by the Rust with document 01's rules and
+// the model alike; beside them stand cases written by hand: document 01's examples that are run, and refusals by 5.
+use crate::known::grain;
+use crate::leaf::{random_leaf, random_spot, random_stepping, Leaf, Spot, Stepping};
+use crate::leaves::{agreed, agreed_spot, agreed_stepping};
 use crate::model::plan::Plan;
 use crate::model::run::{start, Started};
 use crate::model::state::{Place, COLLISION, NEIGHBOUR, OUT, WALL};
-use crate::vectors::{schedulings, spot_cases, stepping_cases, Scheduling};
-use crate::words::place;
+use crate::random::Random;
+use crate::words::{lines, place};
+
+/// Cases of each kind.
+const CASES: usize = 300;
 
 pub fn leaves() -> Result<(), String> {
     let mut out = Vec::new();
@@ -35,13 +39,8 @@ pub fn leaves() -> Result<(), String> {
         floats(&lengths, &mut out);
         out.push(u64::from(refused));
     }
-    print(&out);
+    print!("{}", lines(&out));
     Ok(())
-}
-
-fn print(words: &[u64]) {
-    let text: String = words.iter().map(|w| format!("{w:016X}\n")).collect();
-    print!("{text}");
 }
 
 fn floats(list: &[f64], out: &mut Vec<u64>) {
@@ -69,6 +68,51 @@ fn scheduling(kind: u64, (leaf, dim, plan): &Scheduling, out: &mut Vec<u64>) {
     }
 }
 
+// ---- drawn
+
+/// A leaf, the direction of the scheduling, and what is found.
+type Scheduling = (Leaf, usize, Plan);
+
+fn schedulings(kind: u64) -> Result<Vec<Scheduling>, String> {
+    let mut random = Random(100 + kind);
+    let mut all = Vec::new();
+    // as many cases with an event as without
+    let (mut due, mut none) = (0, 0);
+    while all.len() < CASES {
+        let leaf = random_leaf(&mut random);
+        let dim = random.below(2) as usize;
+        let plan = agreed(&leaf, kind, dim)?;
+        let count = if matches!(plan, Ok(None)) { &mut none } else { &mut due };
+        if *count < CASES / 2 {
+            *count += 1;
+            all.push((leaf, dim, plan));
+        }
+    }
+    Ok(all)
+}
+
+/// Steppings, and where each ends.
+fn stepping_cases() -> Result<Vec<(Stepping, [f64; 2])>, String> {
+    let mut random = Random(200);
+    let case = |_| {
+        let case = random_stepping(&mut random);
+        Ok((case, agreed_stepping(&case)?))
+    };
+    (0..CASES).map(case).collect()
+}
+
+/// Spots, and the cells that each touches.
+fn spot_cases() -> Result<Vec<(Spot, Vec<usize>)>, String> {
+    let mut random = Random(300);
+    let case = |_| {
+        let case = random_spot(&mut random);
+        Ok((case, agreed_spot(&case)?))
+    };
+    (0..CASES).map(case).collect()
+}
+
+// ---- written by hand
+
 /// Schedulings with what is to be found, in a box of 9 by 9 with walls; the Rust and the model are asked too.
 fn by_hand(kind: u64) -> Result<Vec<Scheduling>, String> {
     let last_column = |x: f64, vx: f64| Leaf {
@@ -95,7 +139,7 @@ fn by_hand(kind: u64) -> Result<Vec<Scheduling>, String> {
         ],
     };
     for (leaf, dim, plan) in &cases {
-        if !same(&leaf.agreed(kind, *dim)?, plan) {
+        if !same(&agreed(leaf, kind, *dim)?, plan) {
             return Err(format!("kind {kind}, direction {dim}, of {leaf:?}: not as written by hand"));
         }
     }
