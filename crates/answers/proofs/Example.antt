@@ -54,7 +54,9 @@ example-formed = record {
 
 -- at time 1 it is where it was
 example-listed : answerTo example ≡ listingOf 0x3ff0_0000_0000_0000 (example .grains)
-unfolding answerTo decimal round add sub mul div neg lt le eq ofInt toUnsigned ofBits toBits across newPos upFrom reached rows cellsOfGrain toNeighbour outOfCell wall insertBy finePlace heads requeued has fineGrain store insert enter taken doing before ofEach inTurn pairing event step firstBad clear begin start timeIn childIn down downshifted parentIn up upshifted updated numbered startHeap every syncs walk settled queued heaped standing runFrom runAll
+unfolding answerTo decimal round add sub mul div neg lt le eq ofInt toUnsigned ofBits toBits across newPos upFrom reached rows cellsOfGrain toNeighbour outOfCell wall insertBy
+    finePlace heads requeued has fineGrain store insert enter taken doing before ofEach inTurn pairing event step firstBad clear begin start timeIn childIn down downshifted
+    parentIn up upshifted updated numbered startHeap every syncs walk settled queued heaped standing runFrom runAll
 example-listed = refl
 
 pub example-answer : Answers (bytes "l0,l1,p0,p1,rate,n\r\n4022000000000000,4022000000000000,1,1,3FF0000000000000,1\r\nx,y,vx,vy,val\r\n4012000000000000,4012000000000000,0000000000000000,0000000000000000,3FE0000000000000\r\n")

@@ -41,18 +41,29 @@ abbrev traces : List Trace
 traces = correction ∷ empty ∷ fast ∷ oddLengths ∷ periodic ∷ still ∷ touching ∷ walls ∷ wallsInY ∷ []
 
 pub traces-follow : T (all follows traces)
-unfolding correction empty fast oddLengths periodic still touching walls wallsInY round add sub mul div neg lt le eq ofInt toUnsigned ofBits toBits rootOf sqrtOf near root leadingZeros across position newPos apart upFrom reached cellsAt cellsOfGrain collision later toNeighbour outOfCell wall insertBy keepBy goneBy finePlace heads requeued has but fineGrain store insert cancelled enter leave taken others doing before ofEach inTurn pairing event step firstBad clear begin start timeIn swapAt childIn down downshifted parentIn up upshifted updated numbered startHeap
+unfolding correction empty fast oddLengths periodic still touching walls wallsInY round add sub mul div neg lt le eq ofInt toUnsigned ofBits toBits rootOf sqrtOf near root
+    leadingZeros across position newPos apart upFrom reached cellsAt cellsOfGrain collision later toNeighbour outOfCell wall insertBy keepBy goneBy finePlace heads requeued has but
+    fineGrain store insert cancelled enter leave taken others doing before ofEach inTurn pairing event step firstBad clear begin start timeIn swapAt childIn down downshifted
+    parentIn up upshifted updated numbered startHeap
 traces-follow = tt
 
 pub answers-end : T (all ends answers)
-unfolding answers round add sub mul div neg lt le eq ofInt toUnsigned ofBits toBits rootOf sqrtOf near root leadingZeros across position newPos apart upFrom reached cellsAt cellsOfGrain collision later toNeighbour outOfCell wall insertBy keepBy goneBy finePlace heads requeued has but fineGrain store insert cancelled enter leave taken others doing before ofEach inTurn pairing event step firstBad clear begin start timeIn swapAt childIn down downshifted parentIn up upshifted updated numbered startHeap
+unfolding answers round add sub mul div neg lt le eq ofInt toUnsigned ofBits toBits rootOf sqrtOf near root leadingZeros across position newPos apart upFrom reached cellsAt
+    cellsOfGrain collision later toNeighbour outOfCell wall insertBy keepBy goneBy finePlace heads requeued has but fineGrain store insert cancelled enter leave taken others doing
+    before ofEach inTurn pairing event step firstBad clear begin start timeIn swapAt childIn down downshifted parentIn up upshifted updated numbered startHeap
 answers-end = tt
 
 -- runs of the walled box: S NW S CS ONS NNNNNS OOS OO OS WNONS S OW; one whose last budgeted event is a synchronisation has synchronised
 pub walls-run : T (runs walls (synchronises 20 1 ∷ spends 2 2 ∷ synchronises 20 1 ∷ synchronises 2 2 ∷ synchronises 20 3 ∷ synchronises 20 6 ∷ synchronises 20 3 ∷ spends 2 2 ∷ synchronises 20 2 ∷ spends 0 0 ∷ synchronises 20 5 ∷ synchronises 20 1 ∷ spends 2 2 ∷ []))
-unfolding walls round add sub mul div neg lt le eq ofInt toUnsigned ofBits toBits rootOf sqrtOf near root leadingZeros across position newPos apart upFrom reached cellsAt cellsOfGrain collision later toNeighbour outOfCell wall insertBy keepBy goneBy finePlace heads requeued has but fineGrain store insert cancelled enter leave taken others doing before ofEach inTurn pairing event step firstBad clear begin start timeIn swapAt childIn down downshifted parentIn up upshifted updated numbered startHeap every syncs walk settled queued heaped standing runFrom runAll
+unfolding walls round add sub mul div neg lt le eq ofInt toUnsigned ofBits toBits rootOf sqrtOf near root leadingZeros across position newPos apart upFrom reached cellsAt
+    cellsOfGrain collision later toNeighbour outOfCell wall insertBy keepBy goneBy finePlace heads requeued has but fineGrain store insert cancelled enter leave taken others doing
+    before ofEach inTurn pairing event step firstBad clear begin start timeIn swapAt childIn down downshifted parentIn up upshifted updated numbered startHeap every syncs walk
+    settled queued heaped standing runFrom runAll
 walls-run = tt
 
 pub walls-refuse : T (refusals walls)
-unfolding walls round add sub mul div neg lt le eq ofInt toUnsigned ofBits toBits rootOf sqrtOf near root leadingZeros across position newPos apart upFrom reached cellsAt cellsOfGrain collision later toNeighbour outOfCell wall insertBy keepBy goneBy finePlace heads requeued has but fineGrain store insert cancelled enter leave taken others doing before ofEach inTurn pairing event step firstBad clear begin start timeIn swapAt childIn down downshifted parentIn up upshifted updated numbered startHeap every syncs walk settled queued heaped standing runFrom runAll
+unfolding walls round add sub mul div neg lt le eq ofInt toUnsigned ofBits toBits rootOf sqrtOf near root leadingZeros across position newPos apart upFrom reached cellsAt
+    cellsOfGrain collision later toNeighbour outOfCell wall insertBy keepBy goneBy finePlace heads requeued has but fineGrain store insert cancelled enter leave taken others doing
+    before ofEach inTurn pairing event step firstBad clear begin start timeIn swapAt childIn down downshifted parentIn up upshifted updated numbered startHeap every syncs walk
+    settled queued heaped standing runFrom runAll
 walls-refuse = tt

@@ -92,7 +92,10 @@ abbrev other-is : Bool
 other-is = passes box 64 grazing two older (start box 64 grazing)
 
 computed : T (one-is && other-is)
-unfolding round add sub mul div neg lt le eq ofInt toUnsigned ofBits rootOf sqrtOf near root leadingZeros across position insertBy keepBy goneBy finePlace newPos apart upFrom reached cellsAt cellsOfGrain heads requeued has but fineGrain store insert cancelled enter leave taken later collision toNeighbour outOfCell wall others doing event step firstBad clear begin start timeIn swapAt childIn down downshifted parentIn up upshifted updated numbered startHeap every syncs walk settled queued heaped standing runFrom runAll before ofEach inTurn pairing rowDone stepDone stepsDone startDone latest insertDated keepDated dated after callsDone steps
+unfolding round add sub mul div neg lt le eq ofInt toUnsigned ofBits rootOf sqrtOf near root leadingZeros across position insertBy keepBy goneBy finePlace newPos apart upFrom
+    reached cellsAt cellsOfGrain heads requeued has but fineGrain store insert cancelled enter leave taken later collision toNeighbour outOfCell wall others doing event step
+    firstBad clear begin start timeIn swapAt childIn down downshifted parentIn up upshifted updated numbered startHeap every syncs walk settled queued heaped standing runFrom
+    runAll before ofEach inTurn pairing rowDone stepDone stepsDone startDone latest insertDated keepDated dated after callsDone steps
 computed = tt
 
 -- ---- 1. LISTED IS NOT WATCHED

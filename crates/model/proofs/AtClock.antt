@@ -29,7 +29,8 @@ use Rattle.model.specs.Acts.{store, put, cancelled, enter}
 use Rattle.model.specs.Start.{clear}
 use Rattle.model.specs.declared.Bound.{Bound}
 use Rattle.model.specs.declared.Bound.the-variants.{ToNeighbour, OutOfCell, Wall}
-use Rattle.model.specs.Rows.{Rule, pair, bound, sync, finder, moving, trying, cancelling, entering, perform, Acts, ended, act, only, before, _⨟_, ofEach, inTurn, stepping, colliding, finding, bounding, scheduling, reschedules, forgets, actsOf, goes, pairing, firstSync, initiates, startActs, others, landed}
+use Rattle.model.specs.Rows.{Rule, pair, bound, sync, finder, moving, trying, cancelling, entering, perform, Acts, ended, act, only, before, _⨟_}
+use Rattle.model.specs.Rows.{ofEach, inTurn, stepping, colliding, finding, bounding, scheduling, reschedules, forgets, actsOf, goes, pairing, firstSync, initiates, startActs, others, landed}
 use Rattle.model.specs.History.{AtClock, Honest}
 use Rattle.model.proofs.Sound.{Sound, Named}
 use Rattle.model.proofs.Cases.{store-case, put-case, enter-case}

@@ -26,7 +26,8 @@ use Rattle.model.specs.Execute.{execute}
 use Rattle.model.specs.Start.{clear, begin}
 use Rattle.model.specs.declared.Bound.{Bound}
 use Rattle.model.specs.declared.Bound.the-variants.{ToNeighbour, OutOfCell, Wall}
-use Rattle.model.specs.Rows.{pair, finder, Act, moving, turning, trying, cancelling, entering, leaving, perform, Acts, ended, act, doing, only, before, _⨟_, ofEach, inTurn, others, landed, stepping, colliding, finding, bounding, scheduling, reschedules, forgets, syncing, actsOf, goes, pairing, firstSync, initiates, startActs}
+use Rattle.model.specs.Rows.{pair, finder, Act, moving, turning, trying, cancelling, entering, leaving, perform, Acts, ended, act, doing, only, before, _⨟_}
+use Rattle.model.specs.Rows.{ofEach, inTurn, others, landed, stepping, colliding, finding, bounding, scheduling, reschedules, forgets, syncing, actsOf, goes, pairing, firstSync, initiates, startActs}
 use Rattle.model.proofs.Cases.{store-case, insert-case, enter-case, leave-case}
 
 -- these acts, one after another, were done and led from s to u

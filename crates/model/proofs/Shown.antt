@@ -74,7 +74,10 @@ tested (turned r i) = false
 tested (started s) = sameList (kinds 12 s) expected && (syncedAfter 1 (runAll rate 1 s) && syncedAfter 11 (runAll rate 65536 ((runAll rate 1 s) .state)))
 
 computed : T (tested (start box 16 grains))
-unfolding round add sub mul div neg lt le eq ofInt toUnsigned ofBits rootOf sqrtOf near root leadingZeros across position insertBy keepBy goneBy finePlace newPos apart upFrom reached cellsAt cellsOfGrain heads requeued has but fineGrain store insert cancelled enter leave taken later collision toNeighbour outOfCell wall others doing before ofEach inTurn pairing event step firstBad clear begin start timeIn swapAt childIn down downshifted parentIn up upshifted updated numbered startHeap every syncs walk settled queued heaped standing runFrom runAll
+unfolding round add sub mul div neg lt le eq ofInt toUnsigned ofBits rootOf sqrtOf near root leadingZeros across position insertBy keepBy goneBy finePlace newPos apart upFrom
+    reached cellsAt cellsOfGrain heads requeued has but fineGrain store insert cancelled enter leave taken later collision toNeighbour outOfCell wall others doing before ofEach
+    inTurn pairing event step firstBad clear begin start timeIn swapAt childIn down downshifted parentIn up upshifted updated numbered startHeap every syncs walk settled queued
+    heaped standing runFrom runAll
 computed = tt
 
 pub box-fits : Fits box

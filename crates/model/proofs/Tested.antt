@@ -254,7 +254,10 @@ rowsOfThree =
     []
 
 computed : T (tested grains rowsOfTwo (start box 16 grains) && tested three rowsOfThree (start box 16 three))
-unfolding round add sub mul div neg lt le eq ofInt toUnsigned ofBits rootOf sqrtOf near root leadingZeros across position insertBy keepBy goneBy finePlace newPos apart upFrom reached cellsAt cellsOfGrain heads requeued has but fineGrain store insert cancelled enter leave taken later collision toNeighbour outOfCell wall others doing event step firstBad clear begin start timeIn swapAt childIn down downshifted parentIn up upshifted updated numbered startHeap every syncs walk settled queued heaped standing runFrom runAll steps before ofEach inTurn pairing rowDone stepDone stepsDone startDone latest insertDated keepDated dated lastOf executed
+unfolding round add sub mul div neg lt le eq ofInt toUnsigned ofBits rootOf sqrtOf near root leadingZeros across position insertBy keepBy goneBy finePlace newPos apart upFrom
+    reached cellsAt cellsOfGrain heads requeued has but fineGrain store insert cancelled enter leave taken later collision toNeighbour outOfCell wall others doing event step
+    firstBad clear begin start timeIn swapAt childIn down downshifted parentIn up upshifted updated numbered startHeap every syncs walk settled queued heaped standing runFrom
+    runAll steps before ofEach inTurn pairing rowDone stepDone stepsDone startDone latest insertDated keepDated dated lastOf executed
 computed = tt
 
 -- ---- 5. a reached state that is not halted, after n events from these grains, in which both tests pass, with the numbers of a row

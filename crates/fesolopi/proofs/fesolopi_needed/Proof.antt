@@ -22,13 +22,32 @@ cells-requires : tie.Need-cells-requires
 cells-requires c κs = let a = c .before .before .before .args in let r = c .before .before .refusal in grid-few _ _ (laid (boxed (a .l0) (a .l1) true true) (a .count) (a .room) (r .result) (r .ensures) (c .before .if1 .left) (c .new .result) (c .new .ensures))
 
 needed-requires : tie.Need-needed-requires
-needed-requires c κs = let a = c .before .before .before .before .args in let r = c .before .before .before .refusal in let k = counts (boxed (a .l0) (a .l1) true true) (a .count) (a .room) (r .result) (r .ensures) (c .before .before .if1 .left) in (k .grains-most, few-cells (boxed (a .l0) (a .l1) true true) (a .count) (a .room) (r .result) (r .ensures) (c .before .before .if1 .left) (c .before .new .result) (c .cells .result) (c .before .new .ensures) (c .cells .ensures), k .room-most)
+needed-requires c κs =
+    let n : tie.After-new = search in
+    let e : tie.Else1 = search in
+    let q : tie.After-refusal = search in
+    let b : tie.Start = search in
+    let a = b .args in
+    let d = boxed (a .l0) (a .l1) true true in
+    let r = q .refusal in
+    let k = counts d (a .count) (a .room) (r .result) (r .ensures) (e .if1 .left) in
+    let few = few-cells d (a .count) (a .room) (r .result) (r .ensures) (e .if1 .left) (n .new .result) (c .cells .result) (n .new .ensures) (c .cells .ensures) in
+    (k .grains-most, few, k .room-most)
 
 mul-inputs : tie.Need-mul-inputs
 mul-inputs c = let a = c .before .before .before .before .before .args in let r = c .before .before .before .before .refusal in let k = counts (boxed (a .l0) (a .l1) true true) (a .count) (a .room) (r .result) (r .ensures) (c .before .before .before .if1 .left) in omega (arith, k .grains-most)
 
 returns-2 : tie.Need-returns-2
-returns-2 c = let a = c .before .before .before .before .before .args in let r = c .before .before .before .before .refusal in all-needed (boxed (a .l0) (a .l1) true true) (a .count) (a .room) (r .result) (r .ensures) (c .before .before .before .if1 .left) (c .before .before .new .result) (c .before .cells .result) (c .before .before .new .ensures) (c .before .cells .ensures) (c .needed .ensures)
+returns-2 c =
+    let m : tie.After-cells = search in
+    let n : tie.After-new = search in
+    let e : tie.Else1 = search in
+    let q : tie.After-refusal = search in
+    let b : tie.Start = search in
+    let a = b .args in
+    let d = boxed (a .l0) (a .l1) true true in
+    let r = q .refusal in
+    all-needed d (a .count) (a .room) (r .result) (r .ensures) (e .if1 .left) (n .new .result) (m .cells .result) (n .new .ensures) (m .cells .ensures) (c .needed .ensures)
 
 pub fesolopi-needed-spec : {M : Type 1} → statement M
 fesolopi-needed-spec =

@@ -59,7 +59,11 @@ returns-2 c =
     let bo : tie.After-box-ok = search in
     let b = entry bo in
     let a = b .args in
-    record { box-fits = floats b; is = start-2 (a .domain) (a .count) (a .room) (a .inputs .now) (tables (a .lists .now) (a .grains .now) (a .queue .now) (a .events .now) (a .order .now)) (sym (bo .box-ok .ensures) ∙ not-false _ (else1 .if1 .left)) (sized-as (a .domain) (a .count) (ce .cells .result) (a .room) (length (a .inputs .now)) (length (a .lists .now)) (length (a .grains .now)) (length (a .queue .now)) (length (a .events .now)) (length (a .order .now)) (cells-counted (a .domain) (n .new .result) (ce .cells .result) (n .new .ensures) (ce .cells .ensures)) (sym (f2 .fits2 .ensures) ∙ not-true _ (c .if2 .taken))) }
+    let t = tables (a .lists .now) (a .grains .now) (a .queue .now) (a .events .now) (a .order .now) in
+    let box = sym (bo .box-ok .ensures) ∙ not-false _ (else1 .if1 .left) in
+    let count = cells-counted (a .domain) (n .new .result) (ce .cells .result) (n .new .ensures) (ce .cells .ensures) in
+    let sized = sized-as (a .domain) (a .count) (ce .cells .result) (a .room) _ _ _ _ _ _ count (sym (f2 .fits2 .ensures) ∙ not-true _ (c .if2 .taken)) in
+    record { box-fits = floats b; is = start-2 (a .domain) (a .count) (a .room) (a .inputs .now) t box sized }
 
 first-bad-requires : tie.Need-first-bad-requires
 first-bad-requires c κs =
@@ -70,7 +74,9 @@ first-bad-requires c κs =
     let bo : tie.After-box-ok = search in
     let b = entry bo in
     let a = b .args in
-    (startable (record { grains = a .count; cells = ce .cells .result; room = a .room }) (length (a .inputs .now)) (length (a .lists .now)) (length (a .grains .now)) (length (a .queue .now)) (length (a .events .now)) (length (a .order .now)) (sym (f2 .fits2 .ensures) ∙ not-false _ (c .if2 .left)) (a .domain) (n .new .result) (sym (bo .box-ok .ensures) ∙ not-false _ (else1 .if1 .left)) (n .new .ensures) (cells-counted (a .domain) (n .new .result) (ce .cells .result) (n .new .ensures) (ce .cells .ensures))) .inputs-long
+    let box = sym (bo .box-ok .ensures) ∙ not-false _ (else1 .if1 .left) in
+    let count = cells-counted (a .domain) (n .new .result) (ce .cells .result) (n .new .ensures) (ce .cells .ensures) in
+    (startable (record { grains = a .count; cells = ce .cells .result; room = a .room }) _ _ _ _ _ _ (sym (f2 .fits2 .ensures) ∙ not-false _ (c .if2 .left)) (a .domain) (n .new .result) box (n .new .ensures) count) .inputs-long
 
 returns-3 : tie.Need-returns-3
 returns-3 c =
@@ -83,7 +89,11 @@ returns-3 c =
     let bo : tie.After-box-ok = search in
     let b = entry bo in
     let a = b .args in
-    record { box-fits = floats b; is = start-4 (a .domain) (a .count) (a .room) (a .inputs .now) (tables (a .lists .now) (a .grains .now) (a .queue .now) (a .events .now) (a .order .now)) (sym (bo .box-ok .ensures) ∙ not-false _ (else1 .if1 .left)) (sized-as (a .domain) (a .count) (ce .cells .result) (a .room) (length (a .inputs .now)) (length (a .lists .now)) (length (a .grains .now)) (length (a .queue .now)) (length (a .events .now)) (length (a .order .now)) (cells-counted (a .domain) (n .new .result) (ce .cells .result) (n .new .ensures) (ce .cells .ensures)) (sym (f2 .fits2 .ensures) ∙ not-false _ (else2 .if2 .left))) (fb .first-bad .result) (fb .first-bad .ensures) (c .if3 .taken) }
+    let t = tables (a .lists .now) (a .grains .now) (a .queue .now) (a .events .now) (a .order .now) in
+    let box = sym (bo .box-ok .ensures) ∙ not-false _ (else1 .if1 .left) in
+    let count = cells-counted (a .domain) (n .new .result) (ce .cells .result) (n .new .ensures) (ce .cells .ensures) in
+    let sized = sized-as (a .domain) (a .count) (ce .cells .result) (a .room) _ _ _ _ _ _ count (sym (f2 .fits2 .ensures) ∙ not-false _ (else2 .if2 .left)) in
+    record { box-fits = floats b; is = start-4 (a .domain) (a .count) (a .room) (a .inputs .now) t box sized (fb .first-bad .result) (fb .first-bad .ensures) (c .if3 .taken) }
 
 begin-requires : tie.Need-begin-requires
 begin-requires c κs =
@@ -95,7 +105,9 @@ begin-requires c κs =
     let bo : tie.After-box-ok = search in
     let b = entry bo in
     let a = b .args in
-    startable (record { grains = a .count; cells = ce .cells .result; room = a .room }) (length (a .inputs .now)) (length (a .lists .now)) (length (a .grains .now)) (length (a .queue .now)) (length (a .events .now)) (length (a .order .now)) (sym (f2 .fits2 .ensures) ∙ not-false _ (else2 .if2 .left)) (a .domain) (n .new .result) (sym (bo .box-ok .ensures) ∙ not-false _ (else1 .if1 .left)) (n .new .ensures) (cells-counted (a .domain) (n .new .result) (ce .cells .result) (n .new .ensures) (ce .cells .ensures))
+    let box = sym (bo .box-ok .ensures) ∙ not-false _ (else1 .if1 .left) in
+    let count = cells-counted (a .domain) (n .new .result) (ce .cells .result) (n .new .ensures) (ce .cells .ensures) in
+    startable (record { grains = a .count; cells = ce .cells .result; room = a .room }) _ _ _ _ _ _ (sym (f2 .fits2 .ensures) ∙ not-false _ (else2 .if2 .left)) (a .domain) (n .new .result) box (n .new .ensures) count
 
 same-length : tie.Need-same-length
 same-length c =
@@ -135,7 +147,11 @@ returns-4 c =
     let bo : tie.After-box-ok = search in
     let b = entry bo in
     let a = b .args in
-    record { box-fits = floats b; is = start-accepted (a .domain) (a .count) (a .room) (a .inputs .now) (tables (a .lists .now) (a .grains .now) (a .queue .now) (a .events .now) (a .order .now)) (sym (bo .box-ok .ensures) ∙ not-false _ (else1 .if1 .left)) (sized-as (a .domain) (a .count) (ce .cells .result) (a .room) (length (a .inputs .now)) (length (a .lists .now)) (length (a .grains .now)) (length (a .queue .now)) (length (a .events .now)) (length (a .order .now)) (cells-counted (a .domain) (n .new .result) (ce .cells .result) (n .new .ensures) (ce .cells .ensures)) (sym (f2 .fits2 .ensures) ∙ not-false _ (else2 .if2 .left))) (be .begin .result) _ (sym (fb .first-bad .ensures) ∙ else3 .if3 .left) (be .begin .ensures) (c .if4 .taken) }
+    let t = tables (a .lists .now) (a .grains .now) (a .queue .now) (a .events .now) (a .order .now) in
+    let box = sym (bo .box-ok .ensures) ∙ not-false _ (else1 .if1 .left) in
+    let count = cells-counted (a .domain) (n .new .result) (ce .cells .result) (n .new .ensures) (ce .cells .ensures) in
+    let sized = sized-as (a .domain) (a .count) (ce .cells .result) (a .room) _ _ _ _ _ _ count (sym (f2 .fits2 .ensures) ∙ not-false _ (else2 .if2 .left)) in
+    record { box-fits = floats b; is = start-accepted (a .domain) (a .count) (a .room) (a .inputs .now) t box sized (be .begin .result) _ (sym (fb .first-bad .ensures) ∙ else3 .if3 .left) (be .begin .ensures) (c .if4 .taken) }
 
 same-length-6 : tie.Need-same-length-6
 same-length-6 c =
@@ -175,7 +191,11 @@ returns-5 c =
     let bo : tie.After-box-ok = search in
     let b = entry bo in
     let a = b .args in
-    record { box-fits = floats b; is = start-halted (a .domain) (a .count) (a .room) (a .inputs .now) (tables (a .lists .now) (a .grains .now) (a .queue .now) (a .events .now) (a .order .now)) (sym (bo .box-ok .ensures) ∙ not-false _ (else1 .if1 .left)) (sized-as (a .domain) (a .count) (ce .cells .result) (a .room) (length (a .inputs .now)) (length (a .lists .now)) (length (a .grains .now)) (length (a .queue .now)) (length (a .events .now)) (length (a .order .now)) (cells-counted (a .domain) (n .new .result) (ce .cells .result) (n .new .ensures) (ce .cells .ensures)) (sym (f2 .fits2 .ensures) ∙ not-false _ (else2 .if2 .left))) (be .begin .result) _ (sym (fb .first-bad .ensures) ∙ else3 .if3 .left) (be .begin .ensures) (c .if4 .left) }
+    let t = tables (a .lists .now) (a .grains .now) (a .queue .now) (a .events .now) (a .order .now) in
+    let box = sym (bo .box-ok .ensures) ∙ not-false _ (else1 .if1 .left) in
+    let count = cells-counted (a .domain) (n .new .result) (ce .cells .result) (n .new .ensures) (ce .cells .ensures) in
+    let sized = sized-as (a .domain) (a .count) (ce .cells .result) (a .room) _ _ _ _ _ _ count (sym (f2 .fits2 .ensures) ∙ not-false _ (else2 .if2 .left)) in
+    record { box-fits = floats b; is = start-halted (a .domain) (a .count) (a .room) (a .inputs .now) t box sized (be .begin .result) _ (sym (fb .first-bad .ensures) ∙ else3 .if3 .left) (be .begin .ensures) (c .if4 .left) }
 
 pub start-spec : {M : Type 1} → statement M
 start-spec =
