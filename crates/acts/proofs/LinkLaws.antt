@@ -8,7 +8,7 @@ use lib.Dec.{ltb, leb}
 use lib.ListN.{length, getD, set}
 use borrow.Author.Tests.{le-leb, lt-leb, lt-ltb, le-ltb}
 use Rattle.halting.specs.Out.{Out}
-use Rattle.model.specs.Sizes.{memberRoom, homeRoom}
+use Rattle.layout.specs.Widths.{homeRoom, memberRoom}
 use Rattle.model.specs.State.{Row, none, State, home, listed, has, pushed, pulled}
 use Rattle.model.specs.Acts.{enter, leave}
 use Rattle.tables.specs.declared.Sizes.{Sizes}
@@ -16,7 +16,7 @@ use Rattle.tables.specs.declared.parts.Part.{Part}
 use Rattle.tables.specs.Layout.{places, rowNums}
 use Rattle.tables.specs.Holds.{Listed}
 use Rattle.tables.specs.Parts.{homePart, memberPart, lent, back}
-use Rattle.tables.specs.Rows.{InNums, counted}
+use Rattle.tables.specs.Rows.{InNums, countIn}
 use Rattle.tables.proofs.ListLaws.{home-part, member-part, home-back, member-back, home-count, member-count, row-room, row-below, pushed-room, pushed-below, pulled-room, pulled-below}
 use Rattle.acts.specs.Tell.{InLists, Pair, ListsTold}
 
@@ -39,17 +39,17 @@ memberRow s c = getD (s .members) c none
 -- the grain's row is at the part h, the cell's at m
 module _ {z : Sizes} {g c : ℕ} {l : List ℕ} (hg : g < z .grains) (hc : c < z .cells) {h m : Part} (eh : h ≡ homePart g) (em : m ≡ memberPart z c) where
   -- ---- a grain goes into a cell's row, then the cell into the grain's
-  member-pushed : {ys : List ℕ} (s : State) → InLists z l s → counted (lent m l) < memberRoom → Makes (pushed g) (lent m l) ys
+  member-pushed : {ys : List ℕ} (s : State) → InLists z l s → countIn (lent m l) < memberRoom → Makes (pushed g) (lent m l) ys
       → Listed z (back m l ys) (s .homes) (set (s .members) c (pushed g (memberRow s c)))
   member-pushed s S k one =
       member-back S c hc em (pushed g (memberRow s c)) (one (memberRow s c) (member-part S c hc em))
       (pushed-room g (memberRow s c) (row-room (S .members) c hc) (let n = member-count S c hc em refl in omega arith))
       (pushed-below (z .grains) g (memberRow s c) (row-below (S .members) c hc) hg)
 
-  pub member-more : (s : State) → InLists z l s → counted (lent m l) < memberRoom → InNums (lent m l) (λ r. length (r .live) < length (places r))
+  pub member-more : (s : State) → InLists z l s → countIn (lent m l) < memberRoom → InNums (lent m l) (λ r. length (r .live) < length (places r))
   member-more s S k = (memberRow s c, member-part S c hc em, let v = row-room (S .members) c hc in let n = member-count S c hc em refl in omega arith)
 
-  pub home-more : {ys : List ℕ} (s : State) → InLists z l s → counted (lent m l) < memberRoom → counted (lent h l) < homeRoom → Makes (pushed g) (lent m l) ys
+  pub home-more : {ys : List ℕ} (s : State) → InLists z l s → countIn (lent m l) < memberRoom → countIn (lent h l) < homeRoom → Makes (pushed g) (lent m l) ys
       → InNums (lent h (back m l ys)) (λ r. length (r .live) < length (places r))
   home-more s S k j one =
       (homeRow s g, home-part (member-pushed s S k one) g hg eh, let v = row-room (S .homes) g hg in let n = home-count S g hg eh refl in omega arith)
@@ -64,14 +64,14 @@ module _ {z : Sizes} {g c : ℕ} {l : List ℕ} (hg : g < z .grains) (hc : c < z
       let u : has g (listed s c) ≡ true = sym (has-told s S told) ∙ t in
       rw u (refl, S)
 
-  pub enter-full : {b : Bool} → Asks g (lent m l) b → b ≡ false → memberRoom ≤ counted (lent m l) → Done z (enter g c) 7 l l
+  pub enter-full : {b : Bool} → Asks g (lent m l) b → b ≡ false → memberRoom ≤ countIn (lent m l) → Done z (enter g c) 7 l l
   unfolding enter
   enter-full told t k s S =
       let u : has g (listed s c) ≡ false = sym (has-told s S told) ∙ t in
       let v : ltb (length (listed s c)) memberRoom ≡ false = le-ltb _ memberRoom (subst (λ (n : ℕ). memberRoom ≤ n) (member-count S c hc em refl) k) in
       rw (u, v) (refl, S)
 
-  pub enter-crowded : {b : Bool} → Asks g (lent m l) b → b ≡ false → counted (lent m l) < memberRoom → homeRoom ≤ counted (lent h l) → Done z (enter g c) 7 l l
+  pub enter-crowded : {b : Bool} → Asks g (lent m l) b → b ≡ false → countIn (lent m l) < memberRoom → homeRoom ≤ countIn (lent h l) → Done z (enter g c) 7 l l
   unfolding enter
   enter-crowded told t k j s S =
       let u : has g (listed s c) ≡ false = sym (has-told s S told) ∙ t in
@@ -79,7 +79,7 @@ module _ {z : Sizes} {g c : ℕ} {l : List ℕ} (hg : g < z .grains) (hc : c < z
       let w : ltb (length (home s g)) homeRoom ≡ false = le-ltb _ homeRoom (subst (λ (n : ℕ). homeRoom ≤ n) (home-count S g hg eh refl) j) in
       rw (u, v, w) (refl, S)
 
-  pub enter-done : {b : Bool} {ys zs : List ℕ} → Asks g (lent m l) b → b ≡ false → counted (lent m l) < memberRoom → counted (lent h l) < homeRoom
+  pub enter-done : {b : Bool} {ys zs : List ℕ} → Asks g (lent m l) b → b ≡ false → countIn (lent m l) < memberRoom → countIn (lent h l) < homeRoom
       → Makes (pushed g) (lent m l) ys → Makes (pushed c) (lent h (back m l ys)) zs → Done z (enter g c) 0 l (back h (back m l ys) zs)
   unfolding enter
   enter-done told t k j one two s S =
@@ -108,13 +108,13 @@ module _ {z : Sizes} {g c : ℕ} {l : List ℕ} (hg : g < z .grains) (hc : c < z
   pub home-there : {ys : List ℕ} (s : State) → InLists z l s → Pair g c s → Makes (pulled g) (lent m l) ys → InNums (lent h (back m l ys)) (λ r. has c (r .live) ≡ true)
   home-there s S p one = (homeRow s g, home-part (member-pulled s S p one) g hg eh, p .1)
 
-  pub leave-refused : counted (lent h l) ≤ 1 → (s : State) → InLists z l s → Pair g c s → ListsTold z l 9 (leave g c s)
+  pub leave-refused : countIn (lent h l) ≤ 1 → (s : State) → InLists z l s → Pair g c s → ListsTold z l 9 (leave g c s)
   unfolding leave
   leave-refused k s S p =
       let w : leb (length (home s g)) 1 ≡ true = le-leb _ 1 (subst (λ (n : ℕ). n ≤ 1) (home-count S g hg eh refl) k) in
       rw w (refl, S)
 
-  pub leave-done : {ys zs : List ℕ} → 1 < counted (lent h l) → Makes (pulled g) (lent m l) ys → Makes (pulled c) (lent h (back m l ys)) zs
+  pub leave-done : {ys zs : List ℕ} → 1 < countIn (lent h l) → Makes (pulled g) (lent m l) ys → Makes (pulled c) (lent h (back m l ys)) zs
       → (s : State) → InLists z l s → Pair g c s → ListsTold z (back h (back m l ys) zs) 0 (leave g c s)
   unfolding leave
   leave-done k one two s S p =

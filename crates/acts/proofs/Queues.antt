@@ -32,7 +32,7 @@ use Rattle.tables.specs.Layout.{places, placeReals, queueNums, queueReals, orde
 use Rattle.tables.specs.Holds.{Ranged, Good, Tabled, Queued, Told}
 use Rattle.tables.specs.Decode.{schedulerOf}
 use Rattle.tables.specs.Parts.{lent, back}
-use Rattle.tables.specs.Rows.{counted}
+use Rattle.tables.specs.Rows.{countIn}
 use Rattle.tables.specs.Queues.{placed, without, headless, RowIn, InParts}
 use Rattle.tables.proofs.Runs.{rows-nums-wide, rows-reals-wide}
 use Rattle.tables.proofs.RowLaws.{live-most}
@@ -142,8 +142,8 @@ module _ {z : Sizes} {nums : List ℕ} {reals : List Float} {qs : List (Row Plac
     reals-is = chunk-mid queueReals (eventsWide (z .room)) qs c none (k .p) (k .q - k .p) (rows-reals-wide (z .room) qs (t .good)) (inside t c h) (t .events-is) reals-from reals-wide;
   }
 
-  pub row-count : counted (lent (numsPart k) nums) ≡ length (old .live)
-  row-count = ap counted (row-at .nums-is)
+  pub row-count : countIn (lent (numsPart k) nums) ≡ length (old .live)
+  row-count = ap countIn (row-at .nums-is)
 
   pub count-there : 0 < length (lent (numsPart k) nums)
   count-there = let e = ap length (row-at .nums-is) in omega arith
@@ -216,7 +216,7 @@ module _ {z : Sizes} {nums : List ℕ} {reals : List Float} {order : List ℕ} (
   insert-five f = on-no (Told z nums reals order 5) (finePlace e) full (out 5 s) f (refl, q)
 
   module _ {k : CellRow} (K : RowOf z nums reals c k) (h : c < z .cells) (f : finePlace e ≡ true) where
-    pub insert-six : z .room ≤ counted (lent (numsPart k) nums) → Told z nums reals order 6 (insert c e s)
+    pub insert-six : z .room ≤ countIn (lent (numsPart k) nums) → Told z nums reals order 6 (insert c e s)
     unfolding insert
     insert-six l =
         on-yes (Told z nums reals order 6) (finePlace e) full (out 5 s) f
@@ -224,7 +224,7 @@ module _ {z : Sizes} {nums : List ℕ} {reals : List Float} {order : List ℕ} (
         (le-ltb (length (queue s c)) (s .room) (let n = row-count (q .tables) K h in let m = q .room-is in omega arith)) (refl, q))
 
     -- what the leaf asks, and what the tables hold once the row is in
-    pub insert-asks : counted (lent (numsPart k) nums) < z .room → InParts (lent (numsPart k) nums) (lent (realsPart k) reals) (λ r. length (r .live) < length (places r))
+    pub insert-asks : countIn (lent (numsPart k) nums) < z .room → InParts (lent (numsPart k) nums) (lent (realsPart k) reals) (λ r. length (r .live) < length (places r))
     insert-asks l = (
       getD (s .queues) c none,
       row-at (q .tables) K h,
@@ -232,7 +232,7 @@ module _ {z : Sizes} {nums : List ℕ} {reals : List Float} {order : List ℕ} (
       let n = row-count (q .tables) K h in let m = good-at (q .tables) c h .full in omega arith,
     )
 
-    pub insert-tables : {ns : List ℕ} {rs : List Float} → counted (lent (numsPart k) nums) < z .room
+    pub insert-tables : {ns : List ℕ} {rs : List Float} → countIn (lent (numsPart k) nums) < z .room
         → Makes (placed e) (lent (numsPart k) nums) (lent (realsPart k) reals) ns rs
         → Tabled z (back (numsPart k) nums ns) (back (realsPart k) reals rs) (set (s .queues) c (placed e (getD (s .queues) c none)))
     insert-tables l done =
@@ -240,7 +240,7 @@ module _ {z : Sizes} {nums : List ℕ} {reals : List Float} {order : List ℕ} (
         let n = row-count (q .tables) K h in
         put-row (q .tables) K h (placed e r) (good-placed e (r .live) (r .spare) (good-at (q .tables) c h) f (omega arith)) (done r (row-at (q .tables) K h))
 
-    pub insert-done : {ns : List ℕ} {rs : List Float} {order₁ : List ℕ} → counted (lent (numsPart k) nums) < z .room
+    pub insert-done : {ns : List ℕ} {rs : List Float} {order₁ : List ℕ} → countIn (lent (numsPart k) nums) < z .room
         → Tabled z ns rs (set (s .queues) c (placed e (getD (s .queues) c none)))
         → order₁ ≡ orderBytes (updated (headIn rs ns (z .room)) (schedulerOf (z .cells) order) c (k .head) (headIn rs ns (z .room) c))
         → Told z ns rs order₁ 0 (insert c e s)

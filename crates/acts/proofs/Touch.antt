@@ -12,7 +12,7 @@ use Rattle.model.specs.declared.Particle.{Particle}
 use Rattle.model.specs.Stepping.{stepped}
 use Rattle.model.specs.State.{State, withGrains, withLists, home, listed, has, grain}
 use Rattle.model.specs.Acts.{fineGrain, store, enter, entered, leave, gone}
-use Rattle.model.specs.Sizes.{memberRoom, homeRoom}
+use Rattle.layout.specs.Widths.{homeRoom, memberRoom}
 use Rattle.model.specs.Doing.{stepGrain}
 use Rattle.acts.specs.Tell.{At}
 

@@ -6,7 +6,7 @@ use mathlib.Core.Bool.{true}
 use lib.Dec.{lit<}
 use lib.Ieee.{ofBits, toBits, round, add, sub, mul, div, neg, lt, le, eq, ofInt, toUnsigned}
 use Rattle.halting.specs.Every.{every}
-use Rattle.scheduler.specs.Heap.{timeIn, childIn, down, downshifted, parentIn, up, upshifted, updated, numbered, start as startHeap}
+use Rattle.scheduler.specs.Heap.{timeIn, childIn, down, downshifted, parentIn, up, upshifted, updated, numbered, startHeap}
 use Rattle.model.specs.Sizes.{firstBad}
 use Rattle.model.specs.Grid.{across}
 use Rattle.model.specs.Stepping.{newPos}

@@ -29,7 +29,7 @@ use Rattle.listing_text.specs.declared.writer.Answer.the-variants.{TooLarge, Re
 use Rattle.listing_text.specs.Grammar.{Input}
 use Rattle.listing_text.specs.Answers.{listingOf, answerOf}
 use Rattle.listing_text.specs.Size.{longLength}
-use Rattle.answers.specs.Answer.{float, boxIn, grainIn, shown, room, budget, byHow, listing, toNext, byMark, afterStart, answerTo}
+use Rattle.answers.specs.Answer.{float, boxFrom, grainFrom, shownGrain, room, budget, byHow, listing, toNext, unlessHalted, afterStart, answerTo}
 
 abbrev Given : ℕ → Type 0
 Given k = (k ≡ 1) ⊎ ((k ≡ 3) ⊎ ((k ≡ 4) ⊎ ((5 ≤ k) × (k ≤ 9))))
@@ -39,7 +39,7 @@ pub data Reply (a : List ℕ) : Type 0 where
   large : a ≡ answerOf TooLarge → Reply a
   ends : a ≡ answerOf Spent → Reply a
   refuses : (k : ℕ) → Given k → a ≡ answerOf (Refused k) → Reply a
-  lists : (t : Float) (ps : List Particle) → a ≡ listingOf (toBits binary64 t) (map shown ps) → Reply a
+  lists : (t : Float) (ps : List Particle) → a ≡ listingOf (toBits binary64 t) (map shownGrain ps) → Reply a
 
 refused-same : (j k : ℕ) → refusedBy j ≡ refusedBy k → j ≡ k
 refused-same j k e = ap numberOf e
@@ -78,7 +78,7 @@ module _ (rate : Float) (s : State) (st : Stands s) where
   listed-reply : Reply (listing (runAll rate budget s))
   listed-reply = by ((runAll rate budget s) .how) refl
     where
-      by : (h : How) → (runAll rate budget s) .how ≡ h → Reply (byHow h (listingOf (toBits binary64 ((runAll rate budget s) .clock)) (map shown ((runAll rate budget s) .state .grains))))
+      by : (h : How) → (runAll rate budget s) .how ≡ h → Reply (byHow h (listingOf (toBits binary64 ((runAll rate budget s) .clock)) (map shownGrain ((runAll rate budget s) .state .grains))))
       by synchronised e = lists ((runAll rate budget s) .clock) ((runAll rate budget s) .state .grains) refl
       by spent e = ends refl
       by (refusedBy r) e = refuses r (run-number r e) refl
@@ -120,7 +120,7 @@ module _ (b : Domain) (F : Fits b) (gs : List Particle) (few : length gs ≤ 32)
       well : Well s
       well = reached-well s (record { box = b; fits = F; room = room; grains = gs; begun = s; accepted = e; calls = []; there = unfold after in refl })
 
-      by : (m : ℕ) → s .mark ≡ m → Reply (byMark m (toNext rate (runAll rate budget s)))
+      by : (m : ℕ) → s .mark ≡ m → Reply (unlessHalted m (toNext rate (runAll rate budget s)))
       by zero h = next-reply rate s (well .stands h)
       by (suc r) h =
           let q = start-halts b room gs s e (λ z. let w = sym h ∙ z in omega (arith, w)) in
@@ -132,10 +132,10 @@ pub answers-are : (i : Input) → Reply (answerTo i)
 unfolding answerTo
 answers-are i = by (ltb 32 (length (i .grains))) refl (longLength (float (i .l0)) || longLength (float (i .l1)))
   where
-    by : (x : Bool) → ltb 32 (length (i .grains)) ≡ x → (y : Bool) → Reply (cond (x || y) (answerOf TooLarge) (afterStart (float (i .rate)) (start (boxIn i) room (map grainIn (i .grains)))))
+    by : (x : Bool) → ltb 32 (length (i .grains)) ≡ x → (y : Bool) → Reply (cond (x || y) (answerOf TooLarge) (afterStart (float (i .rate)) (start (boxFrom i) room (map grainFrom (i .grains)))))
     by true e y = large refl
     by false e true = large refl
     by false e false =
-        let m = length-map (i .grains) grainIn in
+        let m = length-map (i .grains) grainFrom in
         let f = ltb-false 32 (length (i .grains)) e in
-        started-reply (boxIn i) (record { first = ofBits-fits binary64 (i .l0); second = ofBits-fits binary64 (i .l1) }) (map grainIn (i .grains)) (omega (arith, m, f)) (float (i .rate)) (start (boxIn i) room (map grainIn (i .grains))) refl
+        started-reply (boxFrom i) (record { first = ofBits-fits binary64 (i .l0); second = ofBits-fits binary64 (i .l1) }) (map grainFrom (i .grains)) (omega (arith, m, f)) (float (i .rate)) (start (boxFrom i) room (map grainFrom (i .grains))) refl

@@ -20,10 +20,10 @@ use Rattle.tables.specs.Decode.{cut, grainAt, grainsOf, grainsPart}
 use Rattle.checks.proofs.Cut.{cut-none, cut-step, drop-next}
 use Rattle.listing_text.specs.Grammar.{Grain}
 use Rattle.tables.specs.Inputs.{inputsOf}
-use Rattle.listing_text.specs.Rows.{fiveOf, rowsOf, grainsFrom}
+use Rattle.listing_text.specs.Rows.{fiveOf, grainRows, grainsFrom}
 use Rattle.listing_text.proofs.Rows.{rows-flat, rows-back}
 use Rattle.listing_text.proofs.Rows as text
-use Rattle.answers.specs.Answer.{float, grainIn, shown}
+use Rattle.answers.specs.Answer.{float, grainFrom, shownGrain}
 
 -- ---- f of each place of l, put into z
 module _ {A B : Type 0} (f : A → B) (d : A) where
@@ -53,21 +53,21 @@ five-set (a ∷ b ∷ c ∷ d ∷ e ∷ l) g h = refl
 
 -- ---- the rows of grains over a table's first places
 abbrev rowsIn : List Particle → List ℕ
-rowsIn ps = flat fiveOf (map shown ps)
+rowsIn ps = flat fiveOf (map shownGrain ps)
 
 pub show-none : (n : ℕ) (g : List Float) (s : List ℕ) → n ≡ 0 → s ≡ rowsIn (grainsOf n g) ++ drop (n * 5) s
 show-none n g s e = sym (λ i. rowsIn (cut-none grainAt 6 n g e i) ++ drop (e i * 5) s)
 
 pub show-more : (n : ℕ) (g : List Float) (s u v ys : List ℕ) → (n ≡ 0 → ⊥) → 5 ≤ length s → u ≡ putMid 5 (length s - 5) s ys
     → ys ≡ rowsIn (grainsOf (n - 1) (midOf 6 (length g - 6) g)) ++ drop ((n - 1) * 5) (midOf 5 (length s - 5) s)
-    → v ≡ fiveOf (shown (grainAt g)) ++ drop 5 u → v ≡ rowsIn (grainsOf n g) ++ drop (n * 5) s
+    → v ≡ fiveOf (shownGrain (grainAt g)) ++ drop 5 u → v ≡ rowsIn (grainsOf n g) ++ drop (n * 5) s
 show-more n g s u v ys z h p e q =
     let a : length (take 5 s) ≡ 5 = length-take-le 5 s h in
     let b : u ≡ take 5 s ++ ys = p ∙ put-tail (take 5 s) (drop 5 s) 5 ys (sym (take-append-drop 5 s)) a in
     let c : drop 5 u ≡ ys = ap (drop 5) b ∙ drop-at (take 5 s) ys 5 a in
     let one : suc (n - 1) ≡ n = omega (arith, z) in
     let d : drop ((n - 1) * 5) (midOf 5 (length s - 5) s) ≡ drop (n * 5) s = ap (drop ((n - 1) * 5)) (tail-is 5 s) ∙ drop-next (n - 1) 5 s ∙ ap (λ (k : ℕ). drop (k * 5) s) one in
-    q ∙ ap (λ (l : List ℕ). fiveOf (shown (grainAt g)) ++ l) (c ∙ e ∙ ap (λ (l : List ℕ). rowsIn (grainsOf (n - 1) (midOf 6 (length g - 6) g)) ++ l) d)
+    q ∙ ap (λ (l : List ℕ). fiveOf (shownGrain (grainAt g)) ++ l) (c ∙ e ∙ ap (λ (l : List ℕ). rowsIn (grainsOf (n - 1) (midOf 6 (length g - 6) g)) ++ l) d)
     ∙ ap (λ (ps : List Particle). rowsIn ps ++ drop (n * 5) s) (sym (cut-step grainAt 6 n g z))
 
 -- ---- rows read as a start's grains, and the rows of shown grains read again
@@ -85,7 +85,7 @@ get-map f (x ∷ l) (suc j) d z h = get-map f l j d z (le-of-suc-le-suc h)
 number-at : (l : List ℕ) (a j : ℕ) → a + j < length l → getD (map float (drop a l)) j nan ≡ float (getD l (a + j) 0)
 number-at l a j h = let e = length-drop a l in get-map float (drop a l) j 0 nan (omega (arith, e, h)) ∙ ap float (getD-drop a l j 0)
 
-inputs-from : (k i : ℕ) (l : List ℕ) → (i + k) * 5 ≤ length l → inputsOf k (map float (drop (i * 5) l)) ≡ map grainIn (grainsFrom l i k)
+inputs-from : (k i : ℕ) (l : List ℕ) → (i + k) * 5 ≤ length l → inputsOf k (map float (drop (i * 5) l)) ≡ map grainFrom (grainsFrom l i k)
 unfolding cut
 inputs-from zero i l h = refl
 inputs-from (suc k) i l h =
@@ -95,7 +95,7 @@ inputs-from (suc k) i l h =
     λ t. grainOf (vec ((at 0 (lit< tt) ∙ ap (λ (m : ℕ). float (getD l m 0)) z) t) (at 1 (lit< tt) t)) (vec (at 2 (lit< tt) t) (at 3 (lit< tt) t)) fzero (at 4 (lit< tt) t)
     ∷ (ap (inputsOf k) e ∙ inputs-from k (suc i) l (omega (arith, h))) t
 
-pub inputs-are : (n : ℕ) (l : List ℕ) → n * 5 ≤ length l → inputsOf n (map float l) ≡ map grainIn (grainsFrom l 0 n)
+pub inputs-are : (n : ℕ) (l : List ℕ) → n * 5 ≤ length l → inputsOf n (map float l) ≡ map grainFrom (grainsFrom l 0 n)
 inputs-are n l h = inputs-from n 0 l (omega (arith, h))
 
 flat-same : (gs : List Grain) → flat fiveOf gs ≡ text.flat gs
@@ -111,7 +111,7 @@ pub shown-back : (gs : List Grain) (n : ℕ) → length gs ≡ n → n ≤ 32 �
 shown-back gs n e h =
     let f : length gs ≤ 32 = omega (arith, e, h) in
     let z : drop (n * 5) (replicate {A = ℕ} 160 0) ≡ replicate ((32 - length gs) * 5) 0 = drop-zeros (n * 5) 160 ∙ ap (λ (m : ℕ). replicate {A = ℕ} m 0) (let w : 160 - n * 5 ≡ (32 - length gs) * 5 = omega (arith, e, h) in w) in
-    ap (λ (l : List ℕ). grainsFrom l 0 n) ((λ i. flat-same gs i ++ z i) ∙ sym (rows-flat 32 gs f)) ∙ ap (grainsFrom (rowsOf 32 gs) 0) (sym e) ∙ rows-back 32 gs f
+    ap (λ (l : List ℕ). grainsFrom l 0 n) ((λ i. flat-same gs i ++ z i) ∙ sym (rows-flat 32 gs f)) ∙ ap (grainsFrom (grainRows 32 gs) 0) (sym e) ∙ rows-back 32 gs f
 
 -- behind the header
 pub show-behind : (n : ℕ) (g : List Float) (s v : List ℕ) → v ≡ rowsIn (grainsOf n (midOf 3 (length g - 3) g)) ++ drop (n * 5) s → v ≡ rowsIn (grainsOf n (grainsPart g)) ++ drop (n * 5) s

@@ -19,12 +19,12 @@ use Rattle.simulator.specs.Start.{with, startAll}
 use Rattle.simulator.specs.Run.{runTables}
 use Rattle.listing_text.specs.declared.writer.Answer.the-variants as answer
 use Rattle.text.specs.Put.{Put}
-use Rattle.listing_text.specs.Rows.{fiveOf, listed}
+use Rattle.listing_text.specs.Rows.{fiveOf, rowsListing}
 use Rattle.listing_text.specs.Size.{longLength, tooLarge}
 use Rattle.listing_text.specs.Answers.{answerOf}
 use Rattle.text.proofs.Putting.{put-as}
-use Rattle.answers.specs.Answer.{float, shown, room, budget}
-use Rattle.answers.specs.Runs.{byAnswer, begun, goOn, simulated, reportOf, blank, spelt, boxed, spelling, served, judged}
+use Rattle.answers.specs.Answer.{float, shownGrain, room, budget}
+use Rattle.answers.specs.Runs.{byAnswer, startedReport, goOn, simulated, reportOf, blank, spelt, boxRead, spelling, served, judged}
 
 -- ---- no run behind what did not synchronise, one behind what did, two behind a start
 pub kept : (o p : Report) (rate : Float) (t : Tables) → o ≡ p → toldTables p t ≡ goOn rate (toldTables p t) → toldTables p t ≡ goOn rate (toldTables o t)
@@ -36,11 +36,11 @@ ran o p c n rate t u h e = e ∙ sym (ap (λ (x : Report). goOn rate (toldTables
 module _ (b : Domain) (n : ℕ) (rate : Float) (inputs : List Float) (t : Tables) where
   pub simulated-by : (a : Started) (o p q : Report) (u v w : Tables) → with a u ≡ startAll b n room inputs t → o ≡ byAnswer a → toldTables p v ≡ goOn rate (toldTables o u) → toldTables q w ≡ goOn rate (toldTables p v) → toldTables q w ≡ simulated b n rate inputs t
   unfolding simulated
-  simulated-by a o p q u v w e h f g = g ∙ ap (goOn rate) (f ∙ ap (goOn rate) (ap (λ (x : Report). toldTables x u) h ∙ ap begun e))
+  simulated-by a o p q u v w e h f g = g ∙ ap (goOn rate) (f ∙ ap (goOn rate) (ap (λ (x : Report). toldTables x u) h ∙ ap startedReport e))
 
 -- ---- what is written
-pub listing-put : (o : Report) (t : Float) (b m n : ℕ) (l s u : List ℕ) (k : ℕ) → o ≡ Synchronised t m → b ≡ toBits binary64 t → Put 0 (listed b n l) s u k → Put 0 (spelt o n l) s u k
-listing-put o t b m n l s u k e h p = put-as (ap (λ (x : ℕ). listed x n l) h ∙ sym (ap (λ (x : Report). spelt x n l) e)) p
+pub listing-put : (o : Report) (t : Float) (b m n : ℕ) (l s u : List ℕ) (k : ℕ) → o ≡ Synchronised t m → b ≡ toBits binary64 t → Put 0 (rowsListing b n l) s u k → Put 0 (spelt o n l) s u k
+listing-put o t b m n l s u k e h p = put-as (ap (λ (x : ℕ). rowsListing x n l) h ∙ sym (ap (λ (x : Report). spelt x n l) e)) p
 
 pub report-put : (o q : Report) (n : ℕ) (l s u : List ℕ) (k : ℕ) → o ≡ q → Put 0 (spelt q n l) s u k → Put 0 (spelt o n l) s u k
 report-put o q n l s u k e p = put-as (sym (ap (λ (x : Report). spelt x n l) e)) p
@@ -52,24 +52,24 @@ told-back (Refused k c n) t = refl
 
 pub serve-ends : (o : Report) (b : Domain) (n : ℕ) (rate : Float) (inputs : List Float) (u : Tables) (v s : List ℕ)
     → toldTables o u ≡ simulated b n rate inputs (tables (replicate 591 0) (replicate 195 fzero) (replicate 2313 0) (replicate 5760 fzero) (replicate 512 0))
-    → v ≡ flat fiveOf (map shown (grainsOf n (grainsPart (u .grains)))) ++ drop (n * 5) s
-    → (o ≡ reportOf (simulated b n rate inputs blank)) × (v ≡ flat fiveOf (map shown (grainsOf n (grainsPart ((simulated b n rate inputs blank) .after .grains)))) ++ drop (n * 5) s)
+    → v ≡ flat fiveOf (map shownGrain (grainsOf n (grainsPart (u .grains)))) ++ drop (n * 5) s
+    → (o ≡ reportOf (simulated b n rate inputs blank)) × (v ≡ flat fiveOf (map shownGrain (grainsOf n (grainsPart ((simulated b n rate inputs blank) .after .grains)))) ++ drop (n * 5) s)
 unfolding blank
 serve-ends o b n rate inputs u v s e h =
-    (sym (told-back o u) ∙ ap reportOf e, h ∙ ap (λ (x : RanTables). flat fiveOf (map shown (grainsOf n (grainsPart (x .after .grains)))) ++ drop (n * 5) s) e)
+    (sym (told-back o u) ∙ ap reportOf e, h ∙ ap (λ (x : RanTables). flat fiveOf (map shownGrain (grainsOf n (grainsPart (x .after .grains)))) ++ drop (n * 5) s) e)
 
 pub served-put : (b : Domain) (rate : Float) (grains : List ℕ) (n : ℕ) (inputs : List Float) (o : Report) (v s u : List ℕ) (k : ℕ) → inputs ≡ map float grains
-    → (o ≡ reportOf (simulated b n rate inputs blank)) × (v ≡ flat fiveOf (map shown (grainsOf n (grainsPart ((simulated b n rate inputs blank) .after .grains)))) ++ drop (n * 5) (replicate 160 0))
+    → (o ≡ reportOf (simulated b n rate inputs blank)) × (v ≡ flat fiveOf (map shownGrain (grainsOf n (grainsPart ((simulated b n rate inputs blank) .after .grains)))) ++ drop (n * 5) (replicate 160 0))
     → Put 0 (spelt o n v) s u k → Put 0 (served b rate grains n) s u k
 unfolding served
 served-put b rate grains n inputs o v s u k ei e p = put-as ((λ i. spelt (e .0 i) n (e .1 i)) ∙ (λ i. spelling (simulated b n rate (ei i) blank) n)) p
 
 -- ---- too large, or served: by the test x, which is y
-pub judged-put : (numbers grains : List ℕ) (n : ℕ) (x y : Bool) (b : Domain) (s u : List ℕ) (k : ℕ) → b ≡ boxed numbers → x ≡ tooLarge n (b .lengths .x) (b .lengths .y) → x ≡ y
-    → Put 0 (cond y (answerOf answer.TooLarge) (served (boxed numbers) (float (getD numbers 4 0)) grains n)) s u k → Put 0 (judged numbers grains n) s u k
+pub judged-put : (numbers grains : List ℕ) (n : ℕ) (x y : Bool) (b : Domain) (s u : List ℕ) (k : ℕ) → b ≡ boxRead numbers → x ≡ tooLarge n (b .lengths .x) (b .lengths .y) → x ≡ y
+    → Put 0 (cond y (answerOf answer.TooLarge) (served (boxRead numbers) (float (getD numbers 4 0)) grains n)) s u k → Put 0 (judged numbers grains n) s u k
 unfolding judged
 judged-put numbers grains n x y b s u k eb e h p =
-    put-as (ap (λ (z : Bool). cond z (answerOf answer.TooLarge) (served (boxed numbers) (float (getD numbers 4 0)) grains n)) (sym h ∙ e ∙ ap (λ (w : Domain). tooLarge n (w .lengths .x) (w .lengths .y)) eb)) p
+    put-as (ap (λ (z : Bool). cond z (answerOf answer.TooLarge) (served (boxRead numbers) (float (getD numbers 4 0)) grains n)) (sym h ∙ e ∙ ap (λ (w : Domain). tooLarge n (w .lengths .x) (w .lengths .y)) eb)) p
 
 pub few : (n : ℕ) (a b : Float) (x : Bool) → x ≡ tooLarge n a b → x ≡ false → n ≤ 32
 few n a b x e h = ltb-false 32 n (by (ltb 32 n) (sym e ∙ h))

@@ -28,7 +28,7 @@ use Rattle.tables.specs.Lengths.{listsNeed, grainsNeed, queueNeed, eventsNeed}
 use Rattle.tables.specs.Inputs.{inputsOf}
 use Rattle.tables.specs.Encode.{sizesIn, encoded}
 use Rattle.starting.specs.Cleared.{sizesFor, cleared}
-use Rattle.simulator.specs.Start.{fits, StartedWith, with, leaving, startAll}
+use Rattle.simulator.specs.Start.{fits, StartedWith, with, startedOver, startAll}
 use Rattle.simulator.specs.Start as simulator
 use Rattle.running.specs.Ran.{RanTables}
 use Rattle.simulator.specs.Run.{runTables}
@@ -42,9 +42,9 @@ use Rattle.listing_text.specs.Rows.{fiveOf, grainsFrom}
 use Rattle.listing_text.specs.Reading.{closedOf, fineOf}
 use Rattle.listing_text.specs.Answers.{listingOf, answerOf}
 use Rattle.listing_text.specs.Size.{longLength, tooLarge}
-use Rattle.answers.specs.Answer.{float, shown, grainIn, room, budget, byHow, listing, toNext, byMark, afterStart, answerTo}
+use Rattle.answers.specs.Answer.{float, shownGrain, grainFrom, room, budget, byHow, listing, toNext, unlessHalted, afterStart, answerTo}
 use Rattle.answers.specs.Read.{inputFrom, inputOf, answered}
-use Rattle.answers.specs.Runs.{begun, goOn, simulated, blank, spelt, boxed, rows, spelling, served, judged}
+use Rattle.answers.specs.Runs.{startedReport, goOn, simulated, blank, spelt, boxRead, rows, spelling, served, judged}
 use Rattle.answers.specs.Runs as runs
 use Rattle.answers.proofs.RowLaws.{inputs-are, shown-back}
 use Rattle.answers.proofs.NineCells.{nine-cells}
@@ -143,12 +143,12 @@ module _ (b : Domain) (F : Fits b) (n : ℕ) (few : n ≤ 32) (nine : cells b �
   grains-read : grainsOf n (grainsPart ((encoded v ground) .grains)) ≡ v .grains
   grains-read = ap (λ (k : ℕ). grainsOf k (grainsPart ((encoded v ground) .grains))) (sym (count-read ∙ many)) ∙ ap (λ (x : State). x .grains) (decoded-encoded v (well-v .sound) ground long-v)
 
-  shown-read : grainsFrom (rows n (encoded v ground)) 0 n ≡ map shown (v .grains)
+  shown-read : grainsFrom (rows n (encoded v ground)) 0 n ≡ map shownGrain (v .grains)
   shown-read =
-      ap (λ (ps : List Particle). grainsFrom (flat fiveOf (map shown ps) ++ drop (n * 5) (replicate {A = ℕ} 160 0)) 0 n) grains-read
-      ∙ shown-back (map shown (v .grains)) n (length-map (v .grains) shown ∙ many) few
+      ap (λ (ps : List Particle). grainsFrom (flat fiveOf (map shownGrain ps) ++ drop (n * 5) (replicate {A = ℕ} 160 0)) 0 n) grains-read
+      ∙ shown-back (map shownGrain (v .grains)) n (length-map (v .grains) shownGrain ∙ many) few
 
-  listing-is : (h : How) → spelt (runs.byHow h (second .clock) (second .count)) n (rows n (encoded v ground)) ≡ byHow h (listingOf (toBits binary64 (second .clock)) (map shown (v .grains)))
+  listing-is : (h : How) → spelt (runs.reportBy h (second .clock) (second .count)) n (rows n (encoded v ground)) ≡ byHow h (listingOf (toBits binary64 (second .clock)) (map shownGrain (v .grains)))
   listing-is synchronised = ap (λ (x : Bool). cond x [] (listingOf (toBits binary64 (second .clock)) (grainsFrom (rows n (encoded v ground)) 0 n))) (le-ltb 32 n few) ∙ ap (listingOf (toBits binary64 (second .clock))) shown-read
   listing-is spent = refl
   listing-is (refusedBy r) = refl
@@ -164,9 +164,9 @@ module _ (b : Domain) (F : Fits b) (n : ℕ) (few : n ≤ 32) (nine : cells b �
 -- ---- a start
 module _ (b : Domain) (F : Fits b) (n : ℕ) (few : n ≤ 32) (inputs : List Float) (rate : Float) where
   abbrev bothRuns : StartedWith → RanTables
-  bothRuns w = goOn rate (goOn rate (begun w))
+  bothRuns w = goOn rate (goOn rate (startedReport w))
 
-  begun-is : cells b ≡ 9 → (x : Begun) → start b room (inputsOf n inputs) ≡ x → spelling (bothRuns (leaving x blank)) n ≡ afterStart rate x
+  begun-is : cells b ≡ 9 → (x : Begun) → start b room (inputsOf n inputs) ≡ x → spelling (bothRuns (startedOver x blank)) n ≡ afterStart rate x
   begun-is nine (refused r g) e = by (eqb r 4) refl
     where
       by : (y : Bool) → eqb r 4 ≡ y → spelling (bothRuns (with (cond y (start-answer.BadGrain g) (start-answer.Refused r)) blank)) n ≡ answerOf (Refused r)
@@ -174,11 +174,11 @@ module _ (b : Domain) (F : Fits b) (n : ℕ) (few : n ≤ 32) (inputs : List Flo
       by false h = refl
   begun-is nine (started s) e = by (s .mark)
     where
-      by : (m : ℕ) → spelling (bothRuns (with (simulator.byMark m) (encoded s ground))) n ≡ byMark m (toNext rate (runAll rate budget s))
+      by : (m : ℕ) → spelling (bothRuns (with (simulator.markTold m) (encoded s ground))) n ≡ unlessHalted m (toNext rate (runAll rate budget s))
       by zero = runs-are b F n few nine inputs rate s e
       by (suc r) = refl
 
-  open-start : boxOk b ≡ true → cells b ≡ 9 → n * 5 ≤ length inputs → startAll b n room inputs blank ≡ leaving (start b room (inputsOf n inputs)) blank
+  open-start : boxOk b ≡ true → cells b ≡ 9 → n * 5 ≤ length inputs → startAll b n room inputs blank ≡ startedOver (start b room (inputsOf n inputs)) blank
   unfolding startAll
   open-start h nine k = rw (h, fits-blank b n few nine inputs k)
 
@@ -213,26 +213,26 @@ module _ (numbers grains : List ℕ) (n : ℕ) (long : length grains ≡ 160) wh
   abbrev rate : Float
   rate = float (getD numbers 4 0)
 
-  box-fits : Fits (boxed numbers)
+  box-fits : Fits (boxRead numbers)
   box-fits = record { first = ofBits-fits binary64 (getD numbers 0 0); second = ofBits-fits binary64 (getD numbers 1 0) }
 
-  small-is : ltb 32 n ≡ false → longLength (float (getD numbers 0 0)) ≡ false → longLength (float (getD numbers 1 0)) ≡ false → served (boxed numbers) rate grains n ≡ afterStart rate (start (boxed numbers) room (map grainIn (grainsFrom grains 0 n)))
+  small-is : ltb 32 n ≡ false → longLength (float (getD numbers 0 0)) ≡ false → longLength (float (getD numbers 1 0)) ≡ false → served (boxRead numbers) rate grains n ≡ afterStart rate (start (boxRead numbers) room (map grainFrom (grainsFrom grains 0 n)))
   unfolding served
   small-is h p q =
       let few = ltb-false 32 n h in
       let k : n * 5 ≤ length (map float grains) = let m = length-map grains float in omega (arith, m, long, few) in
-      served-is (boxed numbers) box-fits n few (map float grains) rate k p q ∙ ap (λ (gs : List Particle). afterStart rate (start (boxed numbers) room gs)) (inputs-are n grains (omega (arith, long, few)))
+      served-is (boxRead numbers) box-fits n few (map float grains) rate k p q ∙ ap (λ (gs : List Particle). afterStart rate (start (boxRead numbers) room gs)) (inputs-are n grains (omega (arith, long, few)))
 
   pub judged-is : judged numbers grains n ≡ answerTo (inputFrom numbers grains n)
   unfolding judged answerTo
   judged-is =
       by (tooLarge n (float (getD numbers 0 0)) (float (getD numbers 1 0))) refl
-      ∙ ap (λ (k : ℕ). cond (tooLarge k (float (getD numbers 0 0)) (float (getD numbers 1 0))) (answerOf TooLarge) (afterStart rate (start (boxed numbers) room (map grainIn (grainsFrom grains 0 n)))))
+      ∙ ap (λ (k : ℕ). cond (tooLarge k (float (getD numbers 0 0)) (float (getD numbers 1 0))) (answerOf TooLarge) (afterStart rate (start (boxRead numbers) room (map grainFrom (grainsFrom grains 0 n)))))
       (sym (counted n 0 grains))
     where
       by : (x : Bool) → tooLarge n (float (getD numbers 0 0)) (float (getD numbers 1 0)) ≡ x
-          → cond (tooLarge n (float (getD numbers 0 0)) (float (getD numbers 1 0))) (answerOf TooLarge) (served (boxed numbers) rate grains n)
-          ≡ cond (tooLarge n (float (getD numbers 0 0)) (float (getD numbers 1 0))) (answerOf TooLarge) (afterStart rate (start (boxed numbers) room (map grainIn (grainsFrom grains 0 n))))
+          → cond (tooLarge n (float (getD numbers 0 0)) (float (getD numbers 1 0))) (answerOf TooLarge) (served (boxRead numbers) rate grains n)
+          ≡ cond (tooLarge n (float (getD numbers 0 0)) (float (getD numbers 1 0))) (answerOf TooLarge) (afterStart rate (start (boxRead numbers) room (map grainFrom (grainsFrom grains 0 n))))
       by true e = rw e
       by false e = let k = split (ltb 32 n) (longLength (float (getD numbers 0 0))) (longLength (float (getD numbers 1 0))) e in rw e (small-is (k .0) (k .1) (k .2))
 

@@ -25,14 +25,14 @@ abbrev pub float : ℕ → Float
 float b = ofBits binary64 b
 
 -- the box and a grain of a text; a grain as it is listed
-abbrev pub boxIn : Input → Domain
-boxIn i = boxOf (vec (float (i .l0)) (float (i .l1))) (i .p0) (i .p1)
+abbrev pub boxFrom : Input → Domain
+boxFrom i = boxOf (vec (float (i .l0)) (float (i .l1))) (i .p0) (i .p1)
 
-abbrev pub grainIn : Grain → Particle
-grainIn g = grainOf (vec (float (g .x)) (float (g .y))) (vec (float (g .vx)) (float (g .vy))) fzero (float (g .val))
+abbrev pub grainFrom : Grain → Particle
+grainFrom g = grainOf (vec (float (g .x)) (float (g .y))) (vec (float (g .vx)) (float (g .vy))) fzero (float (g .val))
 
-abbrev pub shown : Particle → Grain
-shown p = record { x = toBits binary64 (p .pos .x); y = toBits binary64 (p .pos .y); vx = toBits binary64 (p .vel .x); vy = toBits binary64 (p .vel .y); val = toBits binary64 (p .val) }
+abbrev pub shownGrain : Particle → Grain
+shownGrain p = record { x = toBits binary64 (p .pos .x); y = toBits binary64 (p .pos .y); vx = toBits binary64 (p .vel .x); vy = toBits binary64 (p .vel .y); val = toBits binary64 (p .val) }
 
 -- ---- "64 events a cell", "65,536 events at most in each run"
 abbrev pub room : ℕ
@@ -49,25 +49,25 @@ byHow (refusedBy r) l = answerOf (Refused r)
 
 -- what follows the run to the next, and the run through the first
 abbrev pub listing : Ran → List ℕ
-listing r = byHow (r .how) (listingOf (toBits binary64 (r .clock)) (map shown (r .state .grains)))
+listing r = byHow (r .how) (listingOf (toBits binary64 (r .clock)) (map shownGrain (r .state .grains)))
 
 abbrev pub toNext : Float → Ran → List ℕ
 toNext rate r = byHow (r .how) (listing (runAll rate budget (r .state)))
 
 -- a start that halts is answered before the rate is looked at
-abbrev pub byMark : ℕ → List ℕ → List ℕ
-byMark zero l = l
-byMark (suc r) l = answerOf (Refused (suc r))
+abbrev pub unlessHalted : ℕ → List ℕ → List ℕ
+unlessHalted zero l = l
+unlessHalted (suc r) l = answerOf (Refused (suc r))
 
 abbrev pub afterStart : Float → Begun → List ℕ
 afterStart rate (refused r g) = answerOf (Refused r)
-afterStart rate (started s) = byMark (s .mark) (toNext rate (runAll rate budget s))
+afterStart rate (started s) = unlessHalted (s .mark) (toNext rate (runAll rate budget s))
 
 -- ---- the answer to the numbers of a text of the form: `too large`, "then" refused, spent, or the listing
 unfoldable pub answerTo : Input → List ℕ
 answerTo i =
     cond (tooLarge (length (i .grains)) (float (i .l0)) (float (i .l1))) (answerOf TooLarge)
-    (afterStart (float (i .rate)) (start (boxIn i) room (map grainIn (i .grains))))
+    (afterStart (float (i .rate)) (start (boxFrom i) room (map grainFrom (i .grains))))
 
 -- ---- s is the text of the input, whose numbers, n among them, are of 64 bits
 pub record Formed (s : List ℕ) (i : Input) : Type 0 where

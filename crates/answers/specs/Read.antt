@@ -2,9 +2,9 @@
 use Prim.Native.Nat.{ℕ}
 use mathlib.Core.Path.{_≡_}
 use mathlib.Core.List.{List}
-use mathlib.Core.Bool.{Bool, cond}
-use lib.Dec.{eqb}
+use mathlib.Core.Bool.{cond}
 use lib.ListN.{getD}
+use Rattle.tables.specs.Decode.{isSet}
 use Rattle.listing_text.specs.declared.reader.Reader.{Reader}
 use Rattle.listing_text.specs.declared.writer.Answer.the-variants.{Malformed}
 use Rattle.listing_text.specs.Grammar.{Input}
@@ -22,15 +22,12 @@ abbrev pub OfAnswer : Reader → (List ℕ → Type 0) → Type 0
 OfAnswer r P = (s a : List ℕ) → Fed s r → Answers s a → P a
 
 -- ---- whatever the reader holds
-abbrev pub flag : ℕ → Bool
-flag n = eqb n 1
-
 abbrev pub inputFrom : List ℕ → List ℕ → ℕ → Input
 inputFrom numbers grains n = record {
   l0 = getD numbers 0 0;
   l1 = getD numbers 1 0;
-  p0 = flag (getD numbers 2 0);
-  p1 = flag (getD numbers 3 0);
+  p0 = isSet (getD numbers 2 0);
+  p1 = isSet (getD numbers 3 0);
   rate = getD numbers 4 0;
   grains = grainsFrom grains 0 n;
 }

@@ -14,16 +14,15 @@ use Rattle.model.specs.declared.Report.{Report}
 use Rattle.model.specs.declared.Report.the-variants.{Synchronised, Spent, Refused}
 use Rattle.model.specs.Grid.{boxOf}
 use Rattle.model.specs.Run.{How, synchronised, spent, refused}
-use Rattle.tables.specs.Decode.{Tables, tables, grainsOf, grainsPart}
+use Rattle.tables.specs.Decode.{Tables, tables, isSet, grainsOf, grainsPart}
 use Rattle.simulator.specs.Start.{StartedWith, startAll}
 use Rattle.running.specs.Ran.{RanTables, toldTables}
 use Rattle.simulator.specs.Run.{runTables}
 use Rattle.listing_text.specs.declared.writer.Answer.the-variants as answer
-use Rattle.listing_text.specs.Rows.{fiveOf, listed}
+use Rattle.listing_text.specs.Rows.{fiveOf, rowsListing}
 use Rattle.listing_text.specs.Answers.{answerOf}
 use Rattle.listing_text.specs.Size.{tooLarge}
-use Rattle.answers.specs.Answer.{float, shown, room, budget}
-use Rattle.answers.specs.Read.{flag}
+use Rattle.answers.specs.Answer.{float, shownGrain, room, budget}
 
 -- ---- a start's answer as the report of a run: one that is accepted stands where a run can begin, at the clock 0
 abbrev pub byAnswer : Started → Report
@@ -32,21 +31,21 @@ byAnswer (start.Halted r) = Refused r fzero 0
 byAnswer (start.Refused r) = Refused r fzero 0
 byAnswer (start.BadGrain g) = Refused 4 fzero 0
 
-abbrev pub begun : StartedWith → RanTables
-begun w = toldTables (byAnswer (w .answer)) (w .after)
+abbrev pub startedReport : StartedWith → RanTables
+startedReport w = toldTables (byAnswer (w .answer)) (w .after)
 
 -- ---- a run, behind whatever synchronised
-abbrev pub again : How → Float → RanTables → RanTables
-again synchronised rate r = runTables rate budget (r .after)
-again spent rate r = r
-again (refused k) rate r = r
+abbrev pub ranAgain : How → Float → RanTables → RanTables
+ranAgain synchronised rate r = runTables rate budget (r .after)
+ranAgain spent rate r = r
+ranAgain (refused k) rate r = r
 
 abbrev pub goOn : Float → RanTables → RanTables
-goOn rate r = again (r .how) rate r
+goOn rate r = ranAgain (r .how) rate r
 
 -- a start, and two runs behind it
 unfoldable pub simulated : Domain → ℕ → Float → List Float → Tables → RanTables
-simulated b n rate inputs t = goOn rate (goOn rate (begun (startAll b n room inputs t)))
+simulated b n rate inputs t = goOn rate (goOn rate (startedReport (startAll b n room inputs t)))
 
 -- tables for nine cells, 32 grains and 64 events a cell
 unfoldable pub blank : Tables
@@ -54,24 +53,24 @@ blank = tables (replicate 591 0) (replicate 195 fzero) (replicate 2313 0) (repli
 
 -- ---- what is written
 abbrev pub spelt : Report → ℕ → List ℕ → List ℕ
-spelt (Synchronised t k) n l = listed (toBits binary64 t) n l
+spelt (Synchronised t k) n l = rowsListing (toBits binary64 t) n l
 spelt (Spent t k) n l = answerOf answer.Spent
 spelt (Refused r t k) n l = answerOf (answer.Refused r)
 
-abbrev pub byHow : How → Float → ℕ → Report
-byHow synchronised t k = Synchronised t k
-byHow spent t k = Spent t k
-byHow (refused r) t k = Refused r t k
+abbrev pub reportBy : How → Float → ℕ → Report
+reportBy synchronised t k = Synchronised t k
+reportBy spent t k = Spent t k
+reportBy (refused r) t k = Refused r t k
 
 abbrev pub reportOf : RanTables → Report
-reportOf r = byHow (r .how) (r .clock) (r .count)
+reportOf r = reportBy (r .how) (r .clock) (r .count)
 
-abbrev pub boxed : List ℕ → Domain
-boxed l = boxOf (vec (float (getD l 0 0)) (float (getD l 1 0))) (flag (getD l 2 0)) (flag (getD l 3 0))
+abbrev pub boxRead : List ℕ → Domain
+boxRead l = boxOf (vec (float (getD l 0 0)) (float (getD l 1 0))) (isSet (getD l 2 0)) (isSet (getD l 3 0))
 
 -- the grains' numbers in the tables afterwards, as bits, and zeros beyond
 abbrev pub rows : ℕ → Tables → List ℕ
-rows n t = flat fiveOf (map shown (grainsOf n (grainsPart (t .grains)))) ++ drop (n * 5) (replicate 160 0)
+rows n t = flat fiveOf (map shownGrain (grainsOf n (grainsPart (t .grains)))) ++ drop (n * 5) (replicate 160 0)
 
 abbrev pub spelling : RanTables → ℕ → List ℕ
 spelling r n = spelt (reportOf r) n (rows n (r .after))
@@ -80,4 +79,4 @@ unfoldable pub served : Domain → Float → List ℕ → ℕ → List ℕ
 served b rate grains n = spelling (simulated b n rate (map float grains) blank) n
 
 unfoldable pub judged : List ℕ → List ℕ → ℕ → List ℕ
-judged numbers grains n = cond (tooLarge n (float (getD numbers 0 0)) (float (getD numbers 1 0))) (answerOf answer.TooLarge) (served (boxed numbers) (float (getD numbers 4 0)) grains n)
+judged numbers grains n = cond (tooLarge n (float (getD numbers 0 0)) (float (getD numbers 1 0))) (answerOf answer.TooLarge) (served (boxRead numbers) (float (getD numbers 4 0)) grains n)

@@ -3,7 +3,7 @@ ghost use mathlib.Core.Path.{_≡_};
 ghost use Prim.Native.Nat.{_≤_};
 ghost use Rattle.text.specs.Put.{Put};
 ghost use Rattle.answers.specs.Read.{OfAnswer, answered};
-ghost use Rattle.answers.specs.Runs.{boxed, spelt, served, judged};
+ghost use Rattle.answers.specs.Runs.{boxRead, spelt, served, judged};
 use crate::rows;
 use crate::runs;
 use listing_text::Answer;
@@ -19,7 +19,7 @@ use text::float_of_bits;
 
 // The box that was read.
 fn box_of(numbers: &[u64; 10]) -> Domain
-    ensures { λ r. ⌜ r ≡ boxed (now (numbers .entry)) ⌝ }
+    ensures { λ r. ⌜ r ≡ boxRead (now (numbers .entry)) ⌝ }
 {
     let lengths = MyVec::new(float_of_bits(numbers[0]), float_of_bits(numbers[1]));
     Domain::new(lengths, numbers[2] == 1, numbers[3] == 1)

@@ -6,7 +6,7 @@ ghost use lib.ListN.{length, drop};
 ghost use Rattle.chunks.specs.Flat.{flat};
 ghost use Rattle.tables.specs.Decode.{grainAt, grainsOf, grainsPart};
 ghost use Rattle.listing_text.specs.Rows.{fiveOf};
-ghost use Rattle.answers.specs.Answer.{float, shown};
+ghost use Rattle.answers.specs.Answer.{float, shownGrain};
 use text::bits_of_float;
 use text::float_of_bits;
 
@@ -25,7 +25,7 @@ pub(crate) fn floats(bits: &[u64], out: &mut [f64])
 // The five numbers of a table's first grain, as bits: its time is left out.
 fn show_one(grains: &[f64], bits: &mut [u64])
     requires { ⌜ (6 ≤ length (now grains)) × (5 ≤ length (now bits)) ⌝ }
-    ensures { λ _. ⌜ now (bits .exit) ≡ fiveOf (shown (grainAt (now (grains .entry)))) ++ drop 5 (now (bits .entry)) ⌝ }
+    ensures { λ _. ⌜ now (bits .exit) ≡ fiveOf (shownGrain (grainAt (now (grains .entry)))) ++ drop 5 (now (bits .entry)) ⌝ }
 {
     bits[0] = bits_of_float(grains[0]);
     bits[1] = bits_of_float(grains[1]);
@@ -37,7 +37,7 @@ fn show_one(grains: &[f64], bits: &mut [u64])
 // Those of the first n grains.
 fn show_rows(grains: &[f64], n: usize, bits: &mut [u64])
     requires { ⌜ (n * 6 ≤ length (now grains)) × (n * 5 ≤ length (now bits)) ⌝ }
-    ensures { λ _. ⌜ now (bits .exit) ≡ flat fiveOf (map shown (grainsOf n (now (grains .entry)))) ++ drop (n * 5) (now (bits .entry)) ⌝ }
+    ensures { λ _. ⌜ now (bits .exit) ≡ flat fiveOf (map shownGrain (grainsOf n (now (grains .entry)))) ++ drop (n * 5) (now (bits .entry)) ⌝ }
 {
     if n == 0 {
         return;
@@ -49,7 +49,7 @@ fn show_rows(grains: &[f64], n: usize, bits: &mut [u64])
 // The same of a table with its header.
 pub(crate) fn show(grains: &[f64], n: usize, bits: &mut [u64])
     requires { ⌜ (3 + n * 6 ≤ length (now grains)) × (n * 5 ≤ length (now bits)) ⌝ }
-    ensures { λ _. ⌜ now (bits .exit) ≡ flat fiveOf (map shown (grainsOf n (grainsPart (now (grains .entry))))) ++ drop (n * 5) (now (bits .entry)) ⌝ }
+    ensures { λ _. ⌜ now (bits .exit) ≡ flat fiveOf (map shownGrain (grainsOf n (grainsPart (now (grains .entry))))) ++ drop (n * 5) (now (bits .entry)) ⌝ }
 {
     show_rows(&grains[3..], n, bits);
 }

@@ -8,7 +8,7 @@ ghost use Rattle.chunks.specs.Flat.{flat};
 ghost use Rattle.tables.specs.Decode.{tables, grainsOf, grainsPart};
 ghost use Rattle.running.specs.Ran.{toldTables};
 ghost use Rattle.listing_text.specs.Rows.{fiveOf};
-ghost use Rattle.answers.specs.Answer.{shown};
+ghost use Rattle.answers.specs.Answer.{shownGrain};
 ghost use Rattle.answers.specs.Runs.{byAnswer, goOn, simulated, reportOf, blank};
 use crate::rows;
 use model::Domain;
@@ -122,7 +122,7 @@ pub(crate) fn serve(
 ) -> Report
     requires { ⌜ n ≤ 32 ⌝ }
     ensures { λ r. ⌜ r ≡ reportOf (simulated domain n rate (now (inputs .entry)) blank) ⌝ }
-    ensures { λ r. ⌜ now (bits .exit) ≡ flat fiveOf (map shown (grainsOf n (grainsPart ((simulated domain n rate (now (inputs .entry)) blank) .after .grains)))) ++ drop (n * 5) (now (bits .entry)) ⌝ }
+    ensures { λ r. ⌜ now (bits .exit) ≡ flat fiveOf (map shownGrain (grainsOf n (grainsPart ((simulated domain n rate (now (inputs .entry)) blank) .after .grains)))) ++ drop (n * 5) (now (bits .entry)) ⌝ }
 {
     let mut lists = [0u64; 591];
     let mut grains = [0f64; 195];

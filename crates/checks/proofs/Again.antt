@@ -17,7 +17,7 @@ use Rattle.tables.specs.Layout.{places, rowNums, queueNums}
 use Rattle.tables.specs.Holds.{Rows, Good}
 use Rattle.tables.proofs.RowLaws.{live-most}
 use Rattle.tables.specs.Decode.{Tables}
-use Rattle.checks.specs.Check.{counted, legibleBy}
+use Rattle.checks.specs.Check.{countsWithin, legibleBy}
 use Rattle.tables.specs.Lengths.{queueNeed}
 use Rattle.checks.proofs.Hold.{Hold}
 use Rattle.tables.proofs.Runs.{row-nums-long}
@@ -25,19 +25,19 @@ use Rattle.checks.proofs.Back.{row-wide, lists-cut, members-cut, queue-
 
 -- ---- counts of rows that are written are within their room
 module _ {A : Type 0} (enc : A → List ℕ) (v w : ℕ) (P : A → Type 0) (long : (x : A) → P x → length (enc x) ≡ w) (few : (x : A) (y : List ℕ) → P x → getD (enc x ++ y) 0 0 ≤ v) where
-  counted-flat : (n : ℕ) (xs : List A) (y : List ℕ) → length xs ≡ n → All P xs → counted v w n (flat enc xs ++ y) ≡ true
-  unfolding counted
+  counted-flat : (n : ℕ) (xs : List A) (y : List ℕ) → length xs ≡ n → All P xs → countsWithin v w n (flat enc xs ++ y) ≡ true
+  unfolding countsWithin
   counted-flat zero xs y e f = refl
   counted-flat (suc n) [] y e f = absurd (suc-ne-zero n (sym e))
   counted-flat (suc n) (x ∷ xs) y e f =
-      ap (counted v w (suc n)) (append-assoc (enc x) (flat enc xs) y)
-      ∙ ap (λ (b : Bool). b && counted v w n (drop w (enc x ++ (flat enc xs ++ y)))) (le-leb _ v (few x (flat enc xs ++ y) (f .0)))
-      ∙ ap (counted v w n) (drop-at (enc x) (flat enc xs ++ y) w (long x (f .0))) ∙ counted-flat n xs y (omega arith) (f .1)
+      ap (countsWithin v w (suc n)) (append-assoc (enc x) (flat enc xs) y)
+      ∙ ap (λ (b : Bool). b && countsWithin v w n (drop w (enc x ++ (flat enc xs ++ y)))) (le-leb _ v (few x (flat enc xs ++ y) (f .0)))
+      ∙ ap (countsWithin v w n) (drop-at (enc x) (flat enc xs ++ y) w (long x (f .0))) ∙ counted-flat n xs y (omega arith) (f .1)
 
 live-few : {A : Type 0} (r : Row A) {k : ℕ} → length (places r) ≡ k → length (r .live) ≤ k
 live-few r e = let a = live-most r in omega arith
 
-rows-counted : (k : ℕ) {m n : ℕ} (rs : List (Row ℕ)) (y : List ℕ) → Rows m k n rs → counted k (k + 1) m (flat rowNums rs ++ y) ≡ true
+rows-counted : (k : ℕ) {m n : ℕ} (rs : List (Row ℕ)) (y : List ℕ) → Rows m k n rs → countsWithin k (k + 1) m (flat rowNums rs ++ y) ≡ true
 rows-counted k {m = m} rs y R =
     counted-flat rowNums k (k + 1) (λ (r : Row ℕ). length (rowNums r) ≡ k + 1) (λ r p. p) (λ r y p. live-few r (omega arith)) m rs y (R .many) (row-wide k rs (R .wide))
 
@@ -48,8 +48,8 @@ module _ (z : Sizes) (t : Tables) (s : State) (H : Hold z t s) where
       rw (
         le-leb (getD (t .lists) 4 0) 1 (H .flags .0),
         le-leb (getD (t .lists) 5 0) 1 (H .flags .1),
-        ap (counted 8 9 (z .grains)) (lists-cut z t s H) ∙ rows-counted 8 (s .homes) _ (H .body .listed .homes),
-        ap (counted 32 33 (z .cells)) (members-cut z t s H) ∙ rows-counted 32 (s .members) _ (H .body .listed .members),
-        ap (counted room (room * 4 + 1) (z .cells)) (queue-cut z t s H)
+        ap (countsWithin 8 9 (z .grains)) (lists-cut z t s H) ∙ rows-counted 8 (s .homes) _ (H .body .listed .homes),
+        ap (countsWithin 32 33 (z .cells)) (members-cut z t s H) ∙ rows-counted 32 (s .members) _ (H .body .listed .members),
+        ap (countsWithin room (room * 4 + 1) (z .cells)) (queue-cut z t s H)
             ∙ counted-flat queueNums room (room * 4 + 1) (Good room) (λ r g. row-nums-long room r (g .full)) (λ r y g. live-few r (g .full)) (z .cells) (s .queues) (drop (queueNeed z) (t .queue)) (H .body .queued .tables .many) (H .body .queued .tables .good),
       )

@@ -13,7 +13,7 @@ use borrow.Rule.Slice.PartMut.{midOf}
 use Rattle.halting.proofs.Bools.{and-l, and-r}
 use Rattle.chunks.proofs.Laws.{tail-is, tail-long}
 use Rattle.tables.specs.Decode.{cut, cutBoth}
-use Rattle.checks.specs.Check.{counted}
+use Rattle.checks.specs.Check.{countsWithin}
 use Rattle.checks.specs.Inside.{Rowed, First}
 
 -- ---- some places of a list, one by one
@@ -100,35 +100,35 @@ module _ {A B C : Type 0} (read : List B → List C → A) (w v : ℕ) where
   both-take (suc k) (suc n) l m h = ap (λ (xs : List A). read l m ∷ xs) (both-take k n (drop w l) (drop v m) (le-of-suc-le-suc h))
 
 -- ---- rows with counts
-pub counted-at : (v w n : ℕ) (l : List ℕ) (c : ℕ) → counted v w n l ≡ true → c < n → getD (drop (c * w) l) 0 0 ≤ v
-unfolding counted
+pub counted-at : (v w n : ℕ) (l : List ℕ) (c : ℕ) → countsWithin v w n l ≡ true → c < n → getD (drop (c * w) l) 0 0 ≤ v
+unfolding countsWithin
 counted-at v w zero l c e h = absurd (not-suc-le-zero h)
 counted-at v w (suc n) l zero e h =
-    subst (λ (k : ℕ). getD (drop k l) 0 0 ≤ v) (sym (zero-mul w)) (leb-true (getD l 0 0) v (and-l (leb (getD l 0 0) v) (counted v w n (drop w l)) e))
+    subst (λ (k : ℕ). getD (drop k l) 0 0 ≤ v) (sym (zero-mul w)) (leb-true (getD l 0 0) v (and-l (leb (getD l 0 0) v) (countsWithin v w n (drop w l)) e))
 counted-at v w (suc n) l (suc c) e h =
     subst (λ (x : List ℕ). getD x 0 0 ≤ v) (drop-next c w l)
-    (counted-at v w n (drop w l) c (and-r (leb (getD l 0 0) v) (counted v w n (drop w l)) e) (le-of-suc-le-suc h))
+    (counted-at v w n (drop w l) c (and-r (leb (getD l 0 0) v) (countsWithin v w n (drop w l)) e) (le-of-suc-le-suc h))
 
-counted-rest : (v w n : ℕ) (l : List ℕ) → (n ≡ 0 → ⊥) → counted v w n l ≡ true → counted v w (n - 1) (midOf w (length l - w) l) ≡ true
-unfolding counted
+counted-rest : (v w n : ℕ) (l : List ℕ) → (n ≡ 0 → ⊥) → countsWithin v w n l ≡ true → countsWithin v w (n - 1) (midOf w (length l - w) l) ≡ true
+unfolding countsWithin
 counted-rest v w zero l z e = absurd (z refl)
 counted-rest v w (suc n) l z e =
-    ap (λ (j : ℕ). counted v w j (midOf w (length l - w) l)) (sym (one-off n)) ∙ ap (counted v w n) (tail-is w l) ∙ and-r (leb (getD l 0 0) v) (counted v w n (drop w l)) e
+    ap (λ (j : ℕ). countsWithin v w j (midOf w (length l - w) l)) (sym (one-off n)) ∙ ap (countsWithin v w n) (tail-is w l) ∙ and-r (leb (getD l 0 0) v) (countsWithin v w n (drop w l)) e
 
-pub counted-none : (v w n : ℕ) (l : List ℕ) → n ≡ 0 → true ≡ counted v w n l
-unfolding counted
+pub counted-none : (v w n : ℕ) (l : List ℕ) → n ≡ 0 → true ≡ countsWithin v w n l
+unfolding countsWithin
 counted-none v w n l e = rw e
 
-pub counted-no : (v w n : ℕ) (l : List ℕ) → (n ≡ 0 → ⊥) → v < getD l 0 0 → false ≡ counted v w n l
-unfolding counted
+pub counted-no : (v w n : ℕ) (l : List ℕ) → (n ≡ 0 → ⊥) → v < getD l 0 0 → false ≡ countsWithin v w n l
+unfolding countsWithin
 counted-no v w zero l z h = absurd (z refl)
 counted-no v w (suc n) l z h = rw (lt-leb (getD l 0 0) v h)
 
-pub counted-more : (v w n : ℕ) (l : List ℕ) (r : Bool) → (n ≡ 0 → ⊥) → getD l 0 0 ≤ v → r ≡ counted v w (n - 1) (midOf w (length l - w) l) → r ≡ counted v w n l
-unfolding counted
+pub counted-more : (v w n : ℕ) (l : List ℕ) (r : Bool) → (n ≡ 0 → ⊥) → getD l 0 0 ≤ v → r ≡ countsWithin v w (n - 1) (midOf w (length l - w) l) → r ≡ countsWithin v w n l
+unfolding countsWithin
 counted-more v w zero l r z h e = absurd (z refl)
 counted-more v w (suc n) l r z h e =
-    rw (le-leb (getD l 0 0) v h) (e ∙ ap (λ (j : ℕ). counted v w j (midOf w (length l - w) l)) (sym (one-off n)) ∙ ap (counted v w n) (tail-is w l))
+    rw (le-leb (getD l 0 0) v h) (e ∙ ap (λ (j : ℕ). countsWithin v w j (midOf w (length l - w) l)) (sym (one-off n)) ∙ ap (countsWithin v w n) (tail-is w l))
 
 module _ {v w n : ℕ} {l : List ℕ} (R : Rowed v w n l) where
   pub rowed-first : (n ≡ 0 → ⊥) → (getD l 0 0 ≤ v) × (w ≤ length l)

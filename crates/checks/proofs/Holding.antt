@@ -22,7 +22,7 @@ use Rattle.tables.specs.Layout.{places, grainReals, rowNums, placeNums, placeRe
 use Rattle.tables.specs.Holds.{Grained, Rows, Listed, Good, Tabled, Heaped, Holds}
 use Rattle.tables.proofs.Runs.{good-of}
 use Rattle.tables.specs.Decode.{Tables, decodedBy, cut, cutBoth, grainsPart, grainAt, rowAt, rowsOf, placeAt, placesOf, queueAt}
-use Rattle.checks.specs.Check.{counted}
+use Rattle.checks.specs.Check.{countsWithin}
 use Rattle.checks.specs.Inside.{Legible, Sized}
 use Rattle.tables.specs.Lengths.{listsNeed, grainsNeed}
 use Rattle.tables.specs.Bodies.{listsBody, grainsBody, queueBody, eventsBody, orderBody}
@@ -118,7 +118,7 @@ side-rows k rs {m = m} {n = n} p q u = rows (rw (p, q) at u)
     }
 
 -- ---- what the tables hold
-rows-flat : (v n : ℕ) (l : List ℕ) → counted v (v + 1) n l ≡ true → n * (v + 1) ≤ length l → flat rowNums (rowsOf v n l) ≡ take (n * (v + 1)) l
+rows-flat : (v n : ℕ) (l : List ℕ) → countsWithin v (v + 1) n l ≡ true → n * (v + 1) ≤ length l → flat rowNums (rowsOf v n l) ≡ take (n * (v + 1)) l
 rows-flat v n l c h = cut-flat (rowAt v) rowNums (v + 1) n l (λ i g. row-read v (drop (i * (v + 1)) l) (counted-at v (v + 1) n l i c g) (inside n (v + 1) i l h g))
 
 module _ (z : Sizes) (t : Tables) (S : Sized z t) (L : Legible z (t .lists) (t .queue)) (F : Stands (decodedBy z t)) where

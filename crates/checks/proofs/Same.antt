@@ -20,7 +20,7 @@ use Rattle.model.specs.Check as model
 use Rattle.model.proofs.Turns.{every-same}
 use Rattle.tables.specs.declared.Sizes.{Sizes}
 use Rattle.tables.specs.Decode.{Tables, mark, boxIn, clockIn, decodedBy, homesPart, membersPart, grainsPart, grainAt, grainsOf, rowAt, rowsOf, queueAt, queuesOf}
-use Rattle.checks.specs.Check.{counted, legibleBy, standing}
+use Rattle.checks.specs.Check.{countsWithin, legibleBy, standing}
 use Rattle.checks.specs.Inside.{Sized, Legible}
 use Rattle.checks.proofs.Cut.{cut-long, both-long}
 use Rattle.checks.proofs.Order.{time-in}
@@ -82,9 +82,9 @@ module _ (room n : ℕ) (q : List ℕ) (e : List Float) (heap lookups : List ℕ
 -- ---- counts within their room
 pub legible-means : (z : Sizes) (l q : List ℕ) → legibleBy z l q ≡ true → Legible z l q
 legible-means z l q e =
-    let a = counted 8 9 (z .grains) (homesPart l) in
-    let b = counted 32 33 (z .cells) (membersPart (z .grains) l) in
-    let c = counted (z .room) (z .room * 4 + 1) (z .cells) q in
+    let a = countsWithin 8 9 (z .grains) (homesPart l) in
+    let b = countsWithin 32 33 (z .cells) (membersPart (z .grains) l) in
+    let c = countsWithin (z .room) (z .room * 4 + 1) (z .cells) q in
     let f = and-l (leb (getD l 4 0) 1 && leb (getD l 5 0) 1) (a && (b && c)) e in
     let r = and-r (leb (getD l 4 0) 1 && leb (getD l 5 0) 1) (a && (b && c)) e in
     let r2 = and-r a (b && c) r in

@@ -9,7 +9,7 @@ use lib.ListN.{length, length-drop}
 use lib.Ieee.{Float}
 use borrow.Author.Tests.{leb-true, le-leb}
 use borrow.Rule.Slice.PartMut.{midOf}
-use Rattle.model.specs.Sizes.{rated}
+use Rattle.model.specs.Sizes.{mostGrains, leastRoom, mostRoom, fewestCells, mostCells, countsOk, cellsOk, rated}
 use Rattle.model.specs.State.{Row}
 use Rattle.model.specs.Check.{linked, queued, halt}
 use Rattle.halting.proofs.Bools.{and-l, and-r}
@@ -24,14 +24,14 @@ use Rattle.checks.proofs.Same.{homesIn, settledIn, linkedIn, queuedIn, 
 -- ---- 2
 pub ranged-means : (z : Sizes) → ranged z ≡ true → (z .grains ≤ 256) × (9 ≤ z .cells) × (z .cells ≤ 256) × (16 ≤ z .room) × (z .room ≤ 256)
 ranged-means z a =
-    let a2 = and-r (leb (z .grains) 256) ((leb 9 (z .cells) && leb (z .cells) 256) && (leb 16 (z .room) && leb (z .room) 256)) a in
-    let ac = and-l (leb 9 (z .cells) && leb (z .cells) 256) (leb 16 (z .room) && leb (z .room) 256) a2 in
-    let ar = and-r (leb 9 (z .cells) && leb (z .cells) 256) (leb 16 (z .room) && leb (z .room) 256) a2 in (
-      leb-true _ _ (and-l (leb (z .grains) 256) ((leb 9 (z .cells) && leb (z .cells) 256) && (leb 16 (z .room) && leb (z .room) 256)) a),
-      leb-true _ _ (and-l (leb 9 (z .cells)) (leb (z .cells) 256) ac),
-      leb-true _ _ (and-r (leb 9 (z .cells)) (leb (z .cells) 256) ac),
-      leb-true _ _ (and-l (leb 16 (z .room)) (leb (z .room) 256) ar),
-      leb-true _ _ (and-r (leb 16 (z .room)) (leb (z .room) 256) ar),
+    let counts = and-l (countsOk (z .room) (z .grains)) (cellsOk (z .cells)) a in
+    let cells = and-r (countsOk (z .room) (z .grains)) (cellsOk (z .cells)) a in
+    let rooms = and-r (leb (z .grains) mostGrains) (leb leastRoom (z .room) && leb (z .room) mostRoom) counts in (
+      leb-true _ _ (and-l (leb (z .grains) mostGrains) (leb leastRoom (z .room) && leb (z .room) mostRoom) counts),
+      leb-true _ _ (and-l (leb fewestCells (z .cells)) (leb (z .cells) mostCells) cells),
+      leb-true _ _ (and-r (leb fewestCells (z .cells)) (leb (z .cells) mostCells) cells),
+      leb-true _ _ (and-l (leb leastRoom (z .room)) (leb (z .room) mostRoom) rooms),
+      leb-true _ _ (and-r (leb leastRoom (z .room)) (leb (z .room) mostRoom) rooms),
     )
 
 -- with the counts as they are read

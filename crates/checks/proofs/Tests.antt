@@ -20,7 +20,7 @@ use Rattle.model.specs.Standing.{syncs}
 use Rattle.model.specs.Check.{all, walk, boxWith, timely, settled, queueOk, queued, inverse, inOrder, heaped}
 use Rattle.tables.specs.declared.Sizes.{Sizes}
 use Rattle.tables.specs.Decode.{mark, boxIn, clockIn, grainsPart, grainsOf, placesOf, queueAt, queuesOf}
-use Rattle.checks.specs.Check.{counted}
+use Rattle.checks.specs.Check.{countsWithin}
 use Rattle.checks.specs.Answered.{AllFit}
 use Rattle.checks.proofs.Cut.{both-at, counted-at}
 use Rattle.checks.proofs.OnePlace.{queue-live}
@@ -61,7 +61,7 @@ module _ (t : Float) (room n : ℕ) (ms : List (Row ℕ)) (q : List ℕ) (e : Li
   unfolding queued
   queued-no h = rw h
 
-  pub queued-more : {k : ℕ} → 0 < n → counted room (room * 4 + 1) n q ≡ true → each ≡ true → k ≡ syncs (placesOf (getD q 0 0) (drop 1 q) e) → eqb k 1 ≡ queued t room n ms (queuesOf room n q e)
+  pub queued-more : {k : ℕ} → 0 < n → countsWithin room (room * 4 + 1) n q ≡ true → each ≡ true → k ≡ syncs (placesOf (getD q 0 0) (drop 1 q) e) → eqb k 1 ≡ queued t room n ms (queuesOf room n q e)
   unfolding queued
   queued-more {k} some c h s = rw h (ap (λ (j : ℕ). eqb j 1) (s ∙ ap syncs (sym first)))
     where

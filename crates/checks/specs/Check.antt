@@ -5,8 +5,8 @@ use mathlib.Core.Bool.{Bool, true, _&&_}
 use lib.Dec.{leb}
 use lib.ListN.{length, getD, drop}
 use lib.Ieee.{Float}
-use Rattle.layout.specs.Widths.{listsHeadWide, homeWide, membersWide, queueWide}
-use Rattle.model.specs.Sizes.{memberRoom, homeRoom, rated}
+use Rattle.layout.specs.Widths.{listsHeadWide, homeWide, membersWide, queueWide, homeRoom, memberRoom}
+use Rattle.model.specs.Sizes.{countsOk, cellsOk, rated}
 use Rattle.model.specs.Check.{runChecks}
 use Rattle.model.specs.Check as model
 use Rattle.tables.specs.declared.Sizes.{Sizes}
@@ -15,7 +15,7 @@ use Rattle.tables.specs.Decode.{Tables, mark, sizesOf, flagsFine, homesPart, me
 
 -- ---- 2: a count is out of range, or a lent table is shorter than the counts need
 abbrev pub ranged : Sizes → Bool
-ranged z = leb (z .grains) 256 && ((leb 9 (z .cells) && leb (z .cells) 256) && (leb 16 (z .room) && leb (z .room) 256))
+ranged z = countsOk (z .room) (z .grains) && cellsOk (z .cells)
 
 -- a list of numbers, and the lengths of the other tables
 unfoldable pub sizedBy : List ℕ → ℕ → ℕ → ℕ → ℕ → Bool
@@ -25,15 +25,15 @@ abbrev pub sized : Tables → Bool
 sized t = sizedBy (t .lists) (length (t .grains)) (length (t .queue)) (length (t .events)) (length (t .order))
 
 -- ---- 10: the standing facts. What a state cannot show: each list count is within its room, and a flag is 0 or 1
-unfoldable pub counted : ℕ → ℕ → ℕ → List ℕ → Bool
-counted v w zero l = true
-counted v w (suc n) l = leb (getD l 0 0) v && counted v w n (drop w l)
+unfoldable pub countsWithin : ℕ → ℕ → ℕ → List ℕ → Bool
+countsWithin v w zero l = true
+countsWithin v w (suc n) l = leb (getD l 0 0) v && countsWithin v w n (drop w l)
 
 abbrev pub legibleBy : Sizes → List ℕ → List ℕ → Bool
 legibleBy z l q =
     flagsFine l &&
-    (counted homeRoom homeWide (z .grains) (homesPart l) &&
-    (counted memberRoom membersWide (z .cells) (membersPart (z .grains) l) && counted (z .room) (queueWide (z .room)) (z .cells) q))
+    (countsWithin homeRoom homeWide (z .grains) (homesPart l) &&
+    (countsWithin memberRoom membersWide (z .cells) (membersPart (z .grains) l) && countsWithin (z .room) (queueWide (z .room)) (z .cells) q))
 
 abbrev pub legible : Tables → Bool
 legible t = legibleBy (sizesOf (t .lists)) (t .lists) (t .queue)

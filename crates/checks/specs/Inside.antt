@@ -5,12 +5,11 @@ use mathlib.Core.Path.{_≡_}
 use mathlib.Core.List.{List}
 use mathlib.Core.Bool.{true}
 use lib.ListN.{length, getD}
-use Rattle.layout.specs.Widths.{homeWide, membersWide, queueWide}
-use Rattle.model.specs.Sizes.{memberRoom, homeRoom}
+use Rattle.layout.specs.Widths.{homeWide, membersWide, queueWide, homeRoom, memberRoom}
 use Rattle.tables.specs.declared.Sizes.{Sizes}
 use Rattle.tables.specs.Lengths.{listsNeed, grainsNeed, queueNeed, eventsNeed, orderNeed}
 use Rattle.tables.specs.Decode.{Tables, sizesOf, homesPart, membersPart}
-use Rattle.checks.specs.Check.{counted}
+use Rattle.checks.specs.Check.{countsWithin}
 
 -- check 2 is passed
 pub record Sized (z : Sizes) (t : Tables) : Type 0 where
@@ -28,7 +27,7 @@ pub record Sized (z : Sizes) (t : Tables) : Type 0 where
 
 -- ---- counts are within their room: n rows, each w wide, whose counts are at most v; one such row; and all rows of the tables, whose flags are 0 or 1
 pub record Rowed (v w n : ℕ) (l : List ℕ) : Type 0 where
-  pub counts : counted v w n l ≡ true
+  pub counts : countsWithin v w n l ≡ true
   pub long : n * w ≤ length l
 
 pub record First (v : ℕ) (l : List ℕ) : Type 0 where
@@ -38,6 +37,6 @@ pub record First (v : ℕ) (l : List ℕ) : Type 0 where
 pub record Legible (z : Sizes) (l q : List ℕ) : Type 0 where
   pub flag0 : getD l 4 0 ≤ 1
   pub flag1 : getD l 5 0 ≤ 1
-  pub homes : counted homeRoom homeWide (z .grains) (homesPart l) ≡ true
-  pub members : counted memberRoom membersWide (z .cells) (membersPart (z .grains) l) ≡ true
-  pub events : counted (z .room) (queueWide (z .room)) (z .cells) q ≡ true
+  pub homes : countsWithin homeRoom homeWide (z .grains) (homesPart l) ≡ true
+  pub members : countsWithin memberRoom membersWide (z .cells) (membersPart (z .grains) l) ≡ true
+  pub events : countsWithin (z .room) (queueWide (z .room)) (z .cells) q ≡ true

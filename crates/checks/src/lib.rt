@@ -2,12 +2,12 @@
 ghost use mathlib.Core.Path.{_≡_};
 ghost use Prim.Native.Nat.{_≤_};
 ghost use lib.ListN.{length, take, drop};
-ghost use Rattle.layout.specs.Widths.{listsHeadWide, membersWide, queueWide, eventsFrom, heapWide, orderWide};
-ghost use Rattle.model.specs.Sizes.{memberRoom, countsOk, rated};
+ghost use Rattle.layout.specs.Widths.{listsHeadWide, membersWide, queueWide, eventsFrom, heapWide, orderWide, memberRoom};
+ghost use Rattle.model.specs.Sizes.{rated};
 ghost use Rattle.scheduler.specs.Inside.{headIn};
 ghost use Rattle.model.specs.Check.{settled, queued, heaped, halt};
 ghost use Rattle.tables.specs.Decode.{tables, mark, boxIn, clockIn, grainsPart, grainsOf, rowsOf, queuesOf};
-ghost use Rattle.checks.specs.Check.{ranged, sizedBy, legibleBy, standing};
+ghost use Rattle.checks.specs.Check.{sizedBy, legibleBy, standing};
 ghost use Rattle.tables.specs.Lengths.{listsNeed, grainsNeed, queueNeed};
 ghost use Rattle.checks.specs.Answered.{Answered};
 ghost use Rattle.checks.specs.Inside.{Sized, Rowed};
@@ -23,6 +23,7 @@ use layout::PLACE_NUMS;
 use tables::Sizes;
 use tables::headers;
 
+mod counts;
 mod domain;
 mod floats;
 mod grains;
@@ -30,37 +31,7 @@ mod heap;
 mod places;
 mod rows;
 
-// Are a start's counts of grains and of events a cell in range?
-pub fn counts_ok(grains: u64, room: u64) -> bool
-    ensures { λ r. ⌜ r ≡ countsOk room grains ⌝ }
-{
-    if 256 < grains {
-        return false;
-    }
-    if room < 16 {
-        return false;
-    }
-    room <= 256
-}
-
-// Are the counts of some tables in range?
-fn ranged(z: Sizes) -> bool
-    ensures { λ r. ⌜ r ≡ ranged z ⌝ }
-{
-    if 256 < z.grains {
-        return false;
-    }
-    if z.cells < 9 {
-        return false;
-    }
-    if 256 < z.cells {
-        return false;
-    }
-    if z.room < 16 {
-        return false;
-    }
-    z.room <= 256
-}
+pub use counts::counts_ok;
 
 // Check 2: are the counts in range, and the tables as long as they need?
 pub fn sized(lists: &[u64], grains: usize, queue: usize, events: usize, order: usize) -> bool
@@ -70,7 +41,7 @@ pub fn sized(lists: &[u64], grains: usize, queue: usize, events: usize, order: u
         return false;
     }
     let z = headers::sizes_of(lists);
-    if !ranged(z) {
+    if !counts::ranged(z) {
         return false;
     }
     tables::lengths::long(z, lists.len(), grains, queue, events, order)

@@ -3,12 +3,11 @@ ghost use mathlib.Core.Path.{_≡_};
 ghost use Prim.Native.Nat.{_+_, _*_, _≤_};
 ghost use lib.Dec.{ltb};
 ghost use lib.ListN.{length, take};
-ghost use Rattle.layout.specs.Widths.{homeWide, membersWide};
-ghost use Rattle.model.specs.Sizes.{homeRoom, memberRoom};
+ghost use Rattle.layout.specs.Widths.{homeWide, membersWide, homeRoom, memberRoom};
 ghost use Rattle.model.specs.State.{has, liveAt};
 ghost use Rattle.model.specs.Check.{all, walk, once, numbers, backRow, housed, linked};
 ghost use Rattle.tables.specs.Decode.{rowAt, rowsOf};
-ghost use Rattle.checks.specs.Check.{counted};
+ghost use Rattle.checks.specs.Check.{countsWithin};
 ghost use Rattle.checks.specs.Inside.{First, Rowed};
 use layout::HOME_ROOM;
 use layout::MEMBER_ROOM;
@@ -47,7 +46,7 @@ fn once(nums: &[u64], k: usize) -> bool
 // Is each count of n rows, which are w wide, at most v?
 pub fn counted(rows: &[u64], v: usize, w: usize, n: usize) -> bool
     requires { ⌜ (1 ≤ w) × (n * w ≤ length (now rows)) ⌝ }
-    ensures { λ r. ⌜ r ≡ counted v w n (now (rows .entry)) ⌝ }
+    ensures { λ r. ⌜ r ≡ countsWithin v w n (now (rows .entry)) ⌝ }
 {
     let mut rest = rows;
     let mut left = n;

@@ -5,7 +5,7 @@ use lib.Count.{leadingZeros}
 use lib.Ieee.{ofBits, toBits, round, add, sub, mul, div, neg, lt, le, eq, ofInt, toUnsigned}
 use Rattle.root.specs.Isqrt.{near, root}
 use Rattle.root.specs.Root.{rootOf, sqrtOf}
-use Rattle.scheduler.specs.Heap.{timeIn, swapAt, childIn, down, downshifted, parentIn, up, upshifted, updated, numbered, start as startHeap}
+use Rattle.scheduler.specs.Heap.{timeIn, swapAt, childIn, down, downshifted, parentIn, up, upshifted, updated, numbered, startHeap}
 use Rattle.model.specs.Sizes.{firstBad}
 use Rattle.model.specs.Grid.{across, position}
 use Rattle.model.specs.Stepping.{newPos}
@@ -24,45 +24,45 @@ use Rattle.model.specs.Check.{all, walk, settled, queued, heaped, standing, run
 use Rattle.model.specs.Standing.{syncs}
 use Rattle.model.specs.Run.{runFrom}
 use Rattle.halting.specs.Every.{every}
-use Rattle.examples.specs.Dump.{Trace, follows, ends}
-use Rattle.examples.specs.Correction.{correction}
-use Rattle.examples.specs.Empty.{empty}
-use Rattle.examples.specs.Fast.{fast}
-use Rattle.examples.specs.OddLengths.{oddLengths}
-use Rattle.examples.specs.Periodic.{periodic}
-use Rattle.examples.specs.Still.{still}
-use Rattle.examples.specs.Touching.{touching}
-use Rattle.examples.specs.Walls.{walls}
-use Rattle.examples.specs.WallsInY.{wallsInY}
+use Rattle.examples.specs.Dump.{Trace, follows, answersSo}
+use Rattle.examples.specs.Correction.{correctionTrace}
+use Rattle.examples.specs.Empty.{emptyTrace}
+use Rattle.examples.specs.Fast.{fastTrace}
+use Rattle.examples.specs.OddLengths.{oddLengthsTrace}
+use Rattle.examples.specs.Periodic.{periodicTrace}
+use Rattle.examples.specs.Still.{stillTrace}
+use Rattle.examples.specs.Touching.{touchingTrace}
+use Rattle.examples.specs.Walls.{wallsTrace}
+use Rattle.examples.specs.WallsInY.{wallsInYTrace}
 use Rattle.examples.specs.Answers.{answers}
 use Rattle.examples.specs.Runs.{synchronises, spends, runs, refusals}
 
 abbrev traces : List Trace
-traces = correction ∷ empty ∷ fast ∷ oddLengths ∷ periodic ∷ still ∷ touching ∷ walls ∷ wallsInY ∷ []
+traces = correctionTrace ∷ emptyTrace ∷ fastTrace ∷ oddLengthsTrace ∷ periodicTrace ∷ stillTrace ∷ touchingTrace ∷ wallsTrace ∷ wallsInYTrace ∷ []
 
 pub traces-follow : T (all follows traces)
-unfolding correction empty fast oddLengths periodic still touching walls wallsInY round add sub mul div neg lt le eq ofInt toUnsigned ofBits toBits rootOf sqrtOf near root
+unfolding correctionTrace emptyTrace fastTrace oddLengthsTrace periodicTrace stillTrace touchingTrace wallsTrace wallsInYTrace round add sub mul div neg lt le eq ofInt toUnsigned ofBits toBits rootOf sqrtOf near root
     leadingZeros across position newPos apart upFrom reached cellsAt cellsOfGrain collision later toNeighbour outOfCell wall insertBy keepBy goneBy finePlace heads requeued has but
     fineGrain store insert cancelled enter leave taken others doing before ofEach inTurn pairing event step firstBad clear begin start timeIn swapAt childIn down downshifted
     parentIn up upshifted updated numbered startHeap
 traces-follow = tt
 
-pub answers-end : T (all ends answers)
+pub answers-end : T (all answersSo answers)
 unfolding answers round add sub mul div neg lt le eq ofInt toUnsigned ofBits toBits rootOf sqrtOf near root leadingZeros across position newPos apart upFrom reached cellsAt
     cellsOfGrain collision later toNeighbour outOfCell wall insertBy keepBy goneBy finePlace heads requeued has but fineGrain store insert cancelled enter leave taken others doing
     before ofEach inTurn pairing event step firstBad clear begin start timeIn swapAt childIn down downshifted parentIn up upshifted updated numbered startHeap
 answers-end = tt
 
 -- runs of the walled box: S NW S CS ONS NNNNNS OOS OO OS WNONS S OW; one whose last budgeted event is a synchronisation has synchronised
-pub walls-run : T (runs walls (synchronises 20 1 ∷ spends 2 2 ∷ synchronises 20 1 ∷ synchronises 2 2 ∷ synchronises 20 3 ∷ synchronises 20 6 ∷ synchronises 20 3 ∷ spends 2 2 ∷ synchronises 20 2 ∷ spends 0 0 ∷ synchronises 20 5 ∷ synchronises 20 1 ∷ spends 2 2 ∷ []))
-unfolding walls round add sub mul div neg lt le eq ofInt toUnsigned ofBits toBits rootOf sqrtOf near root leadingZeros across position newPos apart upFrom reached cellsAt
+pub walls-run : T (runs wallsTrace (synchronises 20 1 ∷ spends 2 2 ∷ synchronises 20 1 ∷ synchronises 2 2 ∷ synchronises 20 3 ∷ synchronises 20 6 ∷ synchronises 20 3 ∷ spends 2 2 ∷ synchronises 20 2 ∷ spends 0 0 ∷ synchronises 20 5 ∷ synchronises 20 1 ∷ spends 2 2 ∷ []))
+unfolding wallsTrace round add sub mul div neg lt le eq ofInt toUnsigned ofBits toBits rootOf sqrtOf near root leadingZeros across position newPos apart upFrom reached cellsAt
     cellsOfGrain collision later toNeighbour outOfCell wall insertBy keepBy goneBy finePlace heads requeued has but fineGrain store insert cancelled enter leave taken others doing
     before ofEach inTurn pairing event step firstBad clear begin start timeIn swapAt childIn down downshifted parentIn up upshifted updated numbered startHeap every syncs walk
     settled queued heaped standing runFrom runAll
 walls-run = tt
 
-pub walls-refuse : T (refusals walls)
-unfolding walls round add sub mul div neg lt le eq ofInt toUnsigned ofBits toBits rootOf sqrtOf near root leadingZeros across position newPos apart upFrom reached cellsAt
+pub walls-refuse : T (refusals wallsTrace)
+unfolding wallsTrace round add sub mul div neg lt le eq ofInt toUnsigned ofBits toBits rootOf sqrtOf near root leadingZeros across position newPos apart upFrom reached cellsAt
     cellsOfGrain collision later toNeighbour outOfCell wall insertBy keepBy goneBy finePlace heads requeued has but fineGrain store insert cancelled enter leave taken others doing
     before ofEach inTurn pairing event step firstBad clear begin start timeIn swapAt childIn down downshifted parentIn up upshifted updated numbered startHeap every syncs walk
     settled queued heaped standing runFrom runAll

@@ -18,7 +18,7 @@ use Rattle.halting.proofs.Bools.{clash, and-l, and-r}
 use Rattle.halting.proofs.Tests.{true-every}
 use Rattle.order.specs.Numbers.{fzero}
 use Rattle.myvec.specs.Vec.{vec}
-use Rattle.scheduler.specs.Heap.{timeIn, swapAt, childIn, down, downshifted, parentIn, up, upshifted, updated, numbered, start as startHeap}
+use Rattle.scheduler.specs.Heap.{timeIn, swapAt, childIn, down, downshifted, parentIn, up, upshifted, updated, numbered, startHeap}
 use Rattle.model.proofs.Exhibits.{passes, exhibit, both-passed}
 use Rattle.model.specs.declared.Domain.{Domain}
 use Rattle.model.specs.declared.Particle.{Particle}

@@ -28,22 +28,22 @@ pub data Pending : Type 0 where
   W : ℕ → ℕ → ℕ → ℕ → ℕ → Pending
 
 -- a grain's six floats and the cells that list it; the grains that a cell lists and its events
-pub data Grain : Type 0 where
-  g : ℕ → List ℕ → Grain
+pub data GrainDump : Type 0 where
+  g : ℕ → List ℕ → GrainDump
 
 pub data Cell : Type 0 where
   c : List ℕ → List Pending → Cell
 
 -- clock, mark, grains, cells, heap and lookups
 pub data Dump : Type 0 where
-  dump : ℕ → ℕ → List Grain → List Cell → List ℕ → List ℕ → Dump
+  dump : ℕ → ℕ → List GrainDump → List Cell → List ℕ → List ℕ → Dump
 
 -- ---- whether a state is as dumped
 abbrev joined : ℕ → List Float → ℕ
 joined n [] = n
 joined n (x ∷ xs) = joined (n * 2 ^ 64 + toBits binary64 x) xs
 
-abbrev sameGrains : List Particle → List (Row ℕ) → List Grain → Bool
+abbrev sameGrains : List Particle → List (Row ℕ) → List GrainDump → Bool
 sameGrains [] [] [] = true
 sameGrains [] [] (x ∷ xs) = false
 sameGrains [] (r ∷ rs) xs = false
@@ -97,11 +97,11 @@ abbrev pub opening : ℕ → ℕ → Bool → Bool → ℕ → List Particle →
 opening l0 l1 p0 p1 room gs rate =
     record { rate = ofBits binary64 rate; box = boxOf (vec (ofBits binary64 l0) (ofBits binary64 l1)) p0 p1; room = room; grains = gs }
 
-abbrev pub grain : ℕ → ℕ → ℕ → ℕ → ℕ → Particle
-grain x y vx vy val = grainOf (vec (ofBits binary64 x) (ofBits binary64 y)) (vec (ofBits binary64 vx) (ofBits binary64 vy)) fzero (ofBits binary64 val)
+abbrev pub grainBits : ℕ → ℕ → ℕ → ℕ → ℕ → Particle
+grainBits x y vx vy val = grainOf (vec (ofBits binary64 x) (ofBits binary64 y)) (vec (ofBits binary64 vx) (ofBits binary64 vy)) fzero (ofBits binary64 val)
 
-abbrev pub begun : Opening → Begun
-begun o = start (o .box) (o .room) (o .grains)
+abbrev pub openedBy : Opening → Begun
+openedBy o = start (o .box) (o .room) (o .grains)
 
 -- ---- a trace: the state after the start, and after each step; the last step may halt
 abbrev steps : Float → State → List Dump → Bool
@@ -118,7 +118,7 @@ pub data Trace : Type 0 where
   trace : Opening → List Dump → Trace
 
 abbrev pub follows : Trace → Bool
-follows (trace o ds) = followsFrom (begun o) (o .rate) ds
+follows (trace o ds) = followsFrom (openedBy o) (o .rate) ds
 
 -- ---- a refusal: of the start, with the grain for 4; or a halt, in the start or in the first of 64 steps that is not whole
 pub data Ending : Type 0 where
@@ -148,5 +148,5 @@ endsBy (started s) rate (halt d) = haltsBy (s .mark) rate d s
 pub data Answer : Type 0 where
   answer : Opening → Ending → Answer
 
-abbrev pub ends : Answer → Bool
-ends (answer o e) = endsBy (begun o) (o .rate) e
+abbrev pub answersSo : Answer → Bool
+answersSo (answer o e) = endsBy (openedBy o) (o .rate) e

@@ -3,8 +3,8 @@ use mathlib.Core.List.{[], _∷_}
 use mathlib.Core.Bool.{true}
 use Rattle.examples.specs.Dump.{S, c, dump, Trace, trace, opening}
 
-unfoldable pub empty : Trace
-empty =
+unfoldable pub emptyTrace : Trace
+emptyTrace =
     trace (opening 0x4022000000000000 0x4022000000000000 true true 16 ([]) 0x3FF0000000000000)
     ((dump 0x0 0
     ([])

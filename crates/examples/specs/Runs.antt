@@ -11,17 +11,17 @@ use Rattle.model.specs.State.{State, withQueues, marked}
 use Rattle.model.specs.Start.{Begun, refused as notBegun, started}
 use Rattle.model.specs.Run.{How, synchronised, spent, refused, Ran}
 use Rattle.model.specs.Check.{runAll}
-use Rattle.examples.specs.Dump.{Dump, dump, Trace, trace, begun, same}
+use Rattle.examples.specs.Dump.{Dump, dump, Trace, trace, openedBy, same}
 
 -- ---- how runs end: a run's budget, and the events that it does
-pub data Run : Type 0 where
-  synchronises spends : ℕ → ℕ → Run
+pub data RunEnd : Type 0 where
+  synchronises spends : ℕ → ℕ → RunEnd
 
-abbrev budget : Run → ℕ
+abbrev budget : RunEnd → ℕ
 budget (synchronises b n) = b
 budget (spends b n) = b
 
-abbrev endsSo : How → ℕ → Run → Bool
+abbrev endsSo : How → ℕ → RunEnd → Bool
 endsSo synchronised k (synchronises b n) = eqb k n
 endsSo synchronised k (spends b n) = false
 endsSo spent k (synchronises b n) = false
@@ -37,19 +37,19 @@ lastOf zero d ds k = k d ds
 lastOf (suc n) d [] k = false
 lastOf (suc n) d (e ∷ ds) k = lastOf n e ds k
 
-abbrev runsAlong : Float → State → Dump → List Dump → List Run → Bool
+abbrev runsAlong : Float → State → Dump → List Dump → List RunEnd → Bool
 runsAlong rate s d ds [] = true
 runsAlong rate s d ds (e ∷ es) =
     let r = runAll rate (budget e) s in
     endsSo (r .how) (r .count) e && lastOf (r .count) d ds (λ f fs. leaves (r .state) (r .clock) f && runsAlong rate (r .state) f fs es)
 
-abbrev runsFrom : Begun → Float → List Dump → List Run → Bool
+abbrev runsFrom : Begun → Float → List Dump → List RunEnd → Bool
 runsFrom (notBegun r i) rate ds es = false
 runsFrom (started s) rate [] es = false
 runsFrom (started s) rate (d ∷ ds) es = runsAlong rate s d ds es
 
-abbrev pub runs : Trace → List Run → Bool
-runs (trace o ds) es = runsFrom (begun o) (o .rate) ds es
+abbrev pub runs : Trace → List RunEnd → Bool
+runs (trace o ds) es = runsFrom (openedBy o) (o .rate) ds es
 
 -- ---- refused runs: the number, and zeros
 abbrev refusedBy : How → ℕ → Bool
@@ -86,4 +86,4 @@ refusedFrom (notBegun r i) = false
 refusedFrom (started s) = allRefused s
 
 abbrev pub refusals : Trace → Bool
-refusals (trace o ds) = refusedFrom (begun o)
+refusals (trace o ds) = refusedFrom (openedBy o)

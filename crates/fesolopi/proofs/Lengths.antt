@@ -12,13 +12,13 @@ use Rattle.cell.specs.Cell.{gridOf, Laid}
 use Rattle.tables.specs.declared.lengths.Lengths.{Lengths}
 use Rattle.tables.specs.Lengths.{lengthsFor}
 use Rattle.simulator.proofs.StartLaws.{Counts, counts-mean, cells-counted}
-use Rattle.fesolopi.specs.Needed.{Needed, needed, neededBy, none, refusedBy, neededFor}
+use Rattle.fesolopi.specs.Needed.{Needed, needed, neededBy, noneNeeded, refusedBy, neededFor}
 
 -- ---- refused
-pub none-needed : (x y : Bool) (N : Needed) (r : ℕ) → r ≡ cond x (cond y 0 2) 1 → (r ≡ 0 → ⊥) → none r ≡ cond x (cond y N (none 2)) (none 1)
+pub none-needed : (x y : Bool) (N : Needed) (r : ℕ) → r ≡ cond x (cond y 0 2) 1 → (r ≡ 0 → ⊥) → noneNeeded r ≡ cond x (cond y N (noneNeeded 2)) (noneNeeded 1)
 none-needed true true N r e u = absurd (u e)
-none-needed true false N r e u = ap none e
-none-needed false y N r e u = ap none e
+none-needed true false N r e u = ap noneNeeded e
+none-needed false y N r e u = ap noneNeeded e
 
 -- ---- not refused
 passed : (x y : Bool) → _≡_ {A = ℕ} (cond x (cond y 0 2) 1) 0 → (x ≡ true) × (y ≡ true)

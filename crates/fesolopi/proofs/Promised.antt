@@ -16,17 +16,17 @@ use Rattle.running.specs.Going.{clockOf}
 use Rattle.simulator.specs.Start.{StartedWith, with, startAll, StartPromise}
 use Rattle.simulator.specs.Run.{runTables, Owned, RunPromise}
 use Rattle.simulator.proofs.Exactly.{answer-tells}
-use Rattle.fesolopi.specs.Codes.{Begun, begun, begunBy, runNumber, Ended, ended, endedBy, reportNumber, eventsTold}
+use Rattle.fesolopi.specs.Codes.{StartGiven, startGiven, startGivenBy, runNumber, Ended, ended, endedBy, reportNumber, eventsTold}
 
-pub start-promised : (b : Domain) (n room : ℕ) (inputs : List Float) (t : Tables) (r g : ℕ) (u : Tables) → Fits b → begun r g u ≡ begunBy (startAll b n room inputs t)
+pub start-promised : (b : Domain) (n room : ℕ) (inputs : List Float) (t : Tables) (r g : ℕ) (u : Tables) → Fits b → startGiven r g u ≡ startGivenBy (startAll b n room inputs t)
     → (a : Started) × (r ≡ startNumber a) × (g ≡ grainNamed a) × StartPromise b n room inputs t a u
 start-promised b n room inputs t r g u f e =
     let w = startAll b n room inputs t in
     let q = sym (answer-tells b n room inputs t) in (
       w .answer,
-      ap (λ (x : Begun). x .number) e ∙ ap (λ (x : StartedWith). x .number) q,
-      ap (λ (x : Begun). x .grain) e ∙ ap (λ (x : StartedWith). x .grain) q,
-      record { box-fits = f; is = ap (λ (x : Begun). with (w .answer) (x .after)) e ∙ sym q },
+      ap (λ (x : StartGiven). x .number) e ∙ ap (λ (x : StartedWith). x .number) q,
+      ap (λ (x : StartGiven). x .grain) e ∙ ap (λ (x : StartedWith). x .grain) q,
+      record { box-fits = f; is = ap (λ (x : StartGiven). with (w .answer) (x .after)) e ∙ sym q },
     )
 
 module _ (rate : Float) (budget : ℕ) (t : Tables) (r : ℕ) (c : Float) (k : ℕ) (u : Tables) (o : Owned budget t) (e : ended r c k u ≡ endedBy (runTables rate budget t)) where

@@ -20,13 +20,13 @@ use Rattle.tables.specs.Decode.{Tables}
 use Rattle.simulator.specs.Start.{startAll}
 use Rattle.simulator.specs.Run.{runTables}
 use Rattle.simulator.proofs.Numbers.{OneOf, Given, run-number}
-use Rattle.fesolopi.specs.Codes.{Begun, begun, begunBy, spentNumber, runNumber, Ended, ended, endedBy}
+use Rattle.fesolopi.specs.Codes.{StartGiven, startGiven, startGivenBy, spentNumber, runNumber, Ended, ended, endedBy}
 use Rattle.fesolopi.specs.Needed.{Needed, needed, neededFor}
 
 -- a start: its number, the grain named, the tables
-pub one-begun : (b : Domain) (n room : ℕ) (inputs : List Float) (t : Tables) (r q g h : ℕ) (a c : Tables) → begun r g a ≡ begunBy (startAll b n room inputs t) → begun q h c ≡ begunBy (startAll b n room inputs t)
+pub one-begun : (b : Domain) (n room : ℕ) (inputs : List Float) (t : Tables) (r q g h : ℕ) (a c : Tables) → startGiven r g a ≡ startGivenBy (startAll b n room inputs t) → startGiven q h c ≡ startGivenBy (startAll b n room inputs t)
     → (r ≡ q) × (g ≡ h) × (a ≡ c)
-one-begun b n room inputs t r q g h a c e f = let p = e ∙ sym f in (ap (λ (x : Begun). x .number) p, ap (λ (x : Begun). x .grain) p, ap (λ (x : Begun). x .after) p)
+one-begun b n room inputs t r q g h a c e f = let p = e ∙ sym f in (ap (λ (x : StartGiven). x .number) p, ap (λ (x : StartGiven). x .grain) p, ap (λ (x : StartGiven). x .after) p)
 
 -- a run: its number, the clock, the events done, the tables
 pub one-ended : (rate : Float) (b : ℕ) (t : Tables) (r q : ℕ) (x y : Float) (k m : ℕ) (a c : Tables) → ended r x k a ≡ endedBy (runTables rate b t) → ended q y m c ≡ endedBy (runTables rate b t)

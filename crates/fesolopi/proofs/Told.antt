@@ -10,10 +10,10 @@ use Rattle.tables.specs.Decode.{Tables}
 use Rattle.simulator.specs.Start.{StartedWith, with}
 use Rattle.running.specs.Ran.{RanTables, toldTables}
 use Rattle.running.specs.Going.{clockOf}
-use Rattle.fesolopi.specs.Codes.{begun, begunBy, reportNumber, eventsTold, ended, endedBy}
+use Rattle.fesolopi.specs.Codes.{startGiven, startGivenBy, reportNumber, eventsTold, ended, endedBy}
 
-pub start-told : (a : Started) (n g : ℕ) (t : Tables) (s : StartedWith) → n ≡ startNumber a → g ≡ grainNamed a → with a t ≡ s → begun n g t ≡ begunBy s
-start-told a n g t s en eg e = ap (λ (k : ℕ). begun k g t) en ∙ ap (λ (k : ℕ). begun (startNumber a) k t) eg ∙ ap begunBy e
+pub start-told : (a : Started) (n g : ℕ) (t : Tables) (s : StartedWith) → n ≡ startNumber a → g ≡ grainNamed a → with a t ≡ s → startGiven n g t ≡ startGivenBy s
+start-told a n g t s en eg e = ap (λ (k : ℕ). startGiven k g t) en ∙ ap (λ (k : ℕ). startGiven (startNumber a) k t) eg ∙ ap startGivenBy e
 
 report-told : (r : Report) (t : Tables) → ended (reportNumber r) (clockOf r) (eventsTold r) t ≡ endedBy (toldTables r t)
 report-told (report.Synchronised c n) t = refl

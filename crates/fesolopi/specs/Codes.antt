@@ -17,16 +17,16 @@ abbrev pub boxed : Float → Float → Bool → Bool → Domain
 boxed l0 l1 p0 p1 = boxOf (vec l0 l1) p0 p1
 
 -- a start's number, the grain that 4 names (0 beside every other number), and the tables afterwards
-pub record Begun : Type 0 where
+pub record StartGiven : Type 0 where
   pub number : ℕ
   pub grain : ℕ
   pub after : Tables
 
-abbrev pub begun : ℕ → ℕ → Tables → Begun
-begun r g a = record { number = r; grain = g; after = a }
+abbrev pub startGiven : ℕ → ℕ → Tables → StartGiven
+startGiven r g a = record { number = r; grain = g; after = a }
 
-abbrev pub begunBy : StartedWith → Begun
-begunBy s = begun (s .number) (s .grain) (s .after)
+abbrev pub startGivenBy : StartedWith → StartGiven
+startGivenBy s = startGiven (s .number) (s .grain) (s .after)
 
 -- the number of a run that spent its budget: no refusal's
 abbrev pub spentNumber : ℕ

@@ -24,12 +24,12 @@ needed r i l g q e o = record { number = r; inputs = i; lists = l; grains = g; q
 abbrev pub neededBy : ℕ → Sizes → Needed
 neededBy n z = needed 0 (n * inputWide) (listsNeed z) (grainsNeed z) (queueNeed z) (eventsNeed z) orderNeed
 
-abbrev pub none : ℕ → Needed
-none r = needed r 0 0 0 0 0 0
+abbrev pub noneNeeded : ℕ → Needed
+noneNeeded r = needed r 0 0 0 0 0 0
 
 -- 1, 2, or 0 where neither holds whatever the tables
 abbrev pub refusedBy : Domain → ℕ → ℕ → ℕ
 refusedBy b n room = cond (boxOk b) (cond (countsOk room n) 0 2) 1
 
 abbrev pub neededFor : Domain → ℕ → ℕ → Needed
-neededFor b n room = cond (boxOk b) (cond (countsOk room n) (neededBy n (sizesFor b n room)) (none 2)) (none 1)
+neededFor b n room = cond (boxOk b) (cond (countsOk room n) (neededBy n (sizesFor b n room)) (noneNeeded 2)) (noneNeeded 1)

@@ -8,7 +8,7 @@ ghost use Rattle.root.specs.Rule.{number as rootNumber, value as rootValue, Roo
 ghost use Rattle.tables.specs.Decode.{tables};
 ghost use Rattle.simulator.specs.Start.{startAll};
 ghost use Rattle.simulator.specs.Run.{runTables, Owned};
-ghost use Rattle.fesolopi.specs.Codes.{boxed, begun, begunBy, reportNumber, eventsTold, ended, endedBy};
+ghost use Rattle.fesolopi.specs.Codes.{boxed, startGiven, startGivenBy, reportNumber, eventsTold, ended, endedBy};
 ghost use Rattle.fesolopi.specs.Needed.{refusedBy, needed, neededFor};
 use cell::Grid;
 use layout::INPUT;
@@ -41,8 +41,8 @@ pub extern "C" fn fesolopi_start(
     grain: &mut u64,
 ) -> u64
     ensures { λ _. ⌜ Fits (boxed l0 l1 periodic0 periodic1) ⌝ }
-    ensures { λ r. ⌜ begun r (now (grain .exit)) (tables (now (lists .exit)) (now (grains .exit)) (now (queue .exit)) (now (events .exit)) (now (order .exit)))
-        ≡ begunBy (startAll (boxed l0 l1 periodic0 periodic1) count room (now (inputs .entry))
+    ensures { λ r. ⌜ startGiven r (now (grain .exit)) (tables (now (lists .exit)) (now (grains .exit)) (now (queue .exit)) (now (events .exit)) (now (order .exit)))
+        ≡ startGivenBy (startAll (boxed l0 l1 periodic0 periodic1) count room (now (inputs .entry))
         (tables (now (lists .entry)) (now (grains .entry)) (now (queue .entry)) (now (events .entry)) (now (order .entry)))) ⌝ }
 {
     let domain = Domain {

@@ -2,9 +2,9 @@
 // standard error; after a failed read there is no answer.
 ghost use mathlib.Core.List.{[], _∷_};
 ghost use mathlib.Core.Path.{_≡_};
-ghost use Rattle.pipes.specs.Reads.{readOf};
+ghost use Rattle.pipes.specs.Reads.{readBy};
 ghost use Rattle.listing_text.specs.Reading.{startOf};
-ghost use Rattle.listing.specs.Turns.{turnOf, Turned, most, endedOf, Responded};
+ghost use Rattle.listing.specs.Turns.{turnOf, Turned, mostReads, endedOf, Responded};
 use answers::write_answer;
 use libc::STDIN_FILENO;
 use listing_text::Reader;
@@ -32,7 +32,7 @@ fn opened() -> Turn
 
 // What a read makes of the reader, by the number that it gave back and the buffer that it left.
 fn took(reader: Reader, got: isize, buf: &[u8]) -> Turn
-    ensures { λ r. ⌜ r ≡ turnOf reader (readOf got (now (buf .entry)) ∷ []) ⌝ }
+    ensures { λ r. ⌜ r ≡ turnOf reader (readBy got (now (buf .entry)) ∷ []) ⌝ }
 {
     let heard = hear(got, buf);
     let n = heard.count;
@@ -54,7 +54,7 @@ fn read_some(reader: Reader) -> Turn
 
 // Reads to the end. (Nothing says that an input ends, and a proved loop does: it counts its turns down, from a number that no run uses up.)
 fn read_all() -> Turn
-    ensures { λ r. ⌜ Turned most startOf r ⌝ }
+    ensures { λ r. ⌜ Turned mostReads startOf r ⌝ }
 {
     let mut turn = opened();
     let mut turns = u64::MAX;

@@ -8,12 +8,12 @@ use lib.Dec.{eqb}
 use lib.ListN.{length, length-map}
 use Rattle.text.specs.Numerals.{Word}
 use Rattle.text.specs.Reading as text
-use Rattle.text.specs.Plan.{Values, counted, Spells}
+use Rattle.text.specs.Plan.{Values, countRead, Spells}
 use Rattle.text.proofs.Backward as text-laws
 use Rattle.listing_text.specs.declared.reader.Reader.{Reader}
 use Rattle.listing_text.specs.Grammar.{Input, Words, Text}
-use Rattle.listing_text.specs.Reading.{head, row, plan, lineAt, startOf, feedOf, feedAll, closedOf, fineOf}
-use Rattle.listing_text.specs.Held.{readOf}
+use Rattle.listing_text.specs.Reading.{headPieces, linePieces, plan, lineAt, startOf, feedOf, feedAll, closedOf, fineOf}
+use Rattle.listing_text.specs.Held.{readerOf}
 use Rattle.listing_text.proofs.Form.{form, grainOf, inputOf, words-of, text-is}
 use Rattle.listing_text.proofs.Forward.{spelled-read}
 
@@ -35,13 +35,13 @@ pub record Accepted (s : List ℕ) : Type 0 where
   pub input-words : Words input
   pub countable : Word (length (input .grains))
   pub is-text : Text s input
-  pub was-read : closedOf (feedAll startOf s) ≡ readOf input
+  pub was-read : closedOf (feedAll startOf s) ≡ readerOf input
 
-text-of : (s : List ℕ) (w : Values head) (ws : List (Values row)) → Spells form s w ws → Text s (inputOf w ws)
+text-of : (s : List ℕ) (w : Values headPieces) (ws : List (Values linePieces)) → Spells form s w ws → Text s (inputOf w ws)
 text-of s w ws (n, inl e) = inl (e ∙ text-is w ws n)
 text-of s w ws (n, inr e) = inr (e ∙ text-is w ws n)
 
-counted-word : (w : Values head) → Word (counted head w 0)
+counted-word : (w : Values headPieces) → Word (countRead headPieces w 0)
 counted-word w = w .2 .2 .1 .1 .2 .1
 
 pub accepted-text : (s : List ℕ) → fineOf (closedOf (feedAll startOf s)) ≡ true → Accepted s

@@ -6,12 +6,12 @@ use lib.Dec.{lit<}
 use lib.ListN.{length, length-map}
 use Rattle.text.specs.Bytes.{bytes}
 use Rattle.text.specs.Numerals.{hex, decimal, Word}
-use Rattle.text.specs.Lines.{line, flag}
-use Rattle.text.specs.Plan.{shown, Values, counted, Form, spelledRows, spelledText}
+use Rattle.text.specs.Lines.{line, flagField}
+use Rattle.text.specs.Plan.{shown, Values, countRead, Form, spelledRows, spelledText}
 use Rattle.listing_text.specs.Grammar.{Grain, Input, GrainWords, AllWords, Words, boxLine, grainLine, grainLines, textOf}
-use Rattle.listing_text.specs.Reading.{head, row, plan, lineAt}
+use Rattle.listing_text.specs.Reading.{headPieces, linePieces, plan, lineAt}
 
-pub plan-shows : plan ≡ shown head ++ (shown row ++ (10 ∷ []))
+pub plan-shows : plan ≡ shown headPieces ++ (shown linePieces ++ (10 ∷ []))
 unfolding plan
 plan-shows = refl
 
@@ -21,8 +21,8 @@ plan-short = lit< tt
 
 abbrev pub form : Form plan lineAt
 form = record {
-  head = head;
-  row = row;
+  head = headPieces;
+  row = linePieces;
   end = 10;
   shows = plan-shows;
   begins = refl;
@@ -34,10 +34,10 @@ form = record {
 }
 
 -- ---- the input of values, and the values of an input
-abbrev pub grainOf : Values row → Grain
+abbrev pub grainOf : Values linePieces → Grain
 grainOf w = record { x = w .0; y = w .2 .0; vx = w .2 .2 .0; vy = w .2 .2 .2 .0; val = w .2 .2 .2 .2 .0 }
 
-abbrev pub inputOf : Values head → List (Values row) → Input
+abbrev pub inputOf : Values headPieces → List (Values linePieces) → Input
 inputOf w ws = record {
   l0 = w .0;
   l1 = w .2 .0;
@@ -47,24 +47,24 @@ inputOf w ws = record {
   grains = map grainOf ws;
 }
 
-row-words : (w : Values row) → GrainWords (grainOf w)
+row-words : (w : Values linePieces) → GrainWords (grainOf w)
 row-words w = record { x-word = w .1; y-word = w .2 .1; vx-word = w .2 .2 .1; vy-word = w .2 .2 .2 .1; val-word = w .2 .2 .2 .2 .1 }
 
-rows-words : (ws : List (Values row)) → AllWords (map grainOf ws)
+rows-words : (ws : List (Values linePieces)) → AllWords (map grainOf ws)
 rows-words [] = tt
 rows-words (w ∷ ws) = (row-words w, rows-words ws)
 
-pub words-of : (w : Values head) (ws : List (Values row)) → Words (inputOf w ws)
+pub words-of : (w : Values headPieces) (ws : List (Values linePieces)) → Words (inputOf w ws)
 words-of w ws = record { l0-word = w .1; l1-word = w .2 .1; rate-word = w .2 .2 .1 .1 .1; grain-words = rows-words ws }
 
-abbrev pub rowFor : (g : Grain) → GrainWords g → Values row
+abbrev pub rowFor : (g : Grain) → GrainWords g → Values linePieces
 rowFor g u = (g .x, u .x-word, (g .y, u .y-word, (g .vx, u .vx-word, (g .vy, u .vy-word, (g .val, u .val-word, tt)))))
 
-abbrev pub rowsFor : (gs : List Grain) → AllWords gs → List (Values row)
+abbrev pub rowsFor : (gs : List Grain) → AllWords gs → List (Values linePieces)
 rowsFor [] u = []
 rowsFor (g ∷ gs) u = rowFor g (u .0) ∷ rowsFor gs (u .1)
 
-abbrev pub valuesFor : (i : Input) → Words i → Word (length (i .grains)) → Values head
+abbrev pub valuesFor : (i : Input) → Words i → Word (length (i .grains)) → Values headPieces
 valuesFor i u k = (i .l0, u .l0-word, (i .l1, u .l1-word, (i .p0, (i .p1, (i .rate, u .rate-word, (length (i .grains), k, tt))))))
 
 rows-same : (gs : List Grain) (u : AllWords gs) → map grainOf (rowsFor gs u) ≡ gs
@@ -79,7 +79,7 @@ rows-many [] u = refl
 rows-many (g ∷ gs) u = ap suc (rows-many gs (u .1))
 
 -- ---- their text
-lines-are : (ws : List (Values row)) → spelledRows form ws ≡ grainLines (map grainOf ws)
+lines-are : (ws : List (Values linePieces)) → spelledRows form ws ≡ grainLines (map grainOf ws)
 lines-are [] = refl
 lines-are (w ∷ ws) = ap (λ (l : List ℕ). grainLine (grainOf w) ++ l) (lines-are ws)
 
@@ -88,10 +88,10 @@ pub head-text : (a b c d e f s : List ℕ) → (a ++ (44 ∷ (b ++ (44 ∷ (c ++
     ≡ line (a ∷ b ∷ c ∷ d ∷ e ∷ f ∷ []) ++ (bytes "x,y,vx,vy,val\r\n" ++ s)
 head-text a b c d e f s = simp append-assoc
 
-pub text-is : (w : Values head) (ws : List (Values row)) → counted head w 0 ≡ length ws → spelledText form w ws ≡ textOf (inputOf w ws)
+pub text-is : (w : Values headPieces) (ws : List (Values linePieces)) → countRead headPieces w 0 ≡ length ws → spelledText form w ws ≡ textOf (inputOf w ws)
 text-is w ws e =
     let i = inputOf w ws in
     ap (λ (l : List ℕ). bytes "l0,l1,p0,p1,rate,n\r\n" ++ l)
-    (head-text (hex (i .l0)) (hex (i .l1)) (flag (i .p0)) (flag (i .p1)) (hex (i .rate)) (decimal (counted head w 0)) (spelledRows form ws)
-    ∙ ap (λ (n : ℕ). line (hex (i .l0) ∷ hex (i .l1) ∷ flag (i .p0) ∷ flag (i .p1) ∷ hex (i .rate) ∷ decimal n ∷ []) ++ (bytes "x,y,vx,vy,val\r\n" ++ spelledRows form ws)) (e ∙ sym (length-map ws grainOf))
+    (head-text (hex (i .l0)) (hex (i .l1)) (flagField (i .p0)) (flagField (i .p1)) (hex (i .rate)) (decimal (countRead headPieces w 0)) (spelledRows form ws)
+    ∙ ap (λ (n : ℕ). line (hex (i .l0) ∷ hex (i .l1) ∷ flagField (i .p0) ∷ flagField (i .p1) ∷ hex (i .rate) ∷ decimal n ∷ []) ++ (bytes "x,y,vx,vy,val\r\n" ++ spelledRows form ws)) (e ∙ sym (length-map ws grainOf))
     ∙ ap (λ (l : List ℕ). boxLine i ++ (bytes "x,y,vx,vy,val\r\n" ++ l)) (lines-are ws))

@@ -11,15 +11,15 @@ use borrow.Author.Tests.{eq-eqb, ltb-true, ltb-false}
 use Rattle.text.specs.Bytes.{bytes}
 use Rattle.text.specs.Numerals.{Word}
 use Rattle.text.specs.Reading as text
-use Rattle.text.specs.Plan.{Values, counted, loadedRows, spelledText, Spells, heldOf}
+use Rattle.text.specs.Plan.{Values, countRead, loadedRows, spelledText, Spells, heldOf}
 use Rattle.text.proofs.Turns.{feed-parts, closed-ended, closed-same}
 use Rattle.text.proofs.Forward as text-laws
 use Rattle.text.proofs.Kept.{keptAll, keptRows, text-kept}
 use Rattle.listing_text.specs.declared.reader.Reader.{Reader}
 use Rattle.listing_text.specs.Grammar.{Grain, Input, Words, textOf, Text}
-use Rattle.listing_text.specs.Rows.{noGrain, rowsOf}
-use Rattle.listing_text.specs.Reading.{head, row, plan, lineAt, placeOf, startOf, rowKept, feedOf, feedAll, closedOf, fineOf}
-use Rattle.listing_text.specs.Held.{lastOf, numbersOf, readOf}
+use Rattle.listing_text.specs.Rows.{noGrain, grainRows}
+use Rattle.listing_text.specs.Reading.{headPieces, linePieces, plan, lineAt, planPlace, startOf, rowKept, feedOf, feedAll, closedOf, fineOf}
+use Rattle.listing_text.specs.Held.{lastGrain, numbersOf, readerOf}
 use Rattle.listing_text.proofs.Rows.{rows-more, rows-full}
 use Rattle.listing_text.proofs.Form.{form, grainOf, inputOf, rowsFor, valuesFor, input-same, rows-many, text-is}
 
@@ -32,38 +32,38 @@ feed-is [] r = refl
 feed-is (b ∷ s) r = feed-is s (feedOf r b)
 
 -- the numbers after some lines are the last one's
-numbers-last : (ws : List (Values row)) (i : Input) (g : Grain) → loadedRows form ws (numbersOf i g) ≡ numbersOf i (lastOf g (map grainOf ws))
+numbers-last : (ws : List (Values linePieces)) (i : Input) (g : Grain) → loadedRows form ws (numbersOf i g) ≡ numbersOf i (lastGrain g (map grainOf ws))
 numbers-last [] i g = refl
 numbers-last (w ∷ ws) i g = numbers-last ws i (grainOf w)
 
 -- the rows after one more line
-row-kept : (i : Input) (done : List Grain) (g : Grain) → rowKept (length done) (numbersOf i g) (rowsOf 32 done) ≡ rowsOf 32 (done ++ (g ∷ []))
+row-kept : (i : Input) (done : List Grain) (g : Grain) → rowKept (length done) (numbersOf i g) (grainRows 32 done) ≡ grainRows 32 (done ++ (g ∷ []))
 row-kept i done g = go (ltb (length done) 32) refl
   where
-    go : (t : Bool) → ltb (length done) 32 ≡ t → rowKept (length done) (numbersOf i g) (rowsOf 32 done) ≡ rowsOf 32 (done ++ (g ∷ []))
+    go : (t : Bool) → ltb (length done) 32 ≡ t → rowKept (length done) (numbersOf i g) (grainRows 32 done) ≡ grainRows 32 (done ++ (g ∷ []))
     go true e = rw e (rows-more 32 done g (ltb-true (length done) 32 e))
     go false e = rw e (rows-full 32 done g (ltb-false (length done) 32 e))
 
-rows-kept : (ws : List (Values row)) (i : Input) (done : List Grain) (g : Grain) → keptRows form rowKept ws (length done) (numbersOf i g) (rowsOf 32 done) ≡ rowsOf 32 (done ++ map grainOf ws)
-rows-kept [] i done g = ap (rowsOf 32) (sym (append-nil done))
+rows-kept : (ws : List (Values linePieces)) (i : Input) (done : List Grain) (g : Grain) → keptRows form rowKept ws (length done) (numbersOf i g) (grainRows 32 done) ≡ grainRows 32 (done ++ map grainOf ws)
+rows-kept [] i done g = ap (grainRows 32) (sym (append-nil done))
 rows-kept (w ∷ ws) i done g =
     let h = grainOf w in
     let one : suc (length done) ≡ length (done ++ (h ∷ [])) = sym (add-one (length done)) ∙ sym (length-append done (h ∷ [])) in
     (λ t. keptRows form rowKept ws (one t) (numbersOf i h) (row-kept i done h t))
     ∙ rows-kept ws i (done ++ (h ∷ [])) h
-    ∙ ap (rowsOf 32) (append-assoc done (h ∷ []) (map grainOf ws))
+    ∙ ap (grainRows 32) (append-assoc done (h ∷ []) (map grainOf ws))
 
 -- ---- the whole text
 -- the reader after values and rows
-abbrev held : Values head → List (Values row) → Reader
-held w ws = record { text = heldOf form w ws; grains = rowsOf 32 (map grainOf ws) }
+abbrev held : Values headPieces → List (Values linePieces) → Reader
+held w ws = record { text = heldOf form w ws; grains = grainRows 32 (map grainOf ws) }
 
-held-is : (w : Values head) (ws : List (Values row)) → held w ws ≡ readOf (inputOf w ws)
+held-is : (w : Values headPieces) (ws : List (Values linePieces)) → held w ws ≡ readerOf (inputOf w ws)
 held-is w ws =
     let n : length ws ≡ length (map grainOf ws) = sym (length-map ws grainOf) in
-    λ t. record { text = record { at = lineAt; n = n t; seen = n t; numbers = numbers-last ws (inputOf w ws) noGrain t }; grains = rowsOf 32 (map grainOf ws) }
+    λ t. record { text = record { at = lineAt; n = n t; seen = n t; numbers = numbers-last ws (inputOf w ws) noGrain t }; grains = grainRows 32 (map grainOf ws) }
 
-spelled-held : (w : Values head) (ws : List (Values row)) → counted head w 0 ≡ length ws → feedAll startOf (spelledText form w ws) ≡ held w ws
+spelled-held : (w : Values headPieces) (ws : List (Values linePieces)) → countRead headPieces w 0 ≡ length ws → feedAll startOf (spelledText form w ws) ≡ held w ws
 spelled-held w ws e =
     feed-is (spelledText form w ws) startOf
     ∙ (λ t. record {
@@ -71,37 +71,37 @@ spelled-held w ws e =
       grains = (text-kept form rowKept w ws (replicate 160 0) e ∙ rows-kept ws (inputOf w ws) [] noGrain) t;
     })
 
-pub spelled-read : (s : List ℕ) (w : Values head) (ws : List (Values row)) → Spells form s w ws → closedOf (feedAll startOf s) ≡ readOf (inputOf w ws)
+pub spelled-read : (s : List ℕ) (w : Values headPieces) (ws : List (Values linePieces)) → Spells form s w ws → closedOf (feedAll startOf s) ≡ readerOf (inputOf w ws)
 spelled-read s w ws (n, inl e) =
     ap (λ (t : List ℕ). closedOf (feedAll startOf t)) e ∙ ap closedOf (spelled-held w ws n)
-    ∙ sym (closed-same feedOf placeOf lineAt (held w ws) _ refl (text-laws.held-over form w ws))
+    ∙ sym (closed-same feedOf planPlace lineAt (held w ws) _ refl (text-laws.held-over form w ws))
     ∙ held-is w ws
 spelled-read s w ws (n, inr e) =
     let q : held w ws ≡ feedOf (feedOf (feedAll startOf s) 13) 10 = sym (spelled-held w ws n) ∙ ap (feedAll startOf) (sym e) ∙ feed-parts feedOf s (bytes "\r\n") startOf in
-    sym (closed-ended feedOf placeOf lineAt (feedAll startOf s) (held w ws) q refl) ∙ held-is w ws
+    sym (closed-ended feedOf planPlace lineAt (feedAll startOf s) (held w ws) q refl) ∙ held-is w ws
 
 -- ---- an input
 module _ (i : Input) (u : Words i) (k : Word (length (i .grains))) where
-  abbrev values : Values head
+  abbrev values : Values headPieces
   values = valuesFor i u k
 
-  abbrev rows : List (Values row)
+  abbrev rows : List (Values linePieces)
   rows = rowsFor (i .grains) (u .grain-words)
 
   spelled-is : spelledText form values rows ≡ textOf i
   spelled-is = text-is values rows (rows-many (i .grains) (u .grain-words)) ∙ ap textOf (input-same i u k)
 
-  pub text-read : feedAll startOf (textOf i) ≡ readOf i
+  pub text-read : feedAll startOf (textOf i) ≡ readerOf i
   text-read =
       ap (feedAll startOf) (sym spelled-is) ∙ spelled-held values rows (rows-many (i .grains) (u .grain-words))
-      ∙ held-is values rows ∙ ap readOf (input-same i u k)
+      ∙ held-is values rows ∙ ap readerOf (input-same i u k)
 
   spells : (s : List ℕ) → Text s i → Spells form s values rows
   spells s (inl e) = (rows-many (i .grains) (u .grain-words), inl (e ∙ sym spelled-is))
   spells s (inr e) = (rows-many (i .grains) (u .grain-words), inr (e ∙ sym spelled-is))
 
-pub text-accepted : (s : List ℕ) (i : Input) → Words i → Word (length (i .grains)) → Text s i → closedOf (feedAll startOf s) ≡ readOf i
-text-accepted s i u k t = spelled-read s (valuesFor i u k) (rowsFor (i .grains) (u .grain-words)) (spells i u k s t) ∙ ap readOf (input-same i u k)
+pub text-accepted : (s : List ℕ) (i : Input) → Words i → Word (length (i .grains)) → Text s i → closedOf (feedAll startOf s) ≡ readerOf i
+text-accepted s i u k t = spelled-read s (valuesFor i u k) (rowsFor (i .grains) (u .grain-words)) (spells i u k s t) ∙ ap readerOf (input-same i u k)
 
-pub read-fine : (i : Input) → fineOf (readOf i) ≡ true
+pub read-fine : (i : Input) → fineOf (readerOf i) ≡ true
 read-fine i = eq-eqb (length (i .grains)) (length (i .grains)) refl

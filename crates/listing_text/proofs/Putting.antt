@@ -12,7 +12,7 @@ use Rattle.text.specs.Put.{Put}
 use Rattle.text.proofs.Putting.{put-none, put-one, put-then, put-as, decimal-most}
 use Rattle.listing_text.specs.Grammar.{Grain, grainLine}
 use Rattle.listing_text.specs.Answers.{listingLine, listingLines, listingOf}
-use Rattle.listing_text.specs.Rows.{grainAt, grainsFrom, listed}
+use Rattle.listing_text.specs.Rows.{rowGrain, grainsFrom, rowsListing}
 
 -- two fields of a list, the second at a place that has another name
 pub pair-as : {at m : ℕ} {s u : List ℕ} (l : List ℕ) (a b c : ℕ) → b ≡ c → Put at ((hex (getD l a 0) ++ (44 ∷ [])) ++ (hex (getD l b 0) ++ (44 ∷ []))) s u m → Put at ((hex (getD l a 0) ++ (44 ∷ [])) ++ (hex (getD l c 0) ++ (44 ∷ []))) s u m
@@ -36,10 +36,10 @@ line-short time i g h =
 pub lines-none : (at time i n : ℕ) (l s : List ℕ) → n ≤ i → at ≤ length s → Put at (listingLines time i (grainsFrom l i (n - i))) s s at
 lines-none at time i n l s h r = let e : n - i ≡ 0 = omega arith in put-as (sym (ap (λ (k : ℕ). listingLines time i (grainsFrom l i k)) e)) (put-none at s r)
 
-pub lines-more : {at m k : ℕ} (time i n : ℕ) (l : List ℕ) {s u w : List ℕ} → i < n → Put at (listingLine time i (grainAt l i)) s u m → Put m (listingLines time (i + 1) (grainsFrom l (i + 1) (n - (i + 1)))) u w k → Put at (listingLines time i (grainsFrom l i (n - i))) s w k
+pub lines-more : {at m k : ℕ} (time i n : ℕ) (l : List ℕ) {s u w : List ℕ} → i < n → Put at (listingLine time i (rowGrain l i)) s u m → Put m (listingLines time (i + 1) (grainsFrom l (i + 1) (n - (i + 1)))) u w k → Put at (listingLines time i (grainsFrom l i (n - i))) s w k
 lines-more time i n l h a b =
     let e : n - i ≡ suc (n - (i + 1)) = omega arith in
-    put-as (ap (λ (z : ℕ). listingLine time i (grainAt l i) ++ listingLines time z (grainsFrom l z (n - (i + 1)))) (add-one i) ∙ sym (ap (λ (k : ℕ). listingLines time i (grainsFrom l i k)) e)) (put-then a b)
+    put-as (ap (λ (z : ℕ). listingLine time i (rowGrain l i) ++ listingLines time z (grainsFrom l z (n - (i + 1)))) (add-one i) ∙ sym (ap (λ (k : ℕ). listingLines time i (grainsFrom l i k)) e)) (put-then a b)
 
-pub listed-is : (time n : ℕ) (l : List ℕ) → n ≤ 32 → bytes "time,index,x,y,vx,vy,val\r\n" ++ listingLines time 0 (grainsFrom l 0 (n - 0)) ≡ listed time n l
+pub listed-is : (time n : ℕ) (l : List ℕ) → n ≤ 32 → bytes "time,index,x,y,vx,vy,val\r\n" ++ listingLines time 0 (grainsFrom l 0 (n - 0)) ≡ rowsListing time n l
 listed-is time n l h = let e : n - 0 ≡ n = omega arith in simp (le-ltb 32 n h) (ap (λ (k : ℕ). listingOf time (grainsFrom l 0 k)) e)

@@ -10,7 +10,7 @@ use lib.Dec.{lit<}
 use lib.ListN.{length, getD, take, drop}
 use Rattle.text.specs.Bytes.{bytes}
 use Rattle.text.specs.Numerals.{glyph, hex, decimal}
-use Rattle.text.specs.Lines.{line, flag}
+use Rattle.text.specs.Lines.{line, flagField}
 use Rattle.text.proofs.Single.{hex-same, glyph-big, flag-split, decimal-split}
 use Rattle.listing_text.specs.Grammar.{Grain, Input, GrainWords, AllWords, Words, boxLine, grainLine, grainLines, textOf, Text}
 use Rattle.listing_text.specs.Reading.{startOf, feedAll, closedOf, fineOf}
@@ -54,7 +54,7 @@ input-same : (i j : Input) → i .l0 ≡ j .l0 → i .l1 ≡ j .l1 → i .p0 ≡
 input-same i j a b c d e f = λ k. record { l0 = a k; l1 = b k; p0 = c k; p1 = d k; rate = e k; grains = f k }
 
 abbrev fields : Input → List ℕ → List ℕ
-fields i s = hex (i .l0) ++ (44 ∷ (hex (i .l1) ++ (44 ∷ (flag (i .p0) ++ (44 ∷ (flag (i .p1) ++ (44 ∷ (hex (i .rate) ++ (44 ∷ (decimal (length (i .grains)) ++ (13 ∷ 10 ∷ s)))))))))))
+fields i s = hex (i .l0) ++ (44 ∷ (hex (i .l1) ++ (44 ∷ (flagField (i .p0) ++ (44 ∷ (flagField (i .p1) ++ (44 ∷ (hex (i .rate) ++ (44 ∷ (decimal (length (i .grains)) ++ (13 ∷ 10 ∷ s)))))))))))
 
 six-fields : (a b c d e f s : List ℕ) → line (a ∷ b ∷ c ∷ d ∷ e ∷ f ∷ []) ++ s ≡ a ++ (44 ∷ (b ++ (44 ∷ (c ++ (44 ∷ (d ++ (44 ∷ (e ++ (44 ∷ (f ++ (13 ∷ 10 ∷ s)))))))))))
 six-fields a b c d e f s = simp append-assoc
@@ -63,7 +63,7 @@ text-fields : (i : Input) (s : List ℕ) → textOf i ++ s ≡ bytes "l0,l1,p0,p
 text-fields i s =
     ap (λ (l : List ℕ). bytes "l0,l1,p0,p1,rate,n\r\n" ++ l)
     (append-assoc (boxLine i) (bytes "x,y,vx,vy,val\r\n" ++ grainLines (i .grains)) s
-    ∙ six-fields (hex (i .l0)) (hex (i .l1)) (flag (i .p0)) (flag (i .p1)) (hex (i .rate)) (decimal (length (i .grains))) (bytes "x,y,vx,vy,val\r\n" ++ (grainLines (i .grains) ++ s)))
+    ∙ six-fields (hex (i .l0)) (hex (i .l1)) (flagField (i .p0)) (flagField (i .p1)) (hex (i .rate)) (decimal (length (i .grains))) (bytes "x,y,vx,vy,val\r\n" ++ (grainLines (i .grains) ++ s)))
 
 fields-same : (i j : Input) (s t : List ℕ) → Words i → Words j → Stop s → Stop t → fields i (bytes "x,y,vx,vy,val\r\n" ++ (grainLines (i .grains) ++ s)) ≡ fields j (bytes "x,y,vx,vy,val\r\n" ++ (grainLines (j .grains) ++ t)) → (i ≡ j) × (s ≡ t)
 fields-same i j s t u w a b e =

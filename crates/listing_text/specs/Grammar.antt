@@ -7,7 +7,7 @@ use Prim.Native.Nat.{ℕ}
 use lib.ListN.{length}
 use Rattle.text.specs.Bytes.{bytes}
 use Rattle.text.specs.Numerals.{hex, decimal, Word}
-use Rattle.text.specs.Lines.{line, flag}
+use Rattle.text.specs.Lines.{line, flagField}
 
 pub record Grain : Type 0 where
   pub x : ℕ
@@ -25,7 +25,7 @@ pub record Input : Type 0 where
   pub grains : List Grain
 
 abbrev pub boxLine : Input → List ℕ
-boxLine i = line (hex (i .l0) ∷ hex (i .l1) ∷ flag (i .p0) ∷ flag (i .p1) ∷ hex (i .rate) ∷ decimal (length (i .grains)) ∷ [])
+boxLine i = line (hex (i .l0) ∷ hex (i .l1) ∷ flagField (i .p0) ∷ flagField (i .p1) ∷ hex (i .rate) ∷ decimal (length (i .grains)) ∷ [])
 
 abbrev pub grainLine : Grain → List ℕ
 grainLine g = line (hex (g .x) ∷ hex (g .y) ∷ hex (g .vx) ∷ hex (g .vy) ∷ hex (g .val) ∷ [])

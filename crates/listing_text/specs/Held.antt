@@ -5,17 +5,17 @@ use lib.ListN.{length}
 use Rattle.text.specs.Lines.{bitOf}
 use Rattle.listing_text.specs.declared.reader.Reader.{Reader}
 use Rattle.listing_text.specs.Grammar.{Grain, Input}
-use Rattle.listing_text.specs.Rows.{fiveOf, noGrain, rowsOf}
+use Rattle.listing_text.specs.Rows.{fiveOf, noGrain, grainRows}
 use Rattle.listing_text.specs.Reading.{lineAt}
 
 -- the last one, or g where there is none
-abbrev pub lastOf : Grain → List Grain → Grain
-lastOf g [] = g
-lastOf g (h ∷ gs) = lastOf h gs
+abbrev pub lastGrain : Grain → List Grain → Grain
+lastGrain g [] = g
+lastGrain g (h ∷ gs) = lastGrain h gs
 
 -- the ten numbers that the plan names
 abbrev pub numbersOf : Input → Grain → List ℕ
 numbersOf i g = i .l0 ∷ i .l1 ∷ bitOf (i .p0) ∷ bitOf (i .p1) ∷ i .rate ∷ fiveOf g
 
-abbrev pub readOf : Input → Reader
-readOf i = record { text = record { at = lineAt; n = length (i .grains); seen = length (i .grains); numbers = numbersOf i (lastOf noGrain (i .grains)) }; grains = rowsOf 32 (i .grains) }
+abbrev pub readerOf : Input → Reader
+readerOf i = record { text = record { at = lineAt; n = length (i .grains); seen = length (i .grains); numbers = numbersOf i (lastGrain noGrain (i .grains)) }; grains = grainRows 32 (i .grains) }

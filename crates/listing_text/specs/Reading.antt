@@ -11,24 +11,24 @@ use Rattle.text.specs.Plan.{Piece, mark, number, flagged, count, marks, shown}
 use Rattle.listing_text.specs.declared.reader.Reader.{Reader}
 
 -- the text up to the grains' lines, and such a line but for its LF
-abbrev pub head : List Piece
-head =
+abbrev pub headPieces : List Piece
+headPieces =
     marks (bytes "l0,l1,p0,p1,rate,n\r\n")
     (number 0 ∷ mark 44 ∷ number 1 ∷ mark 44 ∷ flagged 2 ∷ mark 44 ∷ flagged 3 ∷ mark 44 ∷ number 4 ∷ mark 44 ∷ count ∷ marks (bytes "\nx,y,vx,vy,val\r\n") [])
 
-abbrev pub row : List Piece
-row = number 5 ∷ mark 44 ∷ number 6 ∷ mark 44 ∷ number 7 ∷ mark 44 ∷ number 8 ∷ mark 44 ∷ number 9 ∷ mark 13 ∷ []
+abbrev pub linePieces : List Piece
+linePieces = number 5 ∷ mark 44 ∷ number 6 ∷ mark 44 ∷ number 7 ∷ mark 44 ∷ number 8 ∷ mark 44 ∷ number 9 ∷ mark 13 ∷ []
 
 -- the plan that shows them, and where it shows a grain's line
 unfoldable pub plan : List ℕ
-plan = shown head ++ (shown row ++ (10 ∷ []))
+plan = shown headPieces ++ (shown linePieces ++ (10 ∷ []))
 
 abbrev pub lineAt : ℕ
 lineAt = 93
 
 -- the place in the plan
-abbrev pub placeOf : Reader → ℕ
-placeOf r = r .text .at
+abbrev pub planPlace : Reader → ℕ
+planPlace r = r .text .at
 
 abbrev pub startOf : Reader
 startOf = record { text = text.startOf; grains = replicate 160 0 }
@@ -57,7 +57,7 @@ feedAll r s = text.fedBy feedOf r s
 
 -- the text is over: a last line that lacks its CR LF is ended
 abbrev pub closedOf : Reader → Reader
-closedOf r = text.closedBy feedOf placeOf lineAt r
+closedOf r = text.closedBy feedOf planPlace lineAt r
 
 -- n lines of grains were read, and no byte more
 abbrev pub fineOf : Reader → Bool

@@ -15,20 +15,20 @@ abbrev pub noGrain : Grain
 noGrain = record { x = 0; y = 0; vx = 0; vy = 0; val = 0 }
 
 -- k rows of five: the grains' numbers, as far as they go, then zeros
-abbrev pub rowsOf : ℕ → List Grain → List ℕ
-rowsOf zero gs = []
-rowsOf (suc k) [] = fiveOf noGrain ++ rowsOf k []
-rowsOf (suc k) (g ∷ gs) = fiveOf g ++ rowsOf k gs
+abbrev pub grainRows : ℕ → List Grain → List ℕ
+grainRows zero gs = []
+grainRows (suc k) [] = fiveOf noGrain ++ grainRows k []
+grainRows (suc k) (g ∷ gs) = fiveOf g ++ grainRows k gs
 
 -- the grain whose five numbers stand in row i
-abbrev pub grainAt : List ℕ → ℕ → Grain
-grainAt l i = record { x = getD l (i * 5) 0; y = getD l (i * 5 + 1) 0; vx = getD l (i * 5 + 2) 0; vy = getD l (i * 5 + 3) 0; val = getD l (i * 5 + 4) 0 }
+abbrev pub rowGrain : List ℕ → ℕ → Grain
+rowGrain l i = record { x = getD l (i * 5) 0; y = getD l (i * 5 + 1) 0; vx = getD l (i * 5 + 2) 0; vy = getD l (i * 5 + 3) 0; val = getD l (i * 5 + 4) 0 }
 
 -- k grains from row i on
 abbrev pub grainsFrom : List ℕ → ℕ → ℕ → List Grain
 grainsFrom l i zero = []
-grainsFrom l i (suc k) = grainAt l i ∷ grainsFrom l (suc i) k
+grainsFrom l i (suc k) = rowGrain l i ∷ grainsFrom l (suc i) k
 
 -- the listing of the first n rows; nothing for more than 32
-abbrev pub listed : ℕ → ℕ → List ℕ → List ℕ
-listed time n l = cond (ltb 32 n) [] (listingOf time (grainsFrom l 0 n))
+abbrev pub rowsListing : ℕ → ℕ → List ℕ → List ℕ
+rowsListing time n l = cond (ltb 32 n) [] (listingOf time (grainsFrom l 0 n))

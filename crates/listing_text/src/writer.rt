@@ -8,7 +8,7 @@ ghost use Rattle.text.specs.Lines.{line};
 ghost use Rattle.text.specs.Put.{Put};
 ghost use Rattle.listing_text.specs.Grammar.{grainLine};
 ghost use Rattle.listing_text.specs.Answers.{listingLine, listingLines, answerOf};
-ghost use Rattle.listing_text.specs.Rows.{grainAt, grainsFrom, listed};
+ghost use Rattle.listing_text.specs.Rows.{rowGrain, grainsFrom, rowsListing};
 use text::put_bytes;
 use text::put_decimal;
 use text::put_field;
@@ -33,7 +33,7 @@ fn put_pair(out: &mut [u8], at: usize, numbers: &[u64], j: usize) -> usize
 // A grain's line of five numbers, those of row i.
 fn put_grain(out: &mut [u8], at: usize, numbers: &[u64], i: usize) -> usize
     requires { ⌜ (at + 86 ≤ length (now out)) × (i * 5 + 5 ≤ length (now numbers)) ⌝ }
-    ensures { λ r. ⌜ Put at (grainLine (grainAt (now (numbers .entry)) i)) (now (out .entry)) (now (out .exit)) r ⌝ }
+    ensures { λ r. ⌜ Put at (grainLine (rowGrain (now (numbers .entry)) i)) (now (out .entry)) (now (out .exit)) r ⌝ }
 {
     let j = i * 5;
     let velocity = put_pair(out, at, numbers, j);
@@ -46,7 +46,7 @@ fn put_grain(out: &mut [u8], at: usize, numbers: &[u64], i: usize) -> usize
 // The listing's line for row i.
 fn put_line(out: &mut [u8], at: usize, time: u64, numbers: &[u64], i: usize) -> usize
     requires { ⌜ (at + 107 ≤ length (now out)) × (i * 5 + 5 ≤ length (now numbers)) × (i < 1000) ⌝ }
-    ensures { λ r. ⌜ Put at (listingLine time i (grainAt (now (numbers .entry)) i)) (now (out .entry)) (now (out .exit)) r ⌝ }
+    ensures { λ r. ⌜ Put at (listingLine time i (rowGrain (now (numbers .entry)) i)) (now (out .entry)) (now (out .exit)) r ⌝ }
 {
     let index = put_field(out, at, time, 44);
     let comma = put_decimal(out, index, i as u64);
@@ -68,7 +68,7 @@ fn put_lines(out: &mut [u8], at: usize, time: u64, numbers: &[u64], i: usize, n:
 
 // The listing of the first n rows, with its header; nothing for more than 32 rows.
 pub fn put_listing(out: &mut [u8; 4096], time: u64, numbers: &[u64; 160], n: usize) -> usize
-    ensures { λ r. ⌜ Put 0 (listed time n (now (numbers .entry))) (now (out .entry)) (now (out .exit)) r ⌝ }
+    ensures { λ r. ⌜ Put 0 (rowsListing time n (now (numbers .entry))) (now (out .entry)) (now (out .exit)) r ⌝ }
 {
     if 32 < n {
         return 0;

@@ -24,7 +24,7 @@ use Rattle.model.proofs.Born.{born}
 use Rattle.model.proofs.Starts.{Reaches, first-good, begin-stands}
 use Rattle.model.specs.Reached.{Call, after, Reached, steps}
 use Rattle.model.specs.Rows.{doing, inTurn, actsOf, goes, initiates, startActs}
-use Rattle.model.specs.History.{took, History, rowDone, dated, places, stepDone, stepsDone, callsDone, startDone, history}
+use Rattle.model.specs.History.{took, History, rowDone, dated, datedPlaces, stepDone, stepsDone, callsDone, startDone, history}
 use Rattle.model.proofs.Sound.{Sound, Named, Stands}
 use Rattle.model.proofs.Counts.{Ended, counts, stepAt}
 use Rattle.model.proofs.Told.{Tells, taken-tells, done-tells, then-whole, row-box}
@@ -130,7 +130,7 @@ start-tells : (b : Domain) (room : ℕ) (gs : List Particle) → Tells (startDon
 unfolding startDone begin
 start-tells b room gs =
     let s = clear b room (length gs) in
-    done-tells (startActs b gs s) s [] (record { queues = λ c C. unfold dated clear places in sym (empty-live (cells b) room zeroP c) })
+    done-tells (startActs b gs s) s [] (record { queues = λ c C. unfold dated clear datedPlaces in sym (empty-live (cells b) room zeroP c) })
 
 pub begin-box : (b : Domain) (room : ℕ) (gs : List Particle) → ((begin b room gs) .st) .box ≡ b
 unfolding clear begin

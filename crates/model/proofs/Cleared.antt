@@ -13,7 +13,7 @@ use Rattle.scheduler.specs.declared.Scheduler.{Scheduler}
 use Rattle.model.specs.declared.Domain.{Domain}
 use Rattle.halting.specs.Out.{each}
 use Rattle.order.specs.Numbers.{fzero, f64Max}
-use Rattle.scheduler.specs.Heap.{timeAt, parent, start as startHeap}
+use Rattle.scheduler.specs.Heap.{timeAt, parent, startHeap}
 use Rattle.scheduler.specs.Standing.{Ordered}
 use Rattle.order.proofs.Compare.{lt-irrefl}
 use Rattle.scheduler.proofs.Laws.{time-in, time-out}

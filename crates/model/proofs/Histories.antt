@@ -12,7 +12,7 @@ use Rattle.model.specs.Run.{Ran, runFrom}
 use Rattle.model.specs.Start.{clear}
 use Rattle.model.specs.Check.{runAll}
 use Rattle.model.specs.Reached.{most, Call, after, Reached, StepOf}
-use Rattle.model.specs.History.{History, history, places, dated, given, Led, NoneOld}
+use Rattle.model.specs.History.{History, history, datedPlaces, dated, given, Led, NoneOld}
 use Rattle.model.specs.Missing.{NoneMissing, NothingElse}
 use Rattle.model.proofs.Counts.{counts, state-at}
 use Rattle.model.proofs.Whole.{runs}
@@ -29,7 +29,7 @@ pub record Said (h : History) (s₀ s : State) : Type 0 where
   -- a grain's velocity is the one that its last turn gave it
   pub velocity : (g : ℕ) → g < length (s .grains) → (grain s g) .vel ≡ given h g
   -- the pending events of the history, without their numbers, are those of the state; each number is that of the act that put the event in, and no two of a cell are equal
-  pub pending : (c : ℕ) → c < cells (s .box) → places (dated h c) ≡ queue s c
+  pub pending : (c : ℕ) → c < cells (s .box) → datedPlaces (dated h c) ≡ queue s c
   pub put : (c : ℕ) → All (PutBy h c) (dated h c)
   pub distinct : (c : ℕ) → Distinct (dated h c)
   -- each pending event was scheduled after the last change of velocity of every grain that it names

@@ -10,7 +10,7 @@ use lib.Dec.{leb}
 use lib.ListN.{length, getD, set, drop, replicate, length-set, length-replicate}
 use lib.Ieee.{Float, binary64, ofBits, add, lt}
 use borrow.Author.Tests.{leb-true}
-use Rattle.scheduler.specs.Heap.{numbered, start as startHeap}
+use Rattle.scheduler.specs.Heap.{numbered, startHeap}
 use Rattle.order.specs.Numbers.{fzero, f64Max}
 use Rattle.order.proofs.Compare.{lt-irrefl}
 use Rattle.model.specs.declared.Domain.{Domain}

@@ -27,7 +27,7 @@ use Rattle.model.specs.Execute.{headEvent, step}
 use Rattle.model.specs.Start.{clear, begin}
 use Rattle.model.specs.Reached.{Reached}
 use Rattle.model.specs.Rows.{Act, perform, Acts, doing, _⨟_, inTurn, reschedules, actsOf, goes, initiates}
-use Rattle.model.specs.History.{Deed, did, took, History, rowDone, latest, turns, turned, Dated, namedBy, places, change, dated, stepDone, startDone, history, Later, NoneOld}
+use Rattle.model.specs.History.{Deed, did, took, History, rowDone, latest, turns, turned, Dated, namedBy, datedPlaces, change, dated, stepDone, startDone, history, Later, NoneOld}
 use Rattle.model.proofs.Sound.{Sound, Named, Stands}
 use Rattle.model.proofs.Frame.{in-cell}
 use Rattle.model.proofs.Forgets.{Free}
@@ -54,8 +54,8 @@ module _ (n g : ℕ) where
   row-fresh = done-keeps (Calm g) (Fresh n g) (λ a s h c z f. fresh-on (did a) h c f)
 
 -- ---- where no pending event names g
-unnamed-all : (g : ℕ) (l : List Dated) → All (λ e. names (eventOf (e .kind) e) g ≡ false) (places l) → All (λ d. namedBy d g ≡ false) l
-unfolding places
+unnamed-all : (g : ℕ) (l : List Dated) → All (λ e. names (eventOf (e .kind) e) g ≡ false) (datedPlaces l) → All (λ d. namedBy d g ≡ false) l
+unfolding datedPlaces
 unnamed-all g [] a = tt
 unnamed-all g (x ∷ xs) a = (a .0, unnamed-all g xs (a .1))
 
@@ -149,5 +149,5 @@ none-old s r m c C = each-of (dated (history s r) c) (λ g. reached-along AllFre
     each-of (x ∷ xs) f = ((λ g. f g .0), each-of xs (λ g. f g .1))
 
 -- and the pending events of the history, without their numbers, are those of the state
-pub all-told : (s : State) (r : Reached s) → s .mark ≡ 0 → (c : ℕ) → c < cells (s .box) → places (dated (history s r) c) ≡ queue s c
+pub all-told : (s : State) (r : Reached s) → s .mark ≡ 0 → (c : ℕ) → c < cells (s .box) → datedPlaces (dated (history s r) c) ≡ queue s c
 all-told s r m c C = reached-tells s r m .queues c (let l = reached-well s r .sound .long in omega (arith, l))

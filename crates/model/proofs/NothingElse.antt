@@ -31,7 +31,7 @@ use Rattle.model.specs.Standing.{Once, syncs, one-if}
 use Rattle.model.proofs.Sound.{Sound, Held, Named, Stands}
 use Rattle.model.specs.Reached.{Reached}
 use Rattle.model.specs.Rows.{about, Rule, pair, bound, sync, Act, moving, turning, trying, cancelling, entering, leaving, Acts, doing, only, _⨟_, inTurn, stepping, scheduling, reschedules, syncing, actsOf, initiates, landed}
-use Rattle.model.specs.History.{did, took, History, rowDone, Dated, namedBy, places, keepDated, dated, stepDone, startDone, history}
+use Rattle.model.specs.History.{did, took, History, rowDone, Dated, namedBy, datedPlaces, keepDated, dated, stepDone, startDone, history}
 use Rattle.model.specs.Missing.{Owes, Owed, NothingElse}
 use Rattle.model.specs.Doing.{execution}
 use Rattle.model.proofs.Along.{Parts, begin-box, placed, placing, Opened, reached-along}
@@ -200,8 +200,8 @@ module _ (n p : ℕ) (x : MyVec) (k : ℕ) (s : State) (h : History) (sound : So
       less s2 k2 g c e q = has-left (cells (s2 .box)) (length (s2 .grains)) 32 (s2 .members) (k2 .sound .lists .members) k p (rw (k2 .frame .near .box) K) c g ∙ (rw (q, e))
 
 -- ---- a synchronisation
-no-syncs : (l : List Dated) → syncs (places l) ≡ 0 → All (λ d. d .event .kind ≡ 5 → ((g : ℕ) → namedBy d g ≡ false) → ⊥) l
-unfolding syncs places
+no-syncs : (l : List Dated) → syncs (datedPlaces l) ≡ 0 → All (λ d. d .event .kind ≡ 5 → ((g : ℕ) → namedBy d g ≡ false) → ⊥) l
+unfolding syncs datedPlaces
 no-syncs [] z = tt
 no-syncs (d ∷ l) z =
     ((λ k f. let o : one-if (eventOf (d .event .kind) (d .event)) ≡ 1 = ap (λ (i : ℕ). one-if (eventOf i (d .event))) k in omega (arith, z, o)), no-syncs l (omega (arith, z)))
@@ -215,7 +215,7 @@ module _ (n : ℕ) (rate : Float) (c₀ : ℕ) (s : State) (h : History) (sound 
   sync-mine : syncs (queue s 0) ≡ 0 → AllMine n ((doing (actsOf rate Synchronisation s) s) .st) (rowDone (actsOf rate Synchronisation s) s h)
   sync-mine z =
       let w = cells-some (s .box) in
-      let q : syncs (places (dated h 0)) ≡ 0 = ap syncs (t .queues 0 (let l = sound .long in omega (arith, l, w))) ∙ z in
+      let q : syncs (datedPlaces (dated h 0)) ≡ 0 = ap syncs (t .queues 0 (let l = sound .long in omega (arith, l, w))) ∙ z in
       let clean : Clean h 0 sync = clean-by n s h mine 0 (omega (arith, w, N)) sync (no-syncs (dated h 0) q) in
       let row = actsOf rate Synchronisation s in
       let o : Orderly s (Either (λ k r. ⊥) (Just 0 sync)) row = orderly-before s (inTurn stepping (length (s .grains)) 0 s) (only (syncing (add binary64 (s .clock) rate))) (λ k r. ⊥) (Just 0 sync) s (refl, refl) (steps-turn s (length (s .grains)) 0 s (refl, refl))

@@ -14,7 +14,8 @@ use Rattle.model.specs.declared.Particle.{Particle}
 use Rattle.model.specs.declared.Place.{Place}
 use Rattle.model.specs.declared.Event.{Event}
 use Rattle.model.specs.declared.Event.the-variants.{InterParticleCollision, MoveToNeighbour, MoveOutOfCell, WallReflection, Synchronisation}
-use Rattle.model.specs.Sizes.{boxOk, memberRoom, homeRoom}
+use Rattle.layout.specs.Widths.{homeRoom, memberRoom}
+use Rattle.model.specs.Sizes.{boxOk}
 use Rattle.model.specs.Grid.{cells}
 use Rattle.model.specs.Events.{eventOf, finePlace}
 use Rattle.model.specs.State.{Row, none, State, grain, home, listed, queue, heads, liveAt, has}

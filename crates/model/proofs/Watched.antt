@@ -24,7 +24,7 @@ use Rattle.model.specs.Stepping.{grainOf}
 use Rattle.model.specs.declared.Bound.{Bound}
 use Rattle.model.specs.declared.Bound.the-variants.{ToNeighbour, OutOfCell, Wall}
 use Rattle.model.specs.Rows.{Rule, pair, bound, sync, about, moving, cancelling, entering, leaving, Acts, doing, only, _⨟_, ofEach, inTurn, stepping, colliding, bounding, scheduling, reschedules, forgets, actsOf, pairing, firstSync, initiates, landed}
-use Rattle.model.specs.History.{did, took, History, rowDone, Dated, places, dated, stepDone, startDone, history}
+use Rattle.model.specs.History.{did, took, History, rowDone, Dated, datedPlaces, dated, stepDone, startDone, history}
 use Rattle.model.specs.Missing.{sameRule, Entry, Concerns, NoneMissing}
 use Rattle.model.proofs.Cases.{enter-case, leave-case}
 use Rattle.model.proofs.Lists.{has-entered, has-left}
@@ -283,8 +283,8 @@ not-found s n c l r k (MoveOutOfCell p x j) q′ m o f b t = differ (sym (t p) �
 not-found s n c l r k (WallReflection p x v w) q′ m o f b t = differ (sym (t p) ∙ eq-eqb p p refl) (f .0)
 not-found s n c l r k Synchronisation q′ m o f b t = absurd (no-sync s c r o (q′ ∙ b))
 
-head-told : (d : Dated) (l : List Dated) (q : List Place) → places (d ∷ l) ≡ q → d .event ≡ headPlace q
-unfolding places
+head-told : (d : Dated) (l : List Dated) (q : List Place) → datedPlaces (d ∷ l) ≡ q → d .event ≡ headPlace q
+unfolding datedPlaces
 head-told d l q e = ap headPlace e
 
 -- ---- a step
@@ -295,7 +295,7 @@ module _ (s : State) (h : History) (st : Stands s) (t : Tells h s) (kept : AllKe
     where
       not′ : first s ≡ c → (d : Dated) (k : List Dated) → dated h c ≡ d ∷ k → Not r (d .event)
       not′ e d k q =
-          let w : d .event ≡ head s = head-told d k (queue s c) (ap places (sym q) ∙ t .queues c (omega (arith, st .sound .long))) ∙ ap (λ (j : ℕ). headPlace (queue s j)) (sym e) in
+          let w : d .event ≡ head s = head-told d k (queue s c) (ap datedPlaces (sym q) ∙ t .queues c (omega (arith, st .sound .long))) ∙ ap (λ (j : ℕ). headPlace (queue s j)) (sym e) in
           let o = head-ok s st in
           subst (Not r) (sym w) (not-found s (cells (s .box)) c (listed s c) r ((head s) .kind) (headEvent s) (kind-is ((head s) .kind) (head s) (o .kind .0) (o .kind .1)) (subst (λ (j : ℕ). Named (cells (s .box)) j (listed s j) (headEvent s)) e (o .named)) (same-concerns s (taken s) c r refl m) l)
 

@@ -10,7 +10,7 @@ use Rattle.model.specs.declared.Particle.{Particle}
 use Rattle.model.specs.declared.Place.{Place}
 use Rattle.model.specs.declared.Plan.{Plan}
 use Rattle.model.specs.declared.Plan.the-variants.{Nothing, Due, Refused}
-use Rattle.model.specs.Sizes.{memberRoom, homeRoom}
+use Rattle.layout.specs.Widths.{homeRoom, memberRoom}
 use Rattle.model.specs.Events.{placeOf, insertBy, keepBy, goneBy, headPlace, zeroP, finePlace, fineV}
 use Rattle.model.specs.State.{Row, row, none, State, home, listed, queue, withGrains, withLists, withClock, requeued, has, pushed, pulled}
 

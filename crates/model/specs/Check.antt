@@ -15,7 +15,8 @@ use Rattle.model.specs.declared.Particle.{Particle}
 use Rattle.model.specs.declared.Place.{Place}
 use Rattle.model.specs.declared.Event.{Event}
 use Rattle.model.specs.declared.Event.the-variants.{InterParticleCollision, MoveToNeighbour, MoveOutOfCell, WallReflection, Synchronisation}
-use Rattle.model.specs.Sizes.{memberRoom, homeRoom, boxOk, countsOk, rated}
+use Rattle.layout.specs.Widths.{homeRoom, memberRoom}
+use Rattle.model.specs.Sizes.{boxOk, countsOk, cellsOk, rated}
 use Rattle.model.specs.Grid.{lengthOf, cells}
 use Rattle.model.specs.Events.{eventOf, finePlace}
 use Rattle.model.specs.State.{Row, State, queue, liveAt, heads, has}
@@ -124,7 +125,7 @@ pub record Fits (b : Domain) : Type 0 where
 
 -- ---- the run: 2, the mark, 3, 10
 abbrev pub sized : State → Bool
-sized s = counts s && (leb 9 (s .sched .cells) && leb (s .sched .cells) 256)
+sized s = counts s && cellsOk (s .sched .cells)
 
 abbrev pub halt : ℕ → Bool
 halt m = leb 5 m && leb m 9

@@ -107,9 +107,9 @@ dated-at e n = record { event = e; by = n }
 abbrev pub namedBy : Dated → ℕ → Bool
 namedBy d g = names (eventOf (d .event .kind) (d .event)) g
 
-unfoldable pub places : List Dated → List Place
-places [] = []
-places (d ∷ l) = d .event ∷ places l
+unfoldable pub datedPlaces : List Dated → List Place
+datedPlaces [] = []
+datedPlaces (d ∷ l) = d .event ∷ datedPlaces l
 
 unfoldable pub insertDated : Dated → List Dated → List Dated
 insertDated d [] = d ∷ []

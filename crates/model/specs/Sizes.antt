@@ -35,12 +35,17 @@ mostRoom = 256
 abbrev pub countsOk : ℕ → ℕ → Bool
 countsOk room grains = leb grains mostGrains && (leb leastRoom room && leb room mostRoom)
 
--- grains a cell lists, and cells a grain lists
-abbrev pub memberRoom : ℕ
-memberRoom = 32
+-- cells: 9 to 256
+abbrev pub fewestCells : ℕ
+fewestCells = 9
 
-abbrev pub homeRoom : ℕ
-homeRoom = 8
+abbrev pub mostCells : ℕ
+mostCells = 256
+
+abbrev pub cellsOk : ℕ → Bool
+cellsOk n = leb fewestCells n && leb n mostCells
+
+-- (how many grains a cell lists and how many cells a grain: layout's Widths, since their tables have as many places)
 
 -- sync rate: 2 ^ -20 to 2 ^ 20
 abbrev pub rated : Float → Bool

@@ -13,7 +13,8 @@ use Rattle.scheduler.specs.Standing.{Inverse, Ordered}
 use Rattle.model.specs.declared.Place.{Place}
 use Rattle.model.specs.declared.Event.{Event}
 use Rattle.model.specs.declared.Event.the-variants.{InterParticleCollision, MoveToNeighbour, MoveOutOfCell, WallReflection, Synchronisation}
-use Rattle.model.specs.Sizes.{boxOk, memberRoom, homeRoom}
+use Rattle.layout.specs.Widths.{homeRoom, memberRoom}
+use Rattle.model.specs.Sizes.{boxOk, mostGrains, leastRoom, mostRoom}
 use Rattle.model.specs.Grid.{cells}
 use Rattle.model.specs.Events.{eventOf, finePlace}
 use Rattle.model.specs.State.{Row, none, State, grain, home, listed, queue, heads, has}
@@ -76,8 +77,8 @@ Places k r = length (r .live) + length (r .spare) ≡ k
 pub record Standing (s : State) : Type 0 where
   -- "box lengths, list counts and indices in range": 9 to 48; grains at most 256, room 16 to 256, no list with more than its places;
   pub box-lengths : boxOk (s .box) ≡ true
-  pub grain-count : length (s .grains) ≤ 256
-  pub room-count : (16 ≤ s .room) × (s .room ≤ 256)
+  pub grain-count : length (s .grains) ≤ mostGrains
+  pub room-count : (leastRoom ≤ s .room) × (s .room ≤ mostRoom)
   pub homes-each : length (s .homes) ≡ length (s .grains)
   pub home-counts : EachGrain s (λ g. Places homeRoom (getD (s .homes) g none))
   pub member-counts : EachCell s (λ c. Places memberRoom (getD (s .members) c none))

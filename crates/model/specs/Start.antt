@@ -7,10 +7,11 @@ use lib.Dec.{eqb}
 use lib.ListN.{length, replicate}
 use Rattle.halting.specs.Out.{Out}
 use Rattle.order.specs.Numbers.{fzero}
-use Rattle.scheduler.specs.Heap.{start as startHeap}
+use Rattle.scheduler.specs.Heap.{startHeap}
 use Rattle.model.specs.declared.Domain.{Domain}
 use Rattle.model.specs.declared.Particle.{Particle}
-use Rattle.model.specs.Sizes.{memberRoom, homeRoom, boxOk, countsOk, firstBad}
+use Rattle.layout.specs.Widths.{homeRoom, memberRoom}
+use Rattle.model.specs.Sizes.{boxOk, countsOk, firstBad}
 use Rattle.model.specs.Grid.{cells}
 use Rattle.model.specs.Events.{zeroP}
 use Rattle.model.specs.State.{Row, row, State, zeroG, marked}

@@ -13,10 +13,10 @@ pub data Read : Type 0 where
   gave : List ℕ → Read
 
 -- by the number that the call gives back, and the buffer afterwards
-abbrev pub readOf : ℤ → List ℕ → Read
-readOf (negsuc k) buf = failed
-readOf (pos zero) buf = over
-readOf (pos (suc k)) buf = gave (take (suc k) buf)
+abbrev pub readBy : ℤ → List ℕ → Read
+readBy (negsuc k) buf = failed
+readBy (pos zero) buf = over
+readBy (pos (suc k)) buf = gave (take (suc k) buf)
 
 -- reads into 4,096 bytes, one after another, n at most: each but the last gives bytes, and the row ends earlier only where one says the end or fails
 pub data Reads : ℕ → List Read → Type 0 where
@@ -26,11 +26,11 @@ pub data Reads : ℕ → List Read → Type 0 where
   more : {n : ℕ} {s : List ℕ} {reads : List Read} → 0 < length s → length s ≤ 4096 → Reads n reads → Reads (suc n) (gave s ∷ reads)
 
 -- the bytes that come before the end or a failure
-abbrev pub textOf : List Read → List ℕ
-textOf [] = []
-textOf (failed ∷ reads) = []
-textOf (over ∷ reads) = []
-textOf (gave s ∷ reads) = s ++ textOf reads
+abbrev pub bytesOf : List Read → List ℕ
+bytesOf [] = []
+bytesOf (failed ∷ reads) = []
+bytesOf (over ∷ reads) = []
+bytesOf (gave s ∷ reads) = s ++ bytesOf reads
 
 -- one thing while all gave bytes, another where one fails, a third where one says the end
 abbrev pub byEnd : {A : Type 0} → A → A → A → List Read → A
@@ -40,8 +40,8 @@ byEnd goes fails ends (over ∷ reads) = ends
 byEnd goes fails ends (gave s ∷ reads) = byEnd goes fails ends reads
 
 -- whether more may follow, whether a read failed, whether one said the end
-abbrev pub moreOf : List Read → Bool
-moreOf reads = byEnd true false false reads
+abbrev pub goesOnOf : List Read → Bool
+goesOnOf reads = byEnd true false false reads
 
 abbrev pub failedOf : List Read → Bool
 failedOf reads = byEnd false true false reads
@@ -51,4 +51,4 @@ overOf reads = byEnd false false true reads
 
 -- one read: how many bytes it gave, and both
 abbrev pub heardOf : Read → Heard
-heardOf a = record { count = length (textOf (a ∷ [])); more = moreOf (a ∷ []); failed = failedOf (a ∷ []) }
+heardOf a = record { count = length (bytesOf (a ∷ [])); more = goesOnOf (a ∷ []); failed = failedOf (a ∷ []) }

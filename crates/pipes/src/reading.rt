@@ -1,7 +1,7 @@
 // What a read means.
 ghost use mathlib.Core.Path.{_≡_};
 ghost use Rattle.io.specs.Counts.{Counts};
-ghost use Rattle.pipes.specs.Reads.{readOf, heardOf};
+ghost use Rattle.pipes.specs.Reads.{readBy, heardOf};
 
 // How many bytes a read gave; whether more may follow, and whether it failed.
 pub struct Heard {
@@ -13,7 +13,7 @@ pub struct Heard {
 // A read gave this number back, and left the buffer so.
 pub fn hear(got: isize, buf: &[u8]) -> Heard
     ensures { λ r. ⌜ Counts (r .count) (now (buf .entry)) ⌝ }
-    ensures { λ r. ⌜ r ≡ heardOf (readOf got (now (buf .entry))) ⌝ }
+    ensures { λ r. ⌜ r ≡ heardOf (readBy got (now (buf .entry))) ⌝ }
 {
     Heard {
         count: io::count(got, buf),

@@ -10,7 +10,7 @@ use lib.Dec.{eqb, lit<, eqb·suc-zero}
 use lib.Count.{leadingZeros, leading-top}
 use Rattle.root.specs.Isqrt.{near}
 use Rattle.root.proofs.Law.{sized, near-of, near-digits, full, Full, below-52}
-use Rattle.root.specs.Bits.{finish, rootBits}
+use Rattle.root.specs.Bits.{bitsOfRoot, rootBits}
 
 module _ (m b : ℕ) (l : 2 ^ 52 ≤ m) (u : m < 2 ^ 53) where
   small : near (m * 2 ^ (b % 2) * 4 ^ 26) < 2 ^ 53
@@ -48,11 +48,11 @@ module _ (p : ℕ) (P : 0 < p) (u : p < 0x7ff0_0000_0000_0000) where
   pub unshifted : p / 2 ^ 52 ≡ 0 → p % 2 ^ 52 * 2 ^ (leadingZeros 64 (p % 2 ^ 52) - 11) % 2 ^ 64 ≡ p % 2 ^ 52 * 2 ^ (leadingZeros 64 (p % 2 ^ 52) - 11)
   unshifted h = mod-eq-of-lt (N.lt-trans (low h .to) (lit< tt))
 
-  pub low-bits : p / 2 ^ 52 ≡ 0 → finish (p % 2 ^ 52 * 2 ^ (leadingZeros 64 (p % 2 ^ 52) - 11) % 2 ^ 64) (63 - leadingZeros 64 (p % 2 ^ 52)) ≡ rootBits p
+  pub low-bits : p / 2 ^ 52 ≡ 0 → bitsOfRoot (p % 2 ^ 52 * 2 ^ (leadingZeros 64 (p % 2 ^ 52) - 11) % 2 ^ 64) (63 - leadingZeros 64 (p % 2 ^ 52)) ≡ rootBits p
   low-bits h =
-      ap (λ (m : ℕ). finish m (63 - leadingZeros 64 (p % 2 ^ 52))) (unshifted h)
-      ∙ ap (λ (b : Bool). finish (cond b (p % 2 ^ 52 * 2 ^ (leadingZeros 64 (p % 2 ^ 52) - 11)) (p % 2 ^ 52 + 2 ^ 52)) (cond b (63 - leadingZeros 64 (p % 2 ^ 52)) (p / 2 ^ 52 + 51))) (sym (eq-eqb (p / 2 ^ 52) 0 h))
+      ap (λ (m : ℕ). bitsOfRoot m (63 - leadingZeros 64 (p % 2 ^ 52))) (unshifted h)
+      ∙ ap (λ (b : Bool). bitsOfRoot (cond b (p % 2 ^ 52 * 2 ^ (leadingZeros 64 (p % 2 ^ 52) - 11)) (p % 2 ^ 52 + 2 ^ 52)) (cond b (63 - leadingZeros 64 (p % 2 ^ 52)) (p / 2 ^ 52 + 51))) (sym (eq-eqb (p / 2 ^ 52) 0 h))
 
-  pub high-bits : (p / 2 ^ 52 ≡ 0 → ⊥) → finish (p % 2 ^ 52 + 2 ^ 52) (p / 2 ^ 52 + 51) ≡ rootBits p
+  pub high-bits : (p / 2 ^ 52 ≡ 0 → ⊥) → bitsOfRoot (p % 2 ^ 52 + 2 ^ 52) (p / 2 ^ 52 + 51) ≡ rootBits p
   high-bits h =
-      ap (λ (b : Bool). finish (cond b (p % 2 ^ 52 * 2 ^ (leadingZeros 64 (p % 2 ^ 52) - 11)) (p % 2 ^ 52 + 2 ^ 52)) (cond b (63 - leadingZeros 64 (p % 2 ^ 52)) (p / 2 ^ 52 + 51))) (sym (not-zero (p / 2 ^ 52) h))
+      ap (λ (b : Bool). bitsOfRoot (cond b (p % 2 ^ 52 * 2 ^ (leadingZeros 64 (p % 2 ^ 52) - 11)) (p % 2 ^ 52 + 2 ^ 52)) (cond b (63 - leadingZeros 64 (p % 2 ^ 52)) (p / 2 ^ 52 + 51))) (sym (not-zero (p / 2 ^ 52) h))

@@ -19,7 +19,7 @@ use lib.Ieee.Positive.{positive}
 use Rattle.root.specs.Isqrt.{near}
 use Rattle.root.specs.Rule.{Nearest, Rooted}
 use Rattle.root.proofs.Isqrt.{root-lt, near-law}
-use Rattle.root.specs.Bits.{finish, significand, exponent, rootBits}
+use Rattle.root.specs.Bits.{bitsOfRoot, significand, exponent, rootBits}
 use Rattle.root.specs.Root.{sqrtOf}
 
 -- ---- a value by another fraction of the same size
@@ -262,7 +262,7 @@ half-le b h = omega arith
 below-106 : (M : ℕ) → M ≤ 2 ^ 106 - 2 ^ 53 → M < 2 ^ 106
 below-106 M h = omega arith
 
-pub lawful : (p m b : ℕ) → Full p m b → Rooted (ofBits binary64 p) (ofBits binary64 (finish m b))
+pub lawful : (p m b : ℕ) → Full p m b → Rooted (ofBits binary64 p) (ofBits binary64 (bitsOfRoot m b))
 lawful p m b f =
     let M = m * 2 ^ (b % 2) * 4 ^ 26 in
     let s = sized m b (f .from) (f .to) in

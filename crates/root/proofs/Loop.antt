@@ -10,7 +10,7 @@ use lib.Pow.{pow-mono}
 use Rattle.root.specs.declared.Digits.{Digits}
 use Rattle.root.specs.Isqrt.{closer, near}
 use Rattle.root.proofs.Isqrt.{Floor, square-one, near-is}
-use Rattle.root.specs.Step.{Ready, Stepped}
+use Rattle.root.specs.Step.{ReadyDigits, NextDigits}
 
 pub record Going (a i : ℕ) (s : Digits) : Type 0 where
   pub count : i ≤ 53
@@ -19,7 +19,7 @@ pub record Going (a i : ℕ) (s : Digits) : Type 0 where
   pub wide : s .reg < 2 ^ 54
   pub value : (s .q * s .q + s .rem) * 4 ^ 27 + s .reg ≡ a * 4 ^ i
 
-pub ready : (a i : ℕ) (s : Digits) → Going a i s → Ready s
+pub ready : (a i : ℕ) (s : Digits) → Going a i s → ReadyDigits s
 ready a i s g = record { small = lt-of-lt-of-le (g .small) (pow-mono (g .count)); rest = g .rest; wide = g .wide }
 
 taken : (v1 v2 reg A : ℕ) → v2 ≡ 4 * v1 + reg / 2 ^ 52 → v1 * 4 ^ 27 + reg ≡ A → v2 * 4 ^ 27 + reg % 2 ^ 52 * 4 ≡ A * 4
@@ -31,7 +31,7 @@ twice q r p h k = omega arith
 narrow : (reg : ℕ) → reg % 2 ^ 52 * 4 < 2 ^ 54
 narrow reg = omega arith
 
-pub again : (a i : ℕ) (s r : Digits) → Going a i s → i < 53 → Stepped s r → Going a (i + 1) r
+pub again : (a i : ℕ) (s r : Digits) → Going a i s → i < 53 → NextDigits s r → Going a (i + 1) r
 again a i s r g l t =
     record {
       count = omega arith;

@@ -2,8 +2,8 @@
 ghost use mathlib.Core.Path.{_≡_};
 ghost use Prim.Native.Nat.{_+_, _*_, _/_, _%_, _^_, _≤_, _<_};
 ghost use Rattle.root.specs.Isqrt.{near};
-ghost use Rattle.root.specs.Step.{Ready, Stepped};
-ghost use Rattle.root.specs.Bits.{finish, rootBits};
+ghost use Rattle.root.specs.Step.{ReadyDigits, NextDigits};
+ghost use Rattle.root.specs.Bits.{bitsOfRoot, rootBits};
 ghost use Rattle.root.specs.Root.{rootOf};
 ghost use Rattle.root.specs.Rule.{RootRule};
 
@@ -16,8 +16,8 @@ struct Digits {
 
 // One binary digit of the root.
 fn step(s: Digits) -> Digits
-    requires { ⌜ Ready s ⌝ }
-    ensures { λ r. ⌜ Stepped s r ⌝ }
+    requires { ⌜ ReadyDigits s ⌝ }
+    ensures { λ r. ⌜ NextDigits s r ⌝ }
 {
     let next = s.rem * 4 + s.reg / 4503599627370496;
     let shifted = s.reg % 4503599627370496 * 4;
@@ -58,7 +58,7 @@ fn near_root(a: u64) -> u64
 // The bits of the root of m * 2 ^ (b - 1126).
 fn finished(m: u64, b: u64) -> u64
     requires { ⌜ (2 ^ 52 ≤ m) × (m < 2 ^ 53) × (b ≤ 2097) ⌝ }
-    ensures { λ r. ⌜ r ≡ finish m b ⌝ }
+    ensures { λ r. ⌜ r ≡ bitsOfRoot m b ⌝ }
 {
     let high = (b / 2 + 485) * 4503599627370496;
     if b % 2 == 0 {

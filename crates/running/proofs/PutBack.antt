@@ -28,7 +28,7 @@ use Rattle.checks.specs.Answered.{Answered}
 use Rattle.step.specs.World.{Placed}
 use Rattle.tables.specs.Encode.{over, listsHead, grainsHead, sizesIn, withMark, withClock, encoded}
 use Rattle.running.specs.Going.{clockOf, markOf, Lent, Gone}
-use Rattle.running.specs.Ran.{beside, toldTables, leaving}
+use Rattle.running.specs.Ran.{beside, toldTables, ranOver}
 use Rattle.tables.proofs.HeadLaws.{lists-back, grains-back}
 use Rattle.checks.proofs.Needs.{Ends, ends-of}
 use Rattle.checks.proofs.Accepts.{checked-means, Accepted, accepted}
@@ -82,7 +82,7 @@ module _ {rate : Float} {t : Tables} (A : Answered rate t 0) where
       → length l ≡ length (listsBody (z A) (t .lists)) → length g ≡ length (grainsBody (z A) (t .grains)) → length q ≡ length (queueBody (z A) (t .queue)) → length e ≡ length (eventsBody (z A) (t .events)) → length o ≡ length (orderBody (t .order))
       → l′ ≡ withMark m (putMid 6 (listsNeed (z A) - 6) (t .lists) l) → g′ ≡ withClock x (putMid 3 (grainsNeed (z A) - 3) (t .grains) g) → m ≡ markOf r → x ≡ clockOf r
       → Gone (z A) (boxIn (t .lists) (t .grains)) l g q e o r (ran budget)
-      → toldTables r (tables l′ g′ (q ++ drop (queueNeed (z A)) (t .queue)) (e ++ drop (eventsNeed (z A)) (t .events)) (o ++ drop 512 (t .order))) ≡ leaving (ran budget) t
+      → toldTables r (tables l′ g′ (q ++ drop (queueNeed (z A)) (t .queue)) (e ++ drop (eventsNeed (z A)) (t .events)) (o ++ drop 512 (t .order))) ≡ ranOver (ran budget) t
   unfolding encoded
   put-back budget {r = r} {l = l} {g = g} {q = q} {e = e} {o = o} {m = m} {x = x} {l′ = l′} {g′ = g′} ll lg lq le lo el eg em ex G =
       answer-same r (decoded left) s left ∙ ap (λ (u : Ran). beside u left) (G .answer) ∙ ap (beside (ran budget)) (λ i. tables (lists-is i) (grains-is i) (queue-is i) (events-is i) (order-is i))
@@ -120,6 +120,6 @@ module _ {rate : Float} {t : Tables} (A : Answered rate t 0) where
       → w ≡ sizesOf (t .lists) → n ≡ lengthsFor w → b ≡ boxIn (t .lists) (t .grains)
       → length l ≡ length (midOf 6 (n .lists - 6) (t .lists)) → length g ≡ length (midOf 3 (n .grains - 3) (t .grains)) → length q ≡ length (take (n .queue) (t .queue)) → length e ≡ length (take (n .events) (t .events)) → length o ≡ length (take 512 (t .order))
       → l′ ≡ withMark m (putMid 6 (n .lists - 6) (t .lists) l) → g′ ≡ withClock x (putMid 3 (n .grains - 3) (t .grains) g) → m ≡ markOf r → x ≡ clockOf r → Gone w b l g q e o r (ran budget)
-      → toldTables r (tables l′ g′ (q ++ drop (n .queue) (t .queue)) (e ++ drop (n .events) (t .events)) (o ++ drop 512 (t .order))) ≡ leaving (ran budget) t
+      → toldTables r (tables l′ g′ (q ++ drop (n .queue) (t .queue)) (e ++ drop (n .events) (t .events)) (o ++ drop 512 (t .order))) ≡ ranOver (ran budget) t
   worked budget ze ne be ll lg lq le lo el eg em ex G =
       rw (ne, ze) (put-back budget (rw (ne, ze) at ll) (rw (ne, ze) at lg) (rw (ne, ze) at lq) (rw (ne, ze) at le) lo (rw (ne, ze) at el) (rw (ne, ze) at eg) em ex (rw (ze, be) at G))

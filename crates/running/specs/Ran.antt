@@ -23,5 +23,5 @@ abbrev pub toldTables : Report → Tables → RanTables
 toldTables r t = beside (told r (decoded t)) t
 
 -- what a run answers, and the state that it left over the tables found
-abbrev pub leaving : Ran → Tables → RanTables
-leaving r t = beside r (encoded (r .state) t)
+abbrev pub ranOver : Ran → Tables → RanTables
+ranOver r t = beside r (encoded (r .state) t)

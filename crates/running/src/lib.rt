@@ -8,7 +8,7 @@ ghost use Rattle.tables.specs.Decode.{tables, decoded};
 ghost use Rattle.checks.specs.Answered.{Answered};
 ghost use Rattle.step.specs.World.{Some, Placed};
 ghost use Rattle.running.specs.Going.{clockOf, markOf, Lent, Gone};
-ghost use Rattle.running.specs.Ran.{toldTables, leaving};
+ghost use Rattle.running.specs.Ran.{toldTables, ranOver};
 use cell::Grid;
 use layout::GRAINS_HEAD;
 use layout::LISTS_HEAD;
@@ -110,7 +110,7 @@ pub fn work(
 ) -> Report
     requires { ⌜ Answered rate (tables (now lists) (now grains) (now queue) (now events) (now order)) 0 ⌝ }
     ensures { λ r. ⌜ toldTables r (tables (now (lists .exit)) (now (grains .exit)) (now (queue .exit)) (now (events .exit)) (now (order .exit)))
-        ≡ leaving (runFrom rate budget 0 (decoded (tables (now (lists .entry)) (now (grains .entry)) (now (queue .entry)) (now (events .entry)) (now (order .entry)))))
+        ≡ ranOver (runFrom rate budget 0 (decoded (tables (now (lists .entry)) (now (grains .entry)) (now (queue .entry)) (now (events .entry)) (now (order .entry)))))
         (tables (now (lists .entry)) (now (grains .entry)) (now (queue .entry)) (now (events .entry)) (now (order .entry))) ⌝ }
 {
     let z = headers::sizes_of(lists);

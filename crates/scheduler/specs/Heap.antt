@@ -72,5 +72,5 @@ unfoldable pub numbered : ℕ → List ℕ → List ℕ
 numbered zero l = l
 numbered (suc i) l = set (numbered i l) i i
 
-unfoldable pub start : ℕ → Scheduler
-start n = record { heap = numbered n (replicate 256 0); lookups = numbered n (replicate 256 0); cells = n }
+unfoldable pub startHeap : ℕ → Scheduler
+startHeap n = record { heap = numbered n (replicate 256 0); lookups = numbered n (replicate 256 0); cells = n }

@@ -2,7 +2,7 @@
 ghost use mathlib.Core.Path.{_≡_};
 ghost use Prim.Native.Nat.{ℕ, _≤_, _<_};
 ghost use lib.ListN.{length};
-ghost use Rattle.scheduler.specs.Heap.{timeIn, swapAt, chosen, childIn, downshifted, parentIn, upshifted, updated, start};
+ghost use Rattle.scheduler.specs.Heap.{timeIn, swapAt, chosen, childIn, downshifted, parentIn, upshifted, updated, startHeap};
 ghost use Rattle.scheduler.specs.Inside.{headIn, made, Fit};
 
 const LAST: f64 = 1.7976931348623157e308;
@@ -101,7 +101,7 @@ pub fn parent(
 impl Scheduler {
     pub fn new(cells: usize) -> Scheduler
         requires { ⌜ cells ≤ 256 ⌝ }
-        ensures { λ r. ⌜ r ≡ start cells ⌝ }
+        ensures { λ r. ⌜ r ≡ startHeap cells ⌝ }
     {
         let mut heap = [0u8; 256];
         let mut lookups = [0u8; 256];

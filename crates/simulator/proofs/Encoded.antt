@@ -21,7 +21,7 @@ use Rattle.tables.specs.declared.Sizes.{Sizes}
 use Rattle.tables.specs.Layout.{grainReals, rowNums, queueNums, queueReals, orderBytes}
 use Rattle.tables.specs.Holds.{Holds}
 use Rattle.acts.proofs.FromSound.{sound-held}
-use Rattle.tables.specs.Decode.{Tables, flag, sizesOf, decoded}
+use Rattle.tables.specs.Decode.{Tables, isSet, sizesOf, decoded}
 use Rattle.checks.specs.Check.{sized, legible, standing}
 use Rattle.checks.specs.Inside.{Sized}
 use Rattle.tables.specs.Lengths.{listsNeed, grainsNeed, queueNeed, eventsNeed}
@@ -50,7 +50,7 @@ flagged-small : (b : Bool) → flagged b ≤ 1
 flagged-small true = omega arith
 flagged-small false = omega arith
 
-flag-back : (b : Bool) → flag (flagged b) ≡ b
+flag-back : (b : Bool) → isSet (flagged b) ≡ b
 flag-back true = refl
 flag-back false = refl
 

@@ -29,7 +29,7 @@ use Rattle.checks.proofs.Cut.{cut-long}
 use Rattle.tables.specs.Inputs.{inputAt, inputsOf}
 use Rattle.starting.specs.Cleared.{sizesFor}
 use Rattle.starting.proofs.InputLaws.{bad-most}
-use Rattle.simulator.specs.Start.{fits, StartedWith, with, byMark, leaving, startAll}
+use Rattle.simulator.specs.Start.{fits, StartedWith, with, markTold, startedOver, startAll}
 use Rattle.simulator.specs.Run.{byCheck, runTables}
 use Rattle.simulator.proofs.StartLaws.{start-1, start-2, start-4, start-is, start-good, counts-ok, mark-number, mark-grain}
 
@@ -117,14 +117,14 @@ module _ (b : Domain) (n room : ℕ) (inputs : List Float) (t : Tables) where
   -- a fact of each outcome, by its tests, is a fact of the start
   pub start-case : (P : StartedWith → Type 0) → (boxOk b ≡ false → P (with (answer.Refused 1) t)) → (boxOk b ≡ true → fit ≡ false → P (with (answer.Refused 2) t))
       → (boxOk b ≡ true → fit ≡ true → (firstBad b (inputsOf n inputs) ≡ n → ⊥) → P (with (answer.BadGrain (firstBad b (inputsOf n inputs))) t))
-      → (boxOk b ≡ true → fit ≡ true → firstBad b (inputsOf n inputs) ≡ n → P (leaving (startedAt (begin b room (inputsOf n inputs))) t)) → P (startAll b n room inputs t)
+      → (boxOk b ≡ true → fit ≡ true → firstBad b (inputsOf n inputs) ≡ n → P (startedOver (startedAt (begin b room (inputsOf n inputs))) t)) → P (startAll b n room inputs t)
   start-case P one two four none = by (boxOk b) refl fit refl
     where
       by : (x : Bool) → boxOk b ≡ x → (y : Bool) → fit ≡ y → P (startAll b n room inputs t)
       by false e y f = subst P (start-1 b n room inputs t e) (one e)
       by true e false f = subst P (start-2 b n room inputs t e f) (two e f)
       by true e true f = elim (ℕ-discrete (firstBad b gs) n) [
-        | yes g ↦ subst P (sym (start-is b n room inputs t e f ∙ ap (λ (o : Begun). leaving o t) (start-good b room gs e (counts-ok b n room inputs t e f) (g ∙ sym many)))) (none e f g)
+        | yes g ↦ subst P (sym (start-is b n room inputs t e f ∙ ap (λ (o : Begun). startedOver o t) (start-good b room gs e (counts-ok b n room inputs t e f) (g ∙ sym many)))) (none e f g)
         | no g ↦ subst P (start-4 b n room inputs t e f (firstBad b gs) refl g) (four e f g)
       ]
 
@@ -159,7 +159,7 @@ module _ (b : Domain) (n room : ℕ) (inputs : List Float) (t : Tables) where
   }
 
   -- and that grain is named
-  not-named : (m g : ℕ) → byMark m ≡ answer.BadGrain g → ⊥
+  not-named : (m g : ℕ) → markTold m ≡ answer.BadGrain g → ⊥
   not-named zero g e = let z : _≡_ {A = ℕ} 0 1 = cc in omega arith
   not-named (suc m) g e = let z : _≡_ {A = ℕ} 0 1 = cc in omega arith
 
@@ -174,4 +174,4 @@ module _ (b : Domain) (n room : ℕ) (inputs : List Float) (t : Tables) where
   -- the answer tells the number and the grain
   pub answer-tells : with ((startAll b n room inputs t) .answer) ((startAll b n room inputs t) .after) ≡ startAll b n room inputs t
   answer-tells = start-case (λ w. with (w .answer) (w .after) ≡ w) (λ e. refl) (λ e f. refl) (λ e f q. refl)
-      (λ e f q. let o = begin b room gs in λ i. record { number = mark-number (o .num) i; grain = mark-grain (o .num) i; answer = byMark (o .num); after = (leaving (startedAt o) t) .after })
+      (λ e f q. let o = begin b room gs in λ i. record { number = mark-number (o .num) i; grain = mark-grain (o .num) i; answer = markTold (o .num); after = (startedOver (startedAt o) t) .after })

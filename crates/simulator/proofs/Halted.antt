@@ -20,7 +20,7 @@ use Rattle.tables.specs.Decode.{Tables, mark, decoded}
 use Rattle.checks.specs.Check.{legible, standing, checked}
 use Rattle.tables.specs.Encode.{encoded}
 use Rattle.checks.proofs.Accepts.{fitted, Passed, checked-means}
-use Rattle.running.specs.Ran.{RanTables, leaving}
+use Rattle.running.specs.Ran.{RanTables, ranOver}
 use Rattle.simulator.specs.Run.{byCheck, runTables, RunPromise}
 use Rattle.simulator.proofs.Encoded.{decoded-encoded, encoded-sized}
 use Rattle.simulator.proofs.Ran.{halted-tables, left-sound, left-long}
@@ -48,7 +48,7 @@ module _ (t : Tables) (stood : Stands (decoded t)) (rate : Float) (C : checked r
   abbrev ran : Ran
   ran = runFrom rate b 0 (decoded t)
 
-  run-is : runTables rate b t ≡ leaving (runFrom rate b 0 (decoded t)) t
+  run-is : runTables rate b t ≡ ranOver (runFrom rate b 0 (decoded t)) t
   unfolding runTables
   run-is = ap (λ (k : ℕ). byCheck k rate b t) C
 

@@ -44,7 +44,7 @@ use Rattle.checks.proofs.Cut.{cut-long}
 use Rattle.tables.specs.Inputs.{inputAt, inputsOf}
 use Rattle.tables.specs.Encode.{sizesIn, encoded}
 use Rattle.starting.specs.Cleared.{sizesFor, cleared}
-use Rattle.simulator.specs.Start.{fits, StartedWith, with, byNumber, leaving, startAll, StartPromise}
+use Rattle.simulator.specs.Start.{fits, StartedWith, with, byNumber, startedOver, startAll, StartPromise}
 use Rattle.running.specs.Ran.{RanTables, beside}
 use Rattle.simulator.specs.Run.{runTables, RunPromise}
 use Rattle.simulator.specs.Reached.{Taken, afterCalls, ReachedTables}
@@ -81,8 +81,8 @@ unfolding startAll fits
 begins b n room inputs t = by (boxOk b) (countsOk room n) (leb (n * 5) (length inputs)) (long (sizesFor b n room) (length (t .lists)) (length (t .grains)) (length (t .queue)) (length (t .events)) (length (t .order))) refl (start b room (inputsOf n inputs)) refl
   where
     by : (x y w v : Bool) → long (sizesFor b n room) (length (t .lists)) (length (t .grains)) (length (t .queue)) (length (t .events)) (length (t .order)) ≡ v → (o : Begun) → start b room (inputsOf n inputs) ≡ o
-        → Taken ((cond x (cond (y && (w && v)) (leaving o t) (with (answer.Refused 2) t)) (with (answer.Refused 1) t)) .answer)
-        → Begins b n room inputs t ((cond x (cond (y && (w && v)) (leaving o t) (with (answer.Refused 2) t)) (with (answer.Refused 1) t)) .after)
+        → Taken ((cond x (cond (y && (w && v)) (startedOver o t) (with (answer.Refused 2) t)) (with (answer.Refused 1) t)) .answer)
+        → Begins b n room inputs t ((cond x (cond (y && (w && v)) (startedOver o t) (with (answer.Refused 2) t)) (with (answer.Refused 1) t)) .after)
     by true true true true e (started s) f k = record { state = s; accepted = f; fits-in = e; is = refl }
     by true true true true e (begun.refused r g) f k = absurd (not-taken r g k)
     by true true true false e o f k = absurd k

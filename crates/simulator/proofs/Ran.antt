@@ -23,7 +23,7 @@ use Rattle.tables.specs.Decode.{Tables, mark, grainAt, decoded, sizesOf, grains
 use Rattle.checks.specs.Check.{sized, checked, legible, standing}
 use Rattle.checks.proofs.Cut.{cut-long}
 use Rattle.tables.specs.Encode.{sizesIn, encoded}
-use Rattle.running.specs.Ran.{RanTables, beside, toldTables, leaving as over-found}
+use Rattle.running.specs.Ran.{RanTables, beside, toldTables, ranOver as over-found}
 use Rattle.simulator.specs.Run.{byCheck, runTables, RunPromise}
 use Rattle.simulator.proofs.Kept.{Kept, run-kept}
 use Rattle.simulator.proofs.Encoded.{Long, decoded-encoded, encoded-mark, encoded-standing, encoded-sized, encoded-again}

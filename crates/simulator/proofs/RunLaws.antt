@@ -9,7 +9,7 @@ use Rattle.model.specs.Run.{runFrom}
 use Rattle.model.proofs.Allowed.{budgets}
 use Rattle.tables.specs.Decode.{Tables, decoded}
 use Rattle.checks.specs.Answered.{Answered}
-use Rattle.running.specs.Ran.{toldTables, leaving}
+use Rattle.running.specs.Ran.{toldTables, ranOver}
 use Rattle.simulator.specs.Run.{byCheck, runTables, Owned, RunPromise}
 
 module _ (rate : Float) (budget : ℕ) (t : Tables) (r : ℕ) (A : Answered rate t r) (B : budget < 2 ^ 32) where
@@ -24,6 +24,6 @@ module _ (rate : Float) (budget : ℕ) (t : Tables) (r : ℕ) (A : Answered rate
   unfolding runTables
   run-refused n = record { owned = owned; is = refused-is _ (A .is) n }
 
-  pub run-done : (x : Report) (u : Tables) → r ≡ 0 → toldTables x u ≡ leaving (runFrom rate budget 0 (decoded t)) t → RunPromise rate budget t x u
+  pub run-done : (x : Report) (u : Tables) → r ≡ 0 → toldTables x u ≡ ranOver (runFrom rate budget 0 (decoded t)) t → RunPromise rate budget t x u
   unfolding runTables
   run-done x u z e = record { owned = owned; is = e ∙ ap (λ (k : ℕ). byCheck k rate budget t) (sym z ∙ A .is) }

@@ -25,7 +25,7 @@ use Rattle.checks.proofs.Cut.{cut-long}
 use Rattle.tables.specs.Inputs.{inputAt, inputsOf}
 use Rattle.tables.specs.Encode.{encoded}
 use Rattle.starting.specs.Cleared.{sizesFor, cleared}
-use Rattle.simulator.specs.Start.{fits, with, byMark, leaving, startAll}
+use Rattle.simulator.specs.Start.{fits, with, markTold, startedOver, startAll}
 use Rattle.starting.specs.Begin.{Startable, Began}
 
 -- ---- counts in range
@@ -92,11 +92,11 @@ module _ (b : Domain) (room : ℕ) (gs : List Particle) (box : boxOk b ≡ true)
   start-good u = rw (box, counts, eq-eqb (firstBad b gs) (length gs) u)
 
 -- ---- the number of a start that was not refused is its mark, and no grain is named
-pub mark-number : (m : ℕ) → startNumber (byMark m) ≡ m
+pub mark-number : (m : ℕ) → startNumber (markTold m) ≡ m
 mark-number zero = refl
 mark-number (suc m) = refl
 
-pub mark-grain : (m : ℕ) → grainNamed (byMark m) ≡ 0
+pub mark-grain : (m : ℕ) → grainNamed (markTold m) ≡ 0
 mark-grain zero = refl
 mark-grain (suc m) = refl
 
@@ -115,7 +115,7 @@ module _ (b : Domain) (n room : ℕ) (inputs : List Float) (t : Tables) where
     start-2 e = rw (box, e)
 
     module _ (e : passed ≡ true) where
-      pub start-is : startAll b n room inputs t ≡ leaving (start b room (inputsOf n inputs)) t
+      pub start-is : startAll b n room inputs t ≡ startedOver (start b room (inputsOf n inputs)) t
       unfolding startAll
       start-is = rw (box, e)
 
@@ -127,16 +127,16 @@ module _ (b : Domain) (n room : ℕ) (inputs : List Float) (t : Tables) where
       pub start-4 : (bad : ℕ) → bad ≡ firstBad b (inputsOf n inputs) → (bad ≡ n → ⊥) → with (answer.BadGrain bad) t ≡ startAll b n room inputs t
       start-4 bad f u =
           ap (λ (k : ℕ). with (answer.BadGrain k) t) f
-          ∙ sym (start-is ∙ ap (λ (r : Begun). leaving r t) (start-bad b room (inputsOf n inputs) box counts-ok (λ q. u (f ∙ q ∙ cut-long inputAt 5 n inputs))))
+          ∙ sym (start-is ∙ ap (λ (r : Begun). startedOver r t) (start-bad b room (inputsOf n inputs) box counts-ok (λ q. u (f ∙ q ∙ cut-long inputAt 5 n inputs))))
 
-      start-begun : (r : ℕ) (u : Tables) → firstBad b (inputsOf n inputs) ≡ n → Began (begin b room (inputsOf n inputs)) r t u → with (byMark r) u ≡ startAll b n room inputs t
+      start-begun : (r : ℕ) (u : Tables) → firstBad b (inputsOf n inputs) ≡ n → Began (begin b room (inputsOf n inputs)) r t u → with (markTold r) u ≡ startAll b n room inputs t
       start-begun r u f B =
-          (λ i. with (byMark (B .number i)) (B .left i))
-          ∙ (let o = begin b room (inputsOf n inputs) in λ i. record { number = mark-number (o .num) i; grain = mark-grain (o .num) i; answer = byMark (o .num); after = encoded (marked (o .num) (o .st)) (cleared t) })
-          ∙ sym (start-is ∙ ap (λ (r : Begun). leaving r t) (start-good b room (inputsOf n inputs) box counts-ok (f ∙ sym (cut-long inputAt 5 n inputs))))
+          (λ i. with (markTold (B .number i)) (B .left i))
+          ∙ (let o = begin b room (inputsOf n inputs) in λ i. record { number = mark-number (o .num) i; grain = mark-grain (o .num) i; answer = markTold (o .num); after = encoded (marked (o .num) (o .st)) (cleared t) })
+          ∙ sym (start-is ∙ ap (λ (r : Begun). startedOver r t) (start-good b room (inputsOf n inputs) box counts-ok (f ∙ sym (cut-long inputAt 5 n inputs))))
 
       pub start-accepted : (r : ℕ) (u : Tables) → firstBad b (inputsOf n inputs) ≡ n → Began (begin b room (inputsOf n inputs)) r t u → r ≡ 0 → with answer.Accepted u ≡ startAll b n room inputs t
-      start-accepted r u f B z = ap (λ (k : ℕ). with (byMark k) u) (sym z) ∙ start-begun r u f B
+      start-accepted r u f B z = ap (λ (k : ℕ). with (markTold k) u) (sym z) ∙ start-begun r u f B
 
       pub start-halted : (r : ℕ) (u : Tables) → firstBad b (inputsOf n inputs) ≡ n → Began (begin b room (inputsOf n inputs)) r t u → (r ≡ 0 → ⊥) → with (answer.Halted r) u ≡ startAll b n room inputs t
       start-halted zero u f B z = absurd (z refl)

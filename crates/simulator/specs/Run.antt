@@ -10,11 +10,11 @@ use Rattle.model.specs.Reached.{most}
 use Rattle.tables.specs.Decode.{Tables, decoded}
 use Rattle.checks.specs.Check.{checked}
 use Rattle.checks.specs.Answered.{Floats}
-use Rattle.running.specs.Ran.{RanTables, beside, toldTables, leaving}
+use Rattle.running.specs.Ran.{RanTables, beside, toldTables, ranOver}
 
 -- by the number that refuses it, 0 for none
 abbrev pub byCheck : ℕ → Float → ℕ → Tables → RanTables
-byCheck zero rate b t = leaving (runFrom rate b 0 (decoded t)) t
+byCheck zero rate b t = ranOver (runFrom rate b 0 (decoded t)) t
 byCheck (suc r) rate b t = beside (refusal (suc r) (decoded t)) t
 
 unfoldable pub runTables : Float → ℕ → Tables → RanTables

@@ -37,23 +37,23 @@ abbrev pub with : Started → Tables → StartedWith
 with a t = record { number = startNumber a; grain = grainNamed a; answer = a; after = t }
 
 -- by the mark that the start left, 0 or a halt's number; by a refusal's number, and the grain that 4 names
-abbrev pub byMark : ℕ → Started
-byMark zero = answer.Accepted
-byMark (suc r) = answer.Halted (suc r)
+abbrev pub markTold : ℕ → Started
+markTold zero = answer.Accepted
+markTold (suc r) = answer.Halted (suc r)
 
 abbrev pub byNumber : ℕ → ℕ → Started
 byNumber r g = cond (eqb r 4) (answer.BadGrain g) (answer.Refused r)
 
-abbrev pub leaving : Begun → Tables → StartedWith
-leaving (refused r g) t = record { number = r; grain = g; answer = byNumber r g; after = t }
-leaving (started s) t = record { number = s .mark; grain = 0; answer = byMark (s .mark); after = encoded s (cleared t) }
+abbrev pub startedOver : Begun → Tables → StartedWith
+startedOver (refused r g) t = record { number = r; grain = g; answer = byNumber r g; after = t }
+startedOver (started s) t = record { number = s .mark; grain = 0; answer = markTold (s .mark); after = encoded s (cleared t) }
 
 -- 1, then 2 of the tables too; 4 is the model's start's
 unfoldable pub startAll : Domain → ℕ → ℕ → List Float → Tables → StartedWith
 startAll b n room inputs t =
     startChecks (boxOk b)
     (fits (sizesFor b n room) (length inputs) (length (t .lists)) (length (t .grains)) (length (t .queue)) (length (t .events)) (length (t .order)))
-    true (λ r. with (answer.Refused r) t) (leaving (start b room (inputsOf n inputs)) t)
+    true (λ r. with (answer.Refused r) t) (startedOver (start b room (inputsOf n inputs)) t)
 
 -- what a start that answers r and leaves u promises: the box's lengths are 64-bit floats, as every owned float is, and answer and tables are the definition's
 pub record StartPromise (b : Domain) (n room : ℕ) (inputs : List Float) (t : Tables) (r : Started) (u : Tables) : Type 0 where

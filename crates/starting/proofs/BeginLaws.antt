@@ -9,7 +9,7 @@ use borrow.Rule.Slice.PartMut.{midOf, putMid}
 use Rattle.order.specs.Numbers.{fzero}
 use Rattle.chunks.specs.Flat.{flat}
 use Rattle.halting.specs.Out.{Out, then, each}
-use Rattle.scheduler.specs.Heap.{start as startHeap}
+use Rattle.scheduler.specs.Heap.{startHeap}
 use Rattle.model.specs.declared.Domain.{Domain}
 use Rattle.model.specs.Grid.{cells}
 use Rattle.model.specs.State.{State, marked}

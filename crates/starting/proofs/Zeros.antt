@@ -11,7 +11,7 @@ use lib.Ieee.{Float}
 use Rattle.order.specs.Numbers.{fzero}
 use Rattle.halting.specs.Every.{All}
 use Rattle.chunks.specs.Flat.{flat}
-use Rattle.scheduler.specs.Heap.{start as startHeap}
+use Rattle.scheduler.specs.Heap.{startHeap}
 use Rattle.scheduler.proofs.Inverse.{start-inverse}
 use Rattle.model.specs.declared.Domain.{Domain}
 use Rattle.model.specs.Sizes.{boxOk}

@@ -2,7 +2,7 @@
 use Prim.Native.Nat.{ℕ}
 use lib.ListN.{length, replicate}
 use Rattle.order.specs.Numbers.{fzero}
-use Rattle.scheduler.specs.Heap.{start}
+use Rattle.scheduler.specs.Heap.{startHeap}
 use Rattle.model.specs.declared.Domain.{Domain}
 use Rattle.model.specs.Grid.{cells}
 use Rattle.tables.specs.declared.Sizes.{Sizes}
@@ -21,4 +21,4 @@ cleared t =
 -- then the headers, with no mark and the clock at 0, and the cells in the heap
 abbrev pub headed : Sizes → Domain → Tables → Tables
 headed z b t =
-    tables (over (listsHead 0 z b) ((cleared t) .lists)) (over (grainsHead b fzero) ((cleared t) .grains)) ((cleared t) .queue) ((cleared t) .events) (over (orderBytes (start (z .cells))) ((cleared t) .order))
+    tables (over (listsHead 0 z b) ((cleared t) .lists)) (over (grainsHead b fzero) ((cleared t) .grains)) ((cleared t) .queue) ((cleared t) .events) (over (orderBytes (startHeap (z .cells))) ((cleared t) .order))

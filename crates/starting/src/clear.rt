@@ -4,7 +4,7 @@ ghost use Prim.Native.Nat.{_≤_};
 ghost use lib.ListN.{length, replicate};
 ghost use Rattle.order.specs.Numbers.{fzero};
 ghost use Rattle.layout.specs.Widths.{listsHeadWide, grainsHeadWide, orderWide};
-ghost use Rattle.scheduler.specs.Heap.{start as startHeap};
+ghost use Rattle.scheduler.specs.Heap.{startHeap};
 ghost use Rattle.tables.specs.Layout.{orderBytes};
 ghost use Rattle.tables.specs.Decode.{tables};
 ghost use Rattle.tables.specs.Encode.{listsHead, grainsHead, over};

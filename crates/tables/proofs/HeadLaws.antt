@@ -7,10 +7,10 @@ use lib.ListN.{length, getD, drop}
 use lib.Ieee.{Float}
 use borrow.Rule.Slice.PartMut.{putMid}
 use Rattle.layout.specs.Widths.{listsHeadWide, grainsHeadWide}
-use Rattle.tables.specs.Decode.{flag, sizesOf, boxIn}
+use Rattle.tables.specs.Decode.{isSet, sizesOf, boxIn}
 use Rattle.tables.specs.Encode.{flagged, listsHead, grainsHead, over, withMark, withClock}
 
-flag-is : (n : ℕ) → n ≤ 1 → n ≡ flagged (flag n)
+flag-is : (n : ℕ) → n ≤ 1 → n ≡ flagged (isSet n)
 flag-is zero h = refl
 flag-is (suc zero) h = refl
 flag-is (suc (suc n)) h = absurd (omega arith)

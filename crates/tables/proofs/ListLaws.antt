@@ -11,15 +11,14 @@ use Rattle.halting.specs.Every.{All}
 use Rattle.chunks.specs.Flat.{flat}
 use Rattle.halting.proofs.All.{all-at, all-set, all-mid, all-to}
 use Rattle.chunks.proofs.Laws.{length-flat, length-front, flat-cut, flat-set, mid-at, put-at}
-use Rattle.layout.specs.Widths.{homeWide, membersWide, homeFrom, membersFrom}
-use Rattle.model.specs.Sizes.{memberRoom, homeRoom}
+use Rattle.layout.specs.Widths.{homeWide, membersWide, homeFrom, membersFrom, homeRoom, memberRoom}
 use Rattle.model.specs.State.{Row, none, liveAt, has, but, pushed, pulled}
 use Rattle.model.proofs.Lists.{length-but}
 use Rattle.tables.specs.declared.Sizes.{Sizes}
 use Rattle.tables.specs.declared.parts.Part.{Part}
 use Rattle.tables.specs.Layout.{places, rowNums}
 use Rattle.tables.specs.Parts.{homePart, memberPart, lent, back}
-use Rattle.tables.specs.Rows.{counted}
+use Rattle.tables.specs.Rows.{countIn}
 use Rattle.tables.specs.Holds.{Ranged, Rows, Listed}
 
 -- ---- chunk c of a region of a table: what stands before the region, the region, what stands after it
@@ -144,8 +143,8 @@ module _ {z : Sizes} {l : List ℕ} {hs ms : List (Row ℕ)} (S : Listed z l hs 
     pub home-part : lent p l ≡ rowNums (getD hs g none)
     home-part = family-mid (S .homes) [] (flat rowNums ms) g (p .from) (p .to - p .from) h (S .is) (omega (arith, home-from)) home-wide
 
-    pub home-count : {n : ℕ} → n ≡ counted (lent p l) → n ≡ length (liveAt hs g)
-    home-count f = f ∙ ap counted home-part
+    pub home-count : {n : ℕ} → n ≡ countIn (lent p l) → n ≡ length (liveAt hs g)
+    home-count f = f ∙ ap countIn home-part
 
     -- with another row put back, the table holds it in its place
     pub home-back : (r : Row ℕ) {ys : List ℕ} → ys ≡ rowNums r → Room homeRoom r → Below (z .cells) r → Listed z (back p l ys) (set hs g r) ms
@@ -168,8 +167,8 @@ module _ {z : Sizes} {l : List ℕ} {hs ms : List (Row ℕ)} (S : Listed z l hs 
     pub member-part : lent p l ≡ rowNums (getD ms c none)
     member-part = family-mid (S .members) (flat rowNums hs) [] c (p .from) (p .to - p .from) h at-members member-from member-wide
 
-    pub member-count : {n : ℕ} → n ≡ counted (lent p l) → n ≡ length (liveAt ms c)
-    member-count f = f ∙ ap counted member-part
+    pub member-count : {n : ℕ} → n ≡ countIn (lent p l) → n ≡ length (liveAt ms c)
+    member-count f = f ∙ ap countIn member-part
 
     pub member-back : (r : Row ℕ) {ys : List ℕ} → ys ≡ rowNums r → Room memberRoom r → Below (z .grains) r → Listed z (back p l ys) hs (set ms c r)
     member-back r f v b = record {

@@ -16,7 +16,7 @@ use Rattle.model.specs.State.{Row, row}
 use Rattle.model.proofs.Queue.{length-insert}
 use Rattle.tables.specs.Layout.{places, placeNums}
 use Rattle.tables.specs.Holds.{Run}
-use Rattle.tables.specs.Rows.{counted}
+use Rattle.tables.specs.Rows.{countIn}
 use Rattle.tables.specs.Queues.{placed, without, headless, RowIn}
 use Rattle.tables.proofs.Runs.{nums-long, reals-long}
 use Rattle.tables.proofs.RowLaws.{live-most}
@@ -48,8 +48,8 @@ abbrev pub under : ℕ → List ℕ → List ℕ → List ℕ
 under n l ns = set (putMid 1 (length l - 1) l ns) 0 n
 
 module _ {nums : List ℕ} {reals : List Float} (r : Row Place) (R : RowIn nums reals r) where
-  count-is : counted nums ≡ length (r .live)
-  count-is = ap counted (R .nums-is)
+  count-is : countIn nums ≡ length (r .live)
+  count-is = ap countIn (R .nums-is)
 
   run-of : Run (behind nums) reals (places r)
   run-of = record { nums-is = mid-tail (length (r .live) ∷ []) (flat placeNums (places r)) 1 (R .nums-is) refl; reals-is = R .reals-is }
@@ -79,36 +79,36 @@ module _ {nums : List ℕ} {reals : List Float} (r : Row Place) (R : RowIn nums 
   pub more-asks : (n : ℕ) → n < length (places r) → length (places r) ≤ 256 → (n < 256) × (placeNumsWide * (n + 1) ≤ length (behind nums)) × (placeRealsWide * (n + 1) ≤ length reals)
   more-asks n l m = let a = behind-long in let b = floats-long in (omega arith, omega arith, omega arith)
 
-  pub all-asks : length (places r) ≤ 256 → (counted nums ≤ 256) × (placeNumsWide * counted nums ≤ length (behind nums)) × (placeRealsWide * counted nums ≤ length reals)
+  pub all-asks : length (places r) ≤ 256 → (countIn nums ≤ 256) × (placeNumsWide * countIn nums ≤ length (behind nums)) × (placeRealsWide * countIn nums ≤ length reals)
   all-asks m = let a = behind-long in let b = floats-long in let n = count-is in let l = live-most r in (omega arith, omega arith, omega arith)
 
-  pub room-left : length (r .live) < length (places r) → counted nums < length (places r)
+  pub room-left : length (r .live) < length (places r) → countIn nums < length (places r)
   room-left l = let n = count-is in omega arith
 
-  pub some-held : 0 < length (r .live) → (0 < counted nums) × (counted nums - 1 < length (places r))
+  pub some-held : 0 < length (r .live) → (0 < countIn nums) × (countIn nums - 1 < length (places r))
   some-held l = let n = count-is in let m = live-most r in (omega arith, omega arith)
 
   -- an event more, those that name a grain gone, the first gone
-  pub row-placed : (e : Place) {ns : List ℕ} {rs : List Float} → placeRealsWide * (counted nums + 1) ≤ length reals
-      → ((live rest : List Place) (x : Place) → counted nums ≡ length live → Run (behind nums) reals (live ++ x ∷ rest) → Run ns rs (insertBy e live ++ rest))
-      → RowIn (under (counted nums + 1) nums ns) rs (placed e r)
+  pub row-placed : (e : Place) {ns : List ℕ} {rs : List Float} → placeRealsWide * (countIn nums + 1) ≤ length reals
+      → ((live rest : List Place) (x : Place) → countIn nums ≡ length live → Run (behind nums) reals (live ++ x ∷ rest) → Run ns rs (insertBy e live ++ rest))
+      → RowIn (under (countIn nums + 1) nums ns) rs (placed e r)
   row-placed e h done =
-      filed (counted nums + 1) (placed e r) (let n = count-is in let m = length-insert e (r .live) in omega arith)
+      filed (countIn nums + 1) (placed e r) (let n = count-is in let m = length-insert e (r .live) in omega arith)
       (placed-run e (r .live) (r .spare) (let n = count-is in let b = floats-long in omega arith) (λ sp x u. done (r .live) sp x count-is u) run-of)
 
   pub row-without : (g : ℕ) {ns : List ℕ} {rs : List Float} {m : ℕ}
-      → ((live rest : List Place) → counted nums ≡ length live → Run (behind nums) reals (live ++ rest)
+      → ((live rest : List Place) → countIn nums ≡ length live → Run (behind nums) reals (live ++ rest)
       → (m ≡ length (keepBy g live)) × Run ns rs (keepBy g live ++ (replicate (goneBy g live) zeroP ++ rest)))
       → RowIn (under m nums ns) rs (without g r)
   row-without g {m = m} done = let d = done (r .live) (r .spare) count-is run-of in filed m (without g r) (d .0) (d .1)
 
-  pub row-headless : {ns : List ℕ} {rs : List Float} {x : Place} → 0 < counted nums → ((y : Place) (ps : List Place) → Run (behind nums) reals (y ∷ ps) → x ≡ y)
-      → ((live rest : List Place) (y : Place) → counted nums - 1 ≡ length live → Run (behind nums) reals (y ∷ live ++ rest) → Run ns rs (live ++ zeroP ∷ rest))
-      → (x ≡ headPlace (r .live)) × RowIn (under (counted nums - 1) nums ns) rs (headless r)
+  pub row-headless : {ns : List ℕ} {rs : List Float} {x : Place} → 0 < countIn nums → ((y : Place) (ps : List Place) → Run (behind nums) reals (y ∷ ps) → x ≡ y)
+      → ((live rest : List Place) (y : Place) → countIn nums - 1 ≡ length live → Run (behind nums) reals (y ∷ live ++ rest) → Run ns rs (live ++ zeroP ∷ rest))
+      → (x ≡ headPlace (r .live)) × RowIn (under (countIn nums - 1) nums ns) rs (headless r)
   row-headless l got pulled =
       let n = count-is in
       let some : 0 < length (r .live) = omega arith in (
         head-run (r .live) (r .spare) some got run-of,
-        filed (counted nums - 1) (headless r) (let d = length-drop 1 (r .live) in omega arith)
+        filed (countIn nums - 1) (headless r) (let d = length-drop 1 (r .live) in omega arith)
             (headless-run (r .live) (r .spare) some (λ live y e u. pulled live (r .spare) y (omega arith) u) run-of),
       )

@@ -6,7 +6,7 @@ use mathlib.Core.Bool.{Bool, _&&_}
 use lib.Dec.{eqb, leb}
 use lib.ListN.{getD, take, drop}
 use lib.Ieee.{Float, nan}
-use Rattle.layout.specs.Widths.{listsHeadWide, grainsHeadWide, grainWide, rowWide, homeFrom, placeNumsWide, placeRealsWide, queueWide, eventsWide, heapWide}
+use Rattle.layout.specs.Widths.{listsHeadWide, grainsHeadWide, grainWide, rowWide, homeFrom, placeNumsWide, placeRealsWide, queueWide, eventsWide, heapWide, homeRoom, memberRoom}
 use Rattle.myvec.specs.Vec.{vec}
 use Rattle.scheduler.specs.declared.Scheduler.{Scheduler}
 use Rattle.model.specs.declared.Domain.{Domain}
@@ -15,7 +15,6 @@ use Rattle.model.specs.declared.Place.{Place}
 use Rattle.model.specs.Grid.{boxOf}
 use Rattle.model.specs.Stepping.{grainOf}
 use Rattle.model.specs.State.{Row, row, State}
-use Rattle.model.specs.Sizes.{memberRoom, homeRoom}
 use Rattle.tables.specs.declared.Sizes.{Sizes}
 
 pub record Tables : Type 0 where
@@ -35,11 +34,11 @@ mark l = getD l 0 0
 abbrev pub sizesOf : List ℕ → Sizes
 sizesOf l = record { grains = getD l 1 0; cells = getD l 2 0; room = getD l 3 0 }
 
-abbrev pub flag : ℕ → Bool
-flag n = eqb n 1
+abbrev pub isSet : ℕ → Bool
+isSet n = eqb n 1
 
 abbrev pub boxIn : List ℕ → List Float → Domain
-boxIn l g = boxOf (vec (getD g 0 nan) (getD g 1 nan)) (flag (getD l 4 0)) (flag (getD l 5 0))
+boxIn l g = boxOf (vec (getD g 0 nan) (getD g 1 nan)) (isSet (getD l 4 0)) (isSet (getD l 5 0))
 
 abbrev pub clockIn : List Float → Float
 clockIn g = getD g 2 nan

@@ -9,11 +9,10 @@ use Rattle.halting.specs.Every.{All}
 use Rattle.chunks.specs.Flat.{flat}
 use Rattle.halting.specs.Out.{Out}
 use Rattle.order.specs.Numbers.{f64Max}
-use Rattle.layout.specs.Widths.{heapWide}
+use Rattle.layout.specs.Widths.{heapWide, homeRoom, memberRoom}
 use Rattle.scheduler.specs.declared.Scheduler.{Scheduler}
 use Rattle.model.specs.declared.Particle.{Particle}
 use Rattle.model.specs.declared.Place.{Place}
-use Rattle.model.specs.Sizes.{memberRoom, homeRoom}
 use Rattle.model.specs.State.{Row, State}
 use Rattle.tables.specs.declared.Sizes.{Sizes}
 use Rattle.tables.specs.Layout.{places, grainReals, rowNums, placeNums, placeReals, queueNums, queueReals, orderBytes}

@@ -11,5 +11,5 @@ abbrev pub InNums : List ℕ → (Row ℕ → Type 0) → Type 0
 InNums l P = (r : Row ℕ) × (l ≡ rowNums r) × P r
 
 -- a row's count, its first number
-abbrev pub counted : List ℕ → ℕ
-counted l = getD l 0 0
+abbrev pub countIn : List ℕ → ℕ
+countIn l = getD l 0 0

@@ -7,13 +7,13 @@ ghost use lib.ListN.{length, take};
 ghost use Rattle.model.specs.State.{Row, has, but, pushed, pulled};
 ghost use Rattle.tables.specs.Layout.{places, rowNums};
 ghost use Rattle.tables.specs.Parts.{lent};
-ghost use Rattle.tables.specs.Rows.{InNums, counted};
+ghost use Rattle.tables.specs.Rows.{InNums, countIn};
 use crate::parts::Part;
 
 // How many places of a row are in use: its first number. A row of events has it too.
 pub fn count_of(row: &[u64]) -> usize
     requires { ⌜ 0 < length (now row) ⌝ }
-    ensures { λ n. ⌜ n ≡ counted (now (row .entry)) ⌝ }
+    ensures { λ n. ⌜ n ≡ countIn (now (row .entry)) ⌝ }
 {
     row[0] as usize
 }

@@ -14,9 +14,9 @@ use lib.Seq.{drop-drop}
 use Rattle.text.specs.declared.reader.Reader.{Reader}
 use Rattle.text.specs.Bytes.{bytes}
 use Rattle.text.specs.Numerals.{hex, decimal, Word}
-use Rattle.text.specs.Lines.{flag, bitOf}
-use Rattle.text.specs.Reading.{startOf, put, nextOf, steppedOf, feedOf, feedAll, closedOf, fineOf}
-use Rattle.text.specs.Plan.{Piece, mark, number, flagged, count, shown, Values, spelled, loaded, counted, plain, fair, Form, spelledRows, spelledText, Spells, heldOf}
+use Rattle.text.specs.Lines.{flagField, bitOf}
+use Rattle.text.specs.Reading.{startOf, readerWith, nextOf, steppedOf, feedOf, feedAll, closedOf, fineOf}
+use Rattle.text.specs.Plan.{Piece, mark, number, flagged, count, shown, Values, spelled, loaded, countRead, plain, fair, Form, spelledRows, spelledText, Spells, heldOf}
 use Rattle.text.proofs.Turns.{feed-parts}
 use Rattle.text.proofs.Places.{here, last, full-stuck, step-on, plain-turn}
 use Rattle.text.proofs.FieldsBack.{Ends, open-ends, stuck-ends, matched-ends, mark-ends, hex-ends, flag-ends, decimal-ends}
@@ -32,44 +32,44 @@ joined-cr a s t x u p q = joined a s (13 ∷ t) (13 ∷ x) u p (ap (λ (l : List
 -- ---- pieces, wherever the plan shows them
 module _ (plan : List ℕ) (line : ℕ) (short : Word (length plan)) (within : line < length plan) where
   abbrev Parts : List Piece → Reader → ℕ → ℕ → List ℕ → List ℕ → Type 0
-  Parts ps r end n g s = (w : Values ps) × (t : List ℕ) × (s ≡ spelled ps w ++ t) × Ends plan line (put r end (counted ps w n) (loaded ps w g)) t
+  Parts ps r end n g s = (w : Values ps) × (t : List ℕ) × (s ≡ spelled ps w ++ t) × Ends plan line (readerWith r end (countRead ps w n) (loaded ps w g)) t
 
   pub pieces-end : (ps : List Piece) (r : Reader) (at n : ℕ) (g cs s : List ℕ) → T (fair ps) → length g ≡ 10
       → drop at plan ≡ shown ps ++ cs → at + length (shown ps) < length plan → Where plan line r n ps (at + length (shown ps))
-      → Ends plan line (put r at n g) s → Parts ps r (at + length (shown ps)) n g s
-  pieces-end [] r at n g cs s f N q h o e = (tt, s, refl, subst (λ (k : ℕ). Ends plan line (put r k n g) s) (sym (add-zero at)) e)
+      → Ends plan line (readerWith r at n g) s → Parts ps r (at + length (shown ps)) n g s
+  pieces-end [] r at n g cs s f N q h o e = (tt, s, refl, subst (λ (k : ℕ). Ends plan line (readerWith r k n g) s) (sym (add-zero at)) e)
   pieces-end (mark c ∷ ps) r at n g cs s f N q h o e =
       let k = length (shown ps) in
       let p = here plan at c (shown ps ++ cs) q in
       let m : suc at + k ≡ at + suc k = suc-add at k ∙ sym (add-suc at k) in
-      let (t, x, e1) = mark-ends plan line short within (put r at n g) c s (and-l (plain c) (fair ps) f) (p .0) (omega (arith, m, h)) (elim o [ inl z ↦ inl (omega (arith, m, z)) | inr z ↦ inr (z .0) ]) e in
+      let (t, x, e1) = mark-ends plan line short within (readerWith r at n g) c s (and-l (plain c) (fair ps) f) (p .0) (omega (arith, m, h)) (elim o [ inl z ↦ inl (omega (arith, m, z)) | inr z ↦ inr (z .0) ]) e in
       let (w, u, y, e2) = pieces-end ps r (suc at) n g cs t (and-r (plain c) (fair ps) f) N (p .1) (omega (arith, m, h)) (elim o [ inl z ↦ inl (omega (arith, m, z)) | inr z ↦ inr z ]) e1 in
-      (w, u, joined (c ∷ []) s t (spelled ps w) u x y, subst (λ (z : ℕ). Ends plan line (put r z (counted ps w n) (loaded ps w g)) u) m e2)
+      (w, u, joined (c ∷ []) s t (spelled ps w) u x y, subst (λ (z : ℕ). Ends plan line (readerWith r z (countRead ps w n) (loaded ps w g)) u) m e2)
   pieces-end (number j ∷ ps) r at n g cs s f N q h o e =
       let k = length (shown ps) in
       let J = fair-number j (fair ps) f in
       let p : drop (at + 16) plan ≡ shown ps ++ cs = sym (drop-drop 16 at plan) ∙ ap (drop 16) q in
       let m : at + 16 + k ≡ at + length (shown (number j ∷ ps)) = omega arith in
-      let (v, t, a, x, e1) = hex-ends plan line short within (put r at n g) j (shown ps ++ cs) s J N q (omega (arith, m, h)) (elim o [ inl z ↦ inl (omega (arith, m, z)) | inr z ↦ inr (z .0) ]) e in
+      let (v, t, a, x, e1) = hex-ends plan line short within (readerWith r at n g) j (shown ps ++ cs) s J N q (omega (arith, m, h)) (elim o [ inl z ↦ inl (omega (arith, m, z)) | inr z ↦ inr (z .0) ]) e in
       let (w, u, y, e2) = pieces-end ps r (at + 16) n (set g j v) cs t (and-r (ltb j 10) (fair ps) f) (length-set g j v ∙ N) p (omega (arith, m, h)) (elim o [ inl z ↦ inl (omega (arith, m, z)) | inr z ↦ inr z ]) e1 in
-      ((v, a, w), u, joined (hex v) s t (spelled ps w) u x y, subst (λ (z : ℕ). Ends plan line (put r z (counted ps w n) (loaded ps w (set g j v))) u) m e2)
+      ((v, a, w), u, joined (hex v) s t (spelled ps w) u x y, subst (λ (z : ℕ). Ends plan line (readerWith r z (countRead ps w n) (loaded ps w (set g j v))) u) m e2)
   pieces-end (flagged j ∷ ps) r at n g cs s f N q h o e =
       let k = length (shown ps) in
       let J = fair-number j (fair ps) f in
       let p = here plan at (75 + j) (shown ps ++ cs) q in
       let m : suc at + k ≡ at + suc k = suc-add at k ∙ sym (add-suc at k) in
-      let (b, t, x, e1) = flag-ends plan line short within (put r at n g) j s J (p .0) (omega (arith, m, h)) (elim o [ inl z ↦ inl (omega (arith, m, z)) | inr z ↦ inr (z .0) ]) e in
+      let (b, t, x, e1) = flag-ends plan line short within (readerWith r at n g) j s J (p .0) (omega (arith, m, h)) (elim o [ inl z ↦ inl (omega (arith, m, z)) | inr z ↦ inr (z .0) ]) e in
       let (w, u, y, e2) = pieces-end ps r (suc at) n (set g j (bitOf b)) cs t (and-r (ltb j 10) (fair ps) f) (length-set g j (bitOf b) ∙ N) (p .1) (omega (arith, m, h)) (elim o [ inl z ↦ inl (omega (arith, m, z)) | inr z ↦ inr z ]) e1 in
-      ((b, w), u, joined (flag b) s t (spelled ps w) u x y, subst (λ (z : ℕ). Ends plan line (put r z (counted ps w n) (loaded ps w (set g j (bitOf b)))) u) m e2)
+      ((b, w), u, joined (flagField b) s t (spelled ps w) u x y, subst (λ (z : ℕ). Ends plan line (readerWith r z (countRead ps w n) (loaded ps w (set g j (bitOf b)))) u) m e2)
   pieces-end (count ∷ ps) r at n g cs s f N q h (inr z) e = absurd (z .1)
   pieces-end (count ∷ ps) r at n g cs s f N q h (inl z) e =
       let k = length (shown ps) in
       let p = here plan at 35 (43 ∷ (shown ps ++ cs)) q in
       let p' = here plan (suc at) 43 (shown ps ++ cs) (p .1) in
       let m : suc (suc at) + k ≡ at + suc (suc k) = omega arith in
-      let (v, t, a, x, e1) = decimal-ends plan line short within (put r at n g) s (p .0) (p' .0) (omega (arith, m, h)) (omega (arith, m, z)) e in
+      let (v, t, a, x, e1) = decimal-ends plan line short within (readerWith r at n g) s (p .0) (p' .0) (omega (arith, m, h)) (omega (arith, m, z)) e in
       let (w, u, y, e2) = pieces-end ps r (suc (suc at)) v g cs t f N (p' .1) (omega (arith, m, h)) (inl (omega (arith, m, z))) e1 in
-      ((v, a, w), u, joined-cr (decimal v) s t (spelled ps w) u x y, subst (λ (i : ℕ). Ends plan line (put r i (counted ps w v) (loaded ps w g)) u) m e2)
+      ((v, a, w), u, joined-cr (decimal v) s t (spelled ps w) u x y, subst (λ (i : ℕ). Ends plan line (readerWith r i (countRead ps w v) (loaded ps w g)) u) m e2)
 
 -- ---- the lines, and the whole text
 module _ {plan : List ℕ} {line : ℕ} (f : Form plan line) where
@@ -77,10 +77,10 @@ module _ {plan : List ℕ} {line : ℕ} (f : Form plan line) where
   within = let l = plan-length f in omega (arith, l)
 
   -- a line ends with its last byte
-  line-over : (r : Reader) (n : ℕ) (g s : List ℕ) → r .seen < n → Ends plan line (put r (lastPlace f) n g) s → (t : List ℕ) × (s ≡ f .end ∷ t) × Ends plan line (nextOf line (put r (lastPlace f) n g)) t
-  line-over r n g [] o e = open-ends plan line (put r (lastPlace f) n g) (inr o) e
+  line-over : (r : Reader) (n : ℕ) (g s : List ℕ) → r .seen < n → Ends plan line (readerWith r (lastPlace f) n g) s → (t : List ℕ) × (s ≡ f .end ∷ t) × Ends plan line (nextOf line (readerWith r (lastPlace f) n g)) t
+  line-over r n g [] o e = open-ends plan line (readerWith r (lastPlace f) n g) (inr o) e
   line-over r n g (b ∷ s) o e =
-      let q = put r (lastPlace f) n g in
+      let q = readerWith r (lastPlace f) n g in
       let p = end-there f in
       let l = p .1 in
       matched-ends plan line (f .short) within q b (f .end) s
@@ -93,7 +93,7 @@ module _ {plan : List ℕ} {line : ℕ} (f : Form plan line) where
       let r = before f n seen g in
       let l = end-there f .1 in
       let (w, t, x, e1) = pieces-end plan line (f .short) within (f .row) r line n g (f .end ∷ []) s (f .row-fair) N (row-there f) (omega (arith, l)) (inr (o, f .row-uncounted)) e in
-      let e2 = subst (λ (m : ℕ). Ends plan line (put r (lastPlace f) m (loaded (f .row) w g)) t) (counted-same (f .row) w n (f .row-uncounted)) e1 in
+      let e2 = subst (λ (m : ℕ). Ends plan line (readerWith r (lastPlace f) m (loaded (f .row) w g)) t) (counted-same (f .row) w n (f .row-uncounted)) e1 in
       let (u, y, e3) = line-over r n (loaded (f .row) w g) t o e2 in
       (w, u, x ∙ ap (λ (z : List ℕ). spelled (f .row) w ++ z) y, subst (λ (m : ℕ). Ends plan line (before f n m (loaded (f .row) w g)) u) (add-one seen) e3)
 
@@ -112,14 +112,14 @@ module _ {plan : List ℕ} {line : ℕ} (f : Form plan line) where
   text-joined : (s t : List ℕ) (w : Values (f .head)) (ws : List (Values (f .row))) → s ≡ spelled (f .head) w ++ t → t ≡ spelledRows f ws → s ≡ spelledText f w ws
   text-joined s t w ws p q = p ∙ ap (λ (z : List ℕ). spelled (f .head) w ++ z) q
 
-  whole-ends : (s : List ℕ) → Ends plan line startOf s → (w : Values (f .head)) × (ws : List (Values (f .row))) × (counted (f .head) w 0 ≡ length ws) × (s ≡ spelledText f w ws)
+  whole-ends : (s : List ℕ) → Ends plan line startOf s → (w : Values (f .head)) × (ws : List (Values (f .row))) × (countRead (f .head) w 0 ≡ length ws) × (s ≡ spelledText f w ws)
   whole-ends s e =
       let l = plan-length f in
       let b = f .begins in
       let k = zero-add (length (shown (f .head))) in
       let (w, t, x, e1) = pieces-end plan line (f .short) within (f .head) startOf 0 0 zeros (shown (f .row) ++ (f .end ∷ [])) s (f .head-fair) refl (f .shows) (omega (arith, l, b, k)) (inl (omega (arith, b, k))) e in
-      let e2 = subst (λ (m : ℕ). Ends plan line (put startOf m (counted (f .head) w 0) (loaded (f .head) w zeros)) t) (k ∙ sym b) e1 in
-      let (ws, n, y) = lines-end (counted (f .head) w 0) (counted (f .head) w 0) 0 (loaded (f .head) w zeros) t (loaded-length (f .head) w zeros refl) (zero-add (counted (f .head) w 0)) e2 in
+      let e2 = subst (λ (m : ℕ). Ends plan line (readerWith startOf m (countRead (f .head) w 0) (loaded (f .head) w zeros)) t) (k ∙ sym b) e1 in
+      let (ws, n, y) = lines-end (countRead (f .head) w 0) (countRead (f .head) w 0) 0 (loaded (f .head) w zeros) t (loaded-length (f .head) w zeros refl) (zero-add (countRead (f .head) w 0)) e2 in
       (w, ws, n, text-joined s t w ws x y)
 
   -- what stands behind an accepted text

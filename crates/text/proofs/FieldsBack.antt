@@ -11,8 +11,8 @@ use lib.ListN.{length, getD, drop, set, replicate}
 use borrow.Author.Tests.{ne-eqb, ltb-true, ltb-false, eqb-true, eqb-false}
 use Rattle.text.specs.declared.reader.Reader.{Reader}
 use Rattle.text.specs.Numerals.{glyph, hexVal, spell, hex, decimal, Word}
-use Rattle.text.specs.Lines.{flag, bitOf}
-use Rattle.text.specs.Reading.{put, stuckOf, steppedOf, shifted, numberedOf, hexedOf, flaggedOf, matchedOf, countedOf, firstOf, moreOf, feedAll, fineOf}
+use Rattle.text.specs.Lines.{flagField, bitOf}
+use Rattle.text.specs.Reading.{readerWith, stuckOf, steppedOf, shifted, numberedOf, hexedOf, flaggedOf, matchedOf, countedOf, firstOf, moreOf, feedAll, fineOf}
 use Rattle.text.specs.Plan.{plain}
 use Rattle.text.proofs.HexDigits.{glyph-val, digit-of, rest-of}
 use Rattle.text.proofs.DecimalDigits.{valueFrom, Digits, shown, shown-is}
@@ -80,7 +80,7 @@ module _ (plan : List ℕ) (line : ℕ) (short : Word (length plan)) (within : l
 
   -- at a byte of the plan's own the text goes on with it
   pub mark-ends : (r : Reader) (c : ℕ) (s : List ℕ) → T (plain c) → getD plan (r .at) 0 ≡ c → suc (r .at) < length plan → Open plan line r (r .at) → Ends plan line r s
-      → (t : List ℕ) × (s ≡ c ∷ t) × Ends plan line (put r (suc (r .at)) (r .n) (r .numbers)) t
+      → (t : List ℕ) × (s ≡ c ∷ t) × Ends plan line (readerWith r (suc (r .at)) (r .n) (r .numbers)) t
   mark-ends r c [] l p h o e = open-ends plan line r o e
   mark-ends r c (b ∷ s) l p h o e =
       matched-ends r b c s (subst (λ (w : Reader). Ends plan line w s) (plain-turn plan line r b c l p (omega arith) o) e)
@@ -103,7 +103,7 @@ module _ (plan : List ℕ) (line : ℕ) (short : Word (length plan)) (within : l
       let p = here plan (r .at) (65 + j) (replicate k (65 + j) ++ cs) l in
       let op = open-now plan line r k o in
       let m : suc (r .at) < length plan = omega (arith, add-suc (r .at) k, h) in
-      let next : Reader = put r (suc (r .at)) (r .n) (set (r .numbers) j (shifted (getD (r .numbers) j 0) d)) in
+      let next : Reader = readerWith r (suc (r .at)) (r .n) (set (r .numbers) j (shifted (getD (r .numbers) j 0) d)) in
       let D : d < 16 = hexed-ends r b j s (subst (λ (w : Reader). Ends plan line w s) (hex-turn plan line r b j J (p .0) (omega (arith, m)) op) e) (λ (x : d < 16). x) in
       let e' : Ends plan line next s = subst (λ (w : Reader). Ends plan line w s) (hex-fed plan line r b j d refl J D (p .0) m op) e in
       let (v, t, q, x) = digits-end k (a * 16 + d) next j cs s J (p .1) (omega (arith, add-suc (r .at) k, suc-add (r .at) k, h)) (open-next plan line r k o) e' in
@@ -111,7 +111,7 @@ module _ (plan : List ℕ) (line : ℕ) (short : Word (length plan)) (within : l
 
   -- a field of sixteen digits
   pub hex-ends : (r : Reader) (j : ℕ) (cs s : List ℕ) → j < 10 → length (r .numbers) ≡ 10 → drop (r .at) plan ≡ replicate 16 (65 + j) ++ cs → r .at + 16 < length plan → OpenTo plan line r (r .at + 16) → Ends plan line r s
-      → (v : ℕ) × (t : List ℕ) × Word v × (s ≡ hex v ++ t) × Ends plan line (put r (r .at + 16) (r .n) (set (r .numbers) j v)) t
+      → (v : ℕ) × (t : List ℕ) × Word v × (s ≡ hex v ++ t) × Ends plan line (readerWith r (r .at + 16) (r .n) (set (r .numbers) j v)) t
   hex-ends r j cs s J N l h o e =
       let (v, t, z, q) = digits-end 16 0 r j cs s J l h o e in
       let w : Word v = small v z in
@@ -122,7 +122,7 @@ module _ (plan : List ℕ) (line : ℕ) (short : Word (length plan)) (within : l
 
   -- ---- flags
   flagged-ends : {A : Type 0} (r : Reader) (b j : ℕ) (s : List ℕ) → suc (r .at) < length plan → Ends plan line (flaggedOf (last plan line) line r b j) s
-      → ((p : Bool) → b ∷ s ≡ flag p ++ s → Ends plan line (put r (suc (r .at)) (r .n) (set (r .numbers) j (bitOf p))) s → A) → A
+      → ((p : Bool) → b ∷ s ≡ flagField p ++ s → Ends plan line (readerWith r (suc (r .at)) (r .n) (set (r .numbers) j (bitOf p))) s → A) → A
   unfolding flaggedOf
   flagged-ends {A} r b j s h e k = go (eqb b 48) refl (eqb b 49) refl e
     where
@@ -133,15 +133,15 @@ module _ (plan : List ℕ) (line : ℕ) (short : Word (length plan)) (within : l
       go false q false v e = stuck-ends s r e
 
   pub flag-ends : (r : Reader) (j : ℕ) (s : List ℕ) → j < 10 → getD plan (r .at) 0 ≡ 75 + j → suc (r .at) < length plan → Open plan line r (r .at) → Ends plan line r s
-      → (p : Bool) × (t : List ℕ) × (s ≡ flag p ++ t) × Ends plan line (put r (suc (r .at)) (r .n) (set (r .numbers) j (bitOf p))) t
+      → (p : Bool) × (t : List ℕ) × (s ≡ flagField p ++ t) × Ends plan line (readerWith r (suc (r .at)) (r .n) (set (r .numbers) j (bitOf p))) t
   flag-ends r j [] J p h o e = open-ends plan line r o e
   flag-ends r j (b ∷ s) J p h o e =
       flagged-ends r b j s h (subst (λ (w : Reader). Ends plan line w s) (flag-turn plan line r b j J p (omega arith) o) e)
-      (λ (p : Bool) (q : b ∷ s ≡ flag p ++ s) (e : Ends plan line (put r (suc (r .at)) (r .n) (set (r .numbers) j (bitOf p))) s). (p, s, q, e))
+      (λ (p : Bool) (q : b ∷ s ≡ flagField p ++ s) (e : Ends plan line (readerWith r (suc (r .at)) (r .n) (set (r .numbers) j (bitOf p))) s). (p, s, q, e))
 
   -- ---- n, and the CR after it
   abbrev First : Reader → List ℕ → Type 0
-  First r s = (d : ℕ) × (t : List ℕ) × (d < 10) × (s ≡ (48 + d) ∷ t) × Ends plan line (put r (suc (r .at)) d (r .numbers)) t
+  First r s = (d : ℕ) × (t : List ℕ) × (d < 10) × (s ≡ (48 + d) ∷ t) × Ends plan line (readerWith r (suc (r .at)) d (r .numbers)) t
 
   first-ends : (r : Reader) (s : List ℕ) → getD plan (r .at) 0 ≡ 35 → suc (r .at) < length plan → r .at < line → Ends plan line r s → First r s
   unfolding firstOf
@@ -149,24 +149,24 @@ module _ (plan : List ℕ) (line : ℕ) (short : Word (length plan)) (within : l
   first-ends r (b ∷ s) p h o e = go (ltb b 48) refl (ltb 57 b) refl (subst (λ (w : Reader). Ends plan line w s) (first-turn plan line r b p (omega arith) (inl o)) e)
     where
       go : (t : Bool) → ltb b 48 ≡ t → (u : Bool) → ltb 57 b ≡ u
-          → Ends plan line (cond t (stuckOf r) (cond u (stuckOf r) (steppedOf (last plan line) line (put r (r .at) (b - 48) (r .numbers))))) s → First r (b ∷ s)
+          → Ends plan line (cond t (stuckOf r) (cond u (stuckOf r) (steppedOf (last plan line) line (readerWith r (r .at) (b - 48) (r .numbers))))) s → First r (b ∷ s)
       go true q u v e = stuck-ends s r e
       go false q true v e = stuck-ends s r e
       go false q false v e =
           let x = ltb-false b 48 q in
           let y = ltb-false 57 b v in
           let z : b ≡ 48 + (b - 48) = omega arith in
-          (b - 48, s, omega arith, ap (λ (w : ℕ). w ∷ s) z, subst (λ (w : Reader). Ends plan line w s) (step-in plan line (put r (r .at) (b - 48) (r .numbers)) h) e)
+          (b - 48, s, omega arith, ap (λ (w : ℕ). w ∷ s) z, subst (λ (w : Reader). Ends plan line w s) (step-in plan line (readerWith r (r .at) (b - 48) (r .numbers)) h) e)
 
   -- the digits after n, and the CR
   abbrev Others : Reader → List ℕ → Type 0
-  Others r s = (ds : List ℕ) × (t : List ℕ) × Digits ds × (r .n ≡ 0 → ds ≡ []) × Word (valueFrom (r .n) ds) × (s ≡ shown ds ++ (13 ∷ t)) × Ends plan line (put r (suc (r .at)) (valueFrom (r .n) ds) (r .numbers)) t
+  Others r s = (ds : List ℕ) × (t : List ℕ) × Digits ds × (r .n ≡ 0 → ds ≡ []) × Word (valueFrom (r .n) ds) × (s ≡ shown ds ++ (13 ∷ t)) × Ends plan line (readerWith r (suc (r .at)) (valueFrom (r .n) ds) (r .numbers)) t
 
-  counted-ends : {A : Type 0} (r : Reader) (d : ℕ) (s : List ℕ) → d < 10 → Ends plan line (countedOf r d) s → (Word (r .n * 10 + d) → Ends plan line (put r (r .at) (r .n * 10 + d) (r .numbers)) s → A) → A
+  counted-ends : {A : Type 0} (r : Reader) (d : ℕ) (s : List ℕ) → d < 10 → Ends plan line (countedOf r d) s → (Word (r .n * 10 + d) → Ends plan line (readerWith r (r .at) (r .n * 10 + d) (r .numbers)) s → A) → A
   unfolding countedOf
   counted-ends {A} r d s h e k = go (ltb ((18446744073709551615 - d) / 10) (r .n)) refl e
     where
-      go : (t : Bool) → ltb ((18446744073709551615 - d) / 10) (r .n) ≡ t → Ends plan line (cond t (stuckOf r) (put r (r .at) (r .n * 10 + d) (r .numbers))) s → A
+      go : (t : Bool) → ltb ((18446744073709551615 - d) / 10) (r .n) ≡ t → Ends plan line (cond t (stuckOf r) (readerWith r (r .at) (r .n * 10 + d) (r .numbers))) s → A
       go true q e = stuck-ends s r e
       go false q e = let x = ltb-false ((18446744073709551615 - d) / 10) (r .n) q in k (omega arith) e
 
@@ -175,14 +175,14 @@ module _ (plan : List ℕ) (line : ℕ) (short : Word (length plan)) (within : l
   others-end [] r p h o w e = open-ends plan line r (inl o) e
   others-end (b ∷ s) r p h o w e =
       go (eqb b 13) refl (ltb b 48) refl (ltb 57 b) refl (eqb (r .n) 0) refl (subst (λ (w : Reader). Ends plan line w s) (more-turn plan line r b p (omega arith) (inl o)) e)
-      (λ (m : ℕ). others-end s (put r (r .at) m (r .numbers)) p h o)
+      (λ (m : ℕ). others-end s (readerWith r (r .at) m (r .numbers)) p h o)
     where
-      more : b ≡ 48 + (b - 48) → b - 48 < 10 → (r .n ≡ 0 → ⊥) → Others (put r (r .at) (r .n * 10 + (b - 48)) (r .numbers)) s → Others r (b ∷ s)
+      more : b ≡ 48 + (b - 48) → b - 48 < 10 → (r .n ≡ 0 → ⊥) → Others (readerWith r (r .at) (r .n * 10 + (b - 48)) (r .numbers)) s → Others r (b ∷ s)
       more x h z (ds, t, d, f, v, q, e) = ((b - 48) ∷ ds, t, (h, d), (λ (y : r .n ≡ 0). absurd (z y)), v, ap (λ (c : ℕ). c ∷ s) x ∙ ap (λ (l : List ℕ). (48 + (b - 48)) ∷ l) q, e)
 
       go : (p : Bool) → eqb b 13 ≡ p → (q : Bool) → ltb b 48 ≡ q → (u : Bool) → ltb 57 b ≡ u → (v : Bool) → eqb (r .n) 0 ≡ v
           → Ends plan line (cond p (steppedOf (last plan line) line r) (cond q (stuckOf r) (cond u (stuckOf r) (cond v (stuckOf r) (countedOf r (b - 48)))))) s
-          → ((m : ℕ) → Word m → Ends plan line (put r (r .at) m (r .numbers)) s → Others (put r (r .at) m (r .numbers)) s) → Others r (b ∷ s)
+          → ((m : ℕ) → Word m → Ends plan line (readerWith r (r .at) m (r .numbers)) s → Others (readerWith r (r .at) m (r .numbers)) s) → Others r (b ∷ s)
       go true p q hq u hu v hv e again = ([], s, tt, (λ (z : r .n ≡ 0). refl), w, ap (λ (z : ℕ). z ∷ s) (eqb-true b 13 p), subst (λ (x : Reader). Ends plan line x s) (step-in plan line r h) e)
       go false p true q u hu v hv e again = stuck-ends s r e
       go false p false q true u v hv e again = stuck-ends s r e
@@ -192,14 +192,14 @@ module _ (plan : List ℕ) (line : ℕ) (short : Word (length plan)) (within : l
           let y = ltb-false 57 b u in
           let h : b - 48 < 10 = omega arith in
           counted-ends r (b - 48) s h e
-          (λ (k : Word (r .n * 10 + (b - 48))) (e' : Ends plan line (put r (r .at) (r .n * 10 + (b - 48)) (r .numbers)) s). more (omega arith) h (eqb-false (r .n) 0 v) (again (r .n * 10 + (b - 48)) k e'))
+          (λ (k : Word (r .n * 10 + (b - 48))) (e' : Ends plan line (readerWith r (r .at) (r .n * 10 + (b - 48)) (r .numbers)) s). more (omega arith) h (eqb-false (r .n) 0 v) (again (r .n * 10 + (b - 48)) k e'))
 
   digit-word : (d : ℕ) → d < 10 → Word d
   digit-word d h = omega arith
 
   pub decimal-ends : (r : Reader) (s : List ℕ) → getD plan (r .at) 0 ≡ 35 → getD plan (suc (r .at)) 0 ≡ 43 → suc (suc (r .at)) < length plan → suc (r .at) < line → Ends plan line r s
-      → (n : ℕ) × (t : List ℕ) × Word n × (s ≡ decimal n ++ (13 ∷ t)) × Ends plan line (put r (suc (suc (r .at))) n (r .numbers)) t
+      → (n : ℕ) × (t : List ℕ) × Word n × (s ≡ decimal n ++ (13 ∷ t)) × Ends plan line (readerWith r (suc (suc (r .at))) n (r .numbers)) t
   decimal-ends r s p p' h o e =
       let (d, t, D, q, e1) = first-ends r s p (omega arith) (omega arith) e in
-      let (ds, u, L, z, k, q1, e2) = others-end t (put r (suc (r .at)) d (r .numbers)) p' h o (digit-word d D) e1 in
+      let (ds, u, L, z, k, q1, e2) = others-end t (readerWith r (suc (r .at)) d (r .numbers)) p' h o (digit-word d D) e1 in
       (valueFrom d ds, u, k, decimal-joined d ds s t u D L z q q1, e2)

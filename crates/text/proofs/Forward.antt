@@ -15,9 +15,9 @@ use borrow.Author.Tests.{eq-eqb, ltb-true}
 use Rattle.text.specs.declared.reader.Reader.{Reader}
 use Rattle.text.specs.Bytes.{bytes}
 use Rattle.text.specs.Numerals.{decimal}
-use Rattle.text.specs.Lines.{flag, bitOf}
-use Rattle.text.specs.Reading.{startOf, put, stuckOf, nextOf, matchedOf, feedOf, feedAll, closedOf, fineOf}
-use Rattle.text.specs.Plan.{Piece, mark, number, flagged, count, shown, Values, spelled, loaded, counted, plain, fair, uncounted, Form, spelledRows, loadedRows, spelledText, Spells, heldOf}
+use Rattle.text.specs.Lines.{flagField, bitOf}
+use Rattle.text.specs.Reading.{startOf, readerWith, stuckOf, nextOf, matchedOf, feedOf, feedAll, closedOf, fineOf}
+use Rattle.text.specs.Plan.{Piece, mark, number, flagged, count, shown, Values, spelled, loaded, countRead, plain, fair, uncounted, Form, spelledRows, loadedRows, spelledText, Spells, heldOf}
 use Rattle.text.proofs.Turns.{feed-parts, closed-ended, closed-same}
 use Rattle.text.proofs.Places.{here, last, full-stuck, stuck-stays, step-on, plain-turn}
 use Rattle.text.proofs.Fields.{hex-field, mark-field, flag-field, decimal-field}
@@ -37,7 +37,7 @@ loaded-length (flagged j ∷ ps) w g N = loaded-length ps (w .1) (set g j (bitOf
 loaded-length (count ∷ ps) w g N = loaded-length ps (w .2) g N
 
 -- pieces without n leave it
-pub counted-same : (ps : List Piece) (w : Values ps) (n : ℕ) → T (uncounted ps) → counted ps w n ≡ n
+pub counted-same : (ps : List Piece) (w : Values ps) (n : ℕ) → T (uncounted ps) → countRead ps w n ≡ n
 counted-same [] w n u = refl
 counted-same (mark c ∷ ps) w n u = counted-same ps w n u
 counted-same (number j ∷ ps) w n u = counted-same ps (w .2) n u
@@ -52,44 +52,44 @@ module _ (plan : List ℕ) (line : ℕ) where
 
   pub pieces-fed : (ps : List Piece) (w : Values ps) (r : Reader) (at n : ℕ) (g cs rest : List ℕ) → T (fair ps) → length g ≡ 10
       → drop at plan ≡ shown ps ++ cs → at + length (shown ps) < length plan → Where r n ps (at + length (shown ps))
-      → feedAll plan line (put r at n g) (spelled ps w ++ rest) ≡ feedAll plan line (put r (at + length (shown ps)) (counted ps w n) (loaded ps w g)) rest
-  pieces-fed [] w r at n g cs rest f N q h o = ap (λ (k : ℕ). feedAll plan line (put r k n g) rest) (sym (add-zero at))
+      → feedAll plan line (readerWith r at n g) (spelled ps w ++ rest) ≡ feedAll plan line (readerWith r (at + length (shown ps)) (countRead ps w n) (loaded ps w g)) rest
+  pieces-fed [] w r at n g cs rest f N q h o = ap (λ (k : ℕ). feedAll plan line (readerWith r k n g) rest) (sym (add-zero at))
   pieces-fed (mark c ∷ ps) w r at n g cs rest f N q h o =
       let k = length (shown ps) in
       let p = here plan at c (shown ps ++ cs) q in
       let e : suc at + k ≡ at + suc k = suc-add at k ∙ sym (add-suc at k) in
-      mark-field plan line (put r at n g) c (spelled ps w ++ rest) (and-l (plain c) (fair ps) f) (p .0) (omega (arith, e, h)) (elim o [ inl z ↦ inl (omega (arith, e, z)) | inr z ↦ inr (z .0) ])
+      mark-field plan line (readerWith r at n g) c (spelled ps w ++ rest) (and-l (plain c) (fair ps) f) (p .0) (omega (arith, e, h)) (elim o [ inl z ↦ inl (omega (arith, e, z)) | inr z ↦ inr (z .0) ])
       ∙ pieces-fed ps w r (suc at) n g cs rest (and-r (plain c) (fair ps) f) N (p .1) (omega (arith, e, h)) (elim o [ inl z ↦ inl (omega (arith, e, z)) | inr z ↦ inr z ])
-      ∙ ap (λ (m : ℕ). feedAll plan line (put r m (counted ps w n) (loaded ps w g)) rest) e
+      ∙ ap (λ (m : ℕ). feedAll plan line (readerWith r m (countRead ps w n) (loaded ps w g)) rest) e
   pieces-fed (number j ∷ ps) w r at n g cs rest f N q h o =
       let k = length (shown ps) in
       let v = w .0 in
       let J = fair-number j (fair ps) f in
       let p : drop (at + 16) plan ≡ shown ps ++ cs = sym (drop-drop 16 at plan) ∙ ap (drop 16) q in
       let e : at + 16 + k ≡ at + length (shown (number j ∷ ps)) = omega arith in
-      hex-field plan line (put r at n g) j v (shown ps ++ cs) (spelled ps (w .2) ++ rest) (w .1) J N q (omega (arith, e, h)) (elim o [ inl z ↦ inl (omega (arith, e, z)) | inr z ↦ inr (z .0) ])
+      hex-field plan line (readerWith r at n g) j v (shown ps ++ cs) (spelled ps (w .2) ++ rest) (w .1) J N q (omega (arith, e, h)) (elim o [ inl z ↦ inl (omega (arith, e, z)) | inr z ↦ inr (z .0) ])
       ∙ pieces-fed ps (w .2) r (at + 16) n (set g j v) cs rest (and-r (ltb j 10) (fair ps) f) (length-set g j v ∙ N) p (omega (arith, e, h)) (elim o [ inl z ↦ inl (omega (arith, e, z)) | inr z ↦ inr z ])
-      ∙ ap (λ (m : ℕ). feedAll plan line (put r m (counted ps (w .2) n) (loaded ps (w .2) (set g j v))) rest) e
+      ∙ ap (λ (m : ℕ). feedAll plan line (readerWith r m (countRead ps (w .2) n) (loaded ps (w .2) (set g j v))) rest) e
   pieces-fed (flagged j ∷ ps) w r at n g cs rest f N q h o =
       let k = length (shown ps) in
       let v = bitOf (w .0) in
       let J = fair-number j (fair ps) f in
       let p = here plan at (75 + j) (shown ps ++ cs) q in
       let e : suc at + k ≡ at + suc k = suc-add at k ∙ sym (add-suc at k) in
-      ap (feedAll plan line (put r at n g)) (append-assoc (flag (w .0)) (spelled ps (w .1)) rest)
-      ∙ flag-field plan line (put r at n g) j (w .0) (spelled ps (w .1) ++ rest) J (p .0) (omega (arith, e, h)) (elim o [ inl z ↦ inl (omega (arith, e, z)) | inr z ↦ inr (z .0) ])
+      ap (feedAll plan line (readerWith r at n g)) (append-assoc (flagField (w .0)) (spelled ps (w .1)) rest)
+      ∙ flag-field plan line (readerWith r at n g) j (w .0) (spelled ps (w .1) ++ rest) J (p .0) (omega (arith, e, h)) (elim o [ inl z ↦ inl (omega (arith, e, z)) | inr z ↦ inr (z .0) ])
       ∙ pieces-fed ps (w .1) r (suc at) n (set g j v) cs rest (and-r (ltb j 10) (fair ps) f) (length-set g j v ∙ N) (p .1) (omega (arith, e, h)) (elim o [ inl z ↦ inl (omega (arith, e, z)) | inr z ↦ inr z ])
-      ∙ ap (λ (m : ℕ). feedAll plan line (put r m (counted ps (w .1) n) (loaded ps (w .1) (set g j v))) rest) e
+      ∙ ap (λ (m : ℕ). feedAll plan line (readerWith r m (countRead ps (w .1) n) (loaded ps (w .1) (set g j v))) rest) e
   pieces-fed (count ∷ ps) w r at n g cs rest f N q h (inr z) = absurd (z .1)
   pieces-fed (count ∷ ps) w r at n g cs rest f N q h (inl z) =
       let k = length (shown ps) in
       let p = here plan at 35 (43 ∷ (shown ps ++ cs)) q in
       let p' = here plan (suc at) 43 (shown ps ++ cs) (p .1) in
       let e : suc (suc at) + k ≡ at + suc (suc k) = omega arith in
-      ap (feedAll plan line (put r at n g)) (append-assoc (decimal (w .0)) (13 ∷ spelled ps (w .2)) rest)
-      ∙ decimal-field plan line (put r at n g) (w .0) (spelled ps (w .2) ++ rest) (p .0) (p' .0) (omega (arith, e, h)) (omega (arith, e, z)) (w .1)
+      ap (feedAll plan line (readerWith r at n g)) (append-assoc (decimal (w .0)) (13 ∷ spelled ps (w .2)) rest)
+      ∙ decimal-field plan line (readerWith r at n g) (w .0) (spelled ps (w .2) ++ rest) (p .0) (p' .0) (omega (arith, e, h)) (omega (arith, e, z)) (w .1)
       ∙ pieces-fed ps (w .2) r (suc (suc at)) (w .0) g cs rest f N (p' .1) (omega (arith, e, h)) (inl (omega (arith, e, z)))
-      ∙ ap (λ (m : ℕ). feedAll plan line (put r m (counted ps (w .2) (w .0)) (loaded ps (w .2) g)) rest) e
+      ∙ ap (λ (m : ℕ). feedAll plan line (readerWith r m (countRead ps (w .2) (w .0)) (loaded ps (w .2) g)) rest) e
 
 -- ---- the lines, and the whole text
 module _ {plan : List ℕ} {line : ℕ} (f : Form plan line) where
@@ -120,20 +120,20 @@ module _ {plan : List ℕ} {line : ℕ} (f : Form plan line) where
   unfolding matchedOf
   matched-end r h o = simp (eq-eqb (f .end) (f .end) refl) (step-on plan line r h o)
 
-  pub end-fed : (r : Reader) (n : ℕ) (g : List ℕ) → r .seen < n → feedOf plan line (put r lastPlace n g) (f .end) ≡ nextOf line (put r lastPlace n g)
+  pub end-fed : (r : Reader) (n : ℕ) (g : List ℕ) → r .seen < n → feedOf plan line (readerWith r lastPlace n g) (f .end) ≡ nextOf line (readerWith r lastPlace n g)
   end-fed r n g o =
       let p = end-there in
       let l = p .1 in
-      plain-turn plan line (put r lastPlace n g) (f .end) (f .end) (f .end-plain) (here plan lastPlace (f .end) [] (p .0) .0) (omega (arith, l)) (inr o)
-      ∙ matched-end (put r lastPlace n g) l o
+      plain-turn plan line (readerWith r lastPlace n g) (f .end) (f .end) (f .end-plain) (here plan lastPlace (f .end) [] (p .0) .0) (omega (arith, l)) (inr o)
+      ∙ matched-end (readerWith r lastPlace n g) l o
 
   -- a line up to its last byte
   pub row-fed : (w : Values (f .row)) (r : Reader) (n : ℕ) (g rest : List ℕ) → length g ≡ 10 → r .seen < n
-      → feedAll plan line (put r line n g) (spelled (f .row) w ++ rest) ≡ feedAll plan line (put r lastPlace n (loaded (f .row) w g)) rest
+      → feedAll plan line (readerWith r line n g) (spelled (f .row) w ++ rest) ≡ feedAll plan line (readerWith r lastPlace n (loaded (f .row) w g)) rest
   row-fed w r n g rest N o =
       let l = end-there .1 in
       pieces-fed plan line (f .row) w r line n g (f .end ∷ []) rest (f .row-fair) N row-there (omega (arith, l)) (inr (o, f .row-uncounted))
-      ∙ ap (λ (m : ℕ). feedAll plan line (put r lastPlace m (loaded (f .row) w g)) rest) (counted-same (f .row) w n (f .row-uncounted))
+      ∙ ap (λ (m : ℕ). feedAll plan line (readerWith r lastPlace m (loaded (f .row) w g)) rest) (counted-same (f .row) w n (f .row-uncounted))
 
   -- a reader before a line
   abbrev pub before : ℕ → ℕ → List ℕ → Reader
@@ -156,15 +156,15 @@ module _ {plan : List ℕ} {line : ℕ} (f : Form plan line) where
   abbrev zeros : List ℕ
   zeros = replicate 10 0
 
-  pub head-fed : (w : Values (f .head)) (rest : List ℕ) → feedAll plan line startOf (spelled (f .head) w ++ rest) ≡ feedAll plan line (before (counted (f .head) w 0) 0 (loaded (f .head) w zeros)) rest
+  pub head-fed : (w : Values (f .head)) (rest : List ℕ) → feedAll plan line startOf (spelled (f .head) w ++ rest) ≡ feedAll plan line (before (countRead (f .head) w 0) 0 (loaded (f .head) w zeros)) rest
   head-fed w rest =
       let l = plan-length in
       let b = f .begins in
       let k = zero-add (length (shown (f .head))) in
       pieces-fed plan line (f .head) w startOf 0 0 zeros (shown (f .row) ++ (f .end ∷ [])) rest (f .head-fair) refl (f .shows) (omega (arith, l, b, k)) (inl (omega (arith, b, k)))
-      ∙ ap (λ (m : ℕ). feedAll plan line (put startOf m (counted (f .head) w 0) (loaded (f .head) w zeros)) rest) (k ∙ sym b)
+      ∙ ap (λ (m : ℕ). feedAll plan line (readerWith startOf m (countRead (f .head) w 0) (loaded (f .head) w zeros)) rest) (k ∙ sym b)
 
-  pub text-read : (w : Values (f .head)) (ws : List (Values (f .row))) → counted (f .head) w 0 ≡ length ws → feedAll plan line startOf (spelledText f w ws) ≡ heldOf f w ws
+  pub text-read : (w : Values (f .head)) (ws : List (Values (f .row))) → countRead (f .head) w 0 ≡ length ws → feedAll plan line startOf (spelledText f w ws) ≡ heldOf f w ws
   text-read w ws e =
       head-fed w (spelledRows f ws)
       ∙ ap (λ (n : ℕ). feedAll plan line (before n 0 (loaded (f .head) w zeros)) (spelledRows f ws)) e

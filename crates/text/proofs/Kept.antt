@@ -11,8 +11,8 @@ use lib.ListN.{length, getD, replicate}
 use borrow.Author.Tests.{lt-ltb, le-ltb}
 use Rattle.text.specs.declared.reader.Reader.{Reader}
 use Rattle.text.specs.Numerals.{hexVal}
-use Rattle.text.specs.Reading.{startOf, put, stuckOf, nextOf, steppedOf, hexedOf, flaggedOf, matchedOf, countedOf, firstOf, moreOf, wantedOf, feedOf, feedAll}
-use Rattle.text.specs.Plan.{Values, spelled, loaded, counted, Form, spelledRows, spelledText}
+use Rattle.text.specs.Reading.{startOf, readerWith, stuckOf, nextOf, steppedOf, hexedOf, flaggedOf, matchedOf, countedOf, firstOf, moreOf, wantedOf, feedOf, feedAll}
+use Rattle.text.specs.Plan.{Values, spelled, loaded, countRead, Form, spelledRows, spelledText}
 use Rattle.text.proofs.Forward.{loaded-length, lastPlace, end-fed, row-fed, before, head-fed}
 
 -- ---- the lines ended never fall
@@ -24,7 +24,7 @@ either true p q = p
 either false p q = q
 
 -- the same number of lines at another place, with another n and other numbers
-up-put : {k : ℕ} {r : Reader} (at n : ℕ) (g : List ℕ) → Up k r → Up k (put r at n g)
+up-put : {k : ℕ} {r : Reader} (at n : ℕ) (g : List ℕ) → Up k r → Up k (readerWith r at n g)
 up-put at n g h = record { up = h .up }
 
 up-stuck : {k : ℕ} {r : Reader} → Up k r → Up k (stuckOf r)
@@ -127,7 +127,7 @@ module _ {plan : List ℕ} {line : ℕ} (f : Form plan line) {A : Type 0} (keep 
   line-kept w n seen g rest a N o =
       let r = before f n seen g in
       let g' = loaded (f .row) w g in
-      let q = put r (lastPlace f) n g' in
+      let q = readerWith r (lastPlace f) n g' in
       let up : seen < seen + 1 = omega arith in
       quiet-then plan line keep (spelled (f .row) w) (f .end ∷ rest) r q a (ap (feedAll plan line r) (sym (append-nil (spelled (f .row) w))) ∙ row-fed f w r n g [] N o) refl
       ∙ ap (λ (z : Reader). keptAll plan line keep z (keptOf plan line keep q z a) rest) (end-fed f r n g' o)
@@ -141,10 +141,10 @@ module _ {plan : List ℕ} {line : ℕ} (f : Form plan line) {A : Type 0} (keep 
       let m : suc seen + length ws ≡ n = suc-add seen (length ws) ∙ sym (add-suc seen (length ws)) ∙ e in
       line-kept w n seen g (spelledRows f ws) a N (omega (arith, m)) ∙ rows-kept ws n (suc seen) (loaded (f .row) w g) (keep seen (loaded (f .row) w g) a) (loaded-length (f .row) w g N) m
 
-  pub text-kept : (w : Values (f .head)) (ws : List (Values (f .row))) (a : A) → counted (f .head) w 0 ≡ length ws
+  pub text-kept : (w : Values (f .head)) (ws : List (Values (f .row))) (a : A) → countRead (f .head) w 0 ≡ length ws
       → keptAll plan line keep startOf a (spelledText f w ws) ≡ keptRows ws 0 (loaded (f .head) w (replicate 10 0)) a
   text-kept w ws a e =
       let g = loaded (f .head) w (replicate 10 0) in
-      let q = before f (counted (f .head) w 0) 0 g in
+      let q = before f (countRead (f .head) w 0) 0 g in
       quiet-then plan line keep (spelled (f .head) w) (spelledRows f ws) startOf q a (ap (feedAll plan line startOf) (sym (append-nil (spelled (f .head) w))) ∙ head-fed f w []) refl
-      ∙ rows-kept ws (counted (f .head) w 0) 0 g a (loaded-length (f .head) w (replicate 10 0) refl) (zero-add (length ws) ∙ sym e)
+      ∙ rows-kept ws (countRead (f .head) w 0) 0 g a (loaded-length (f .head) w (replicate 10 0) refl) (zero-add (length ws) ∙ sym e)

@@ -11,7 +11,7 @@ use lib.ListN.{length, getD, drop, set}
 use borrow.Author.Tests.{lt-ltb, le-ltb, le-leb, lt-leb, ne-eqb, eq-eqb}
 use Rattle.text.specs.declared.reader.Reader.{Reader}
 use Rattle.text.specs.Numerals.{hexVal, Word}
-use Rattle.text.specs.Reading.{put, stuckOf, nextOf, steppedOf, shifted, numberedOf, hexedOf, flaggedOf, matchedOf, firstOf, moreOf, wantedOf, feedOf}
+use Rattle.text.specs.Reading.{readerWith, stuckOf, nextOf, steppedOf, shifted, numberedOf, hexedOf, flaggedOf, matchedOf, firstOf, moreOf, wantedOf, feedOf}
 use Rattle.text.specs.Plan.{plain}
 use Rattle.text.proofs.Turns.{hexed-good}
 
@@ -51,9 +51,9 @@ module _ (plan : List ℕ) (line : ℕ) where
       most : (k : ℕ) → k < 18446744073709551616 → k ≤ 18446744073709551615
       most k h = omega arith
 
-  pub step-in : (r : Reader) → suc (r .at) < length plan → steppedOf last line r ≡ put r (suc (r .at)) (r .n) (r .numbers)
+  pub step-in : (r : Reader) → suc (r .at) < length plan → steppedOf last line r ≡ readerWith r (suc (r .at)) (r .n) (r .numbers)
   unfolding steppedOf
-  step-in r h = simp (lt-ltb (r .at) last (omega arith)) (ap (λ (k : ℕ). put r k (r .n) (r .numbers)) (add-one (r .at)))
+  step-in r h = simp (lt-ltb (r .at) last (omega arith)) (ap (λ (k : ℕ). readerWith r k (r .n) (r .numbers)) (add-one (r .at)))
 
   -- from the plan's last place to the next line, where one is wanted
   pub step-on : (r : Reader) → suc (r .at) ≡ length plan → r .seen < r .n → steppedOf last line r ≡ nextOf line r
@@ -73,7 +73,7 @@ module _ (plan : List ℕ) (line : ℕ) where
 
   -- a digit d of number j
   pub hex-fed : (r : Reader) (b j d : ℕ) → d ≡ hexVal b → j < 10 → d < 16 → getD plan (r .at) 0 ≡ 65 + j → suc (r .at) < length plan → Open r (r .at)
-      → feedOf plan line r b ≡ put r (suc (r .at)) (r .n) (set (r .numbers) j (shifted (getD (r .numbers) j 0) d))
+      → feedOf plan line r b ≡ readerWith r (suc (r .at)) (r .n) (set (r .numbers) j (shifted (getD (r .numbers) j 0) d))
   hex-fed r b j d v J D e h o =
       hex-turn r b j J e (omega arith) o ∙ sym (hexed-good last line r b j d v D) ∙ step-in (numberedOf r j (shifted (getD (r .numbers) j 0) d)) h
 

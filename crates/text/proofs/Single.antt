@@ -8,7 +8,7 @@ use native.Mathlib.Omega.{arith}
 use lib.Dec.{ltb, lit<}
 use lib.ListN.{getD, drop}
 use Rattle.text.specs.Numerals.{glyph, hexVal, spell, hex, decimal, Word}
-use Rattle.text.specs.Lines.{flag}
+use Rattle.text.specs.Lines.{flagField}
 use Rattle.text.proofs.HexDigits.{val-glyph}
 use Rattle.text.proofs.DecimalDigits.{shown, shown-is, digits-of}
 
@@ -39,7 +39,7 @@ glyph-big d = go (ltb d 10)
     go false = omega arith
 
 -- ---- flags, and decimal numbers
-pub flag-split : (p q : Bool) (s t : List ℕ) → flag p ++ (44 ∷ s) ≡ flag q ++ (44 ∷ t) → (p ≡ q) × (s ≡ t)
+pub flag-split : (p q : Bool) (s t : List ℕ) → flagField p ++ (44 ∷ s) ≡ flagField q ++ (44 ∷ t) → (p ≡ q) × (s ≡ t)
 flag-split false false s t e = (refl, ap (drop 2) e)
 flag-split true true s t e = (refl, ap (drop 2) e)
 flag-split false true s t e = absurd (let z : _≡_ {A = ℕ} 48 49 = ap (λ (l : List ℕ). getD l 0 0) e in omega arith)

@@ -11,9 +11,9 @@ line (f ∷ []) = f ++ bytes "\r\n"
 line (f ∷ g ∷ fs) = f ++ (bytes "," ++ line (g ∷ fs))
 
 -- a flag, as a field and as a number
-abbrev pub flag : Bool → List ℕ
-flag false = bytes "0"
-flag true = bytes "1"
+abbrev pub flagField : Bool → List ℕ
+flagField false = bytes "0"
+flagField true = bytes "1"
 
 abbrev pub bitOf : Bool → ℕ
 bitOf false = 0

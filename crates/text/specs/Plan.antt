@@ -9,7 +9,7 @@ use lib.ListN.{length, set, replicate}
 use Rattle.text.specs.declared.reader.Reader.{Reader}
 use Rattle.text.specs.Bytes.{bytes}
 use Rattle.text.specs.Numerals.{hex, decimal, Word}
-use Rattle.text.specs.Lines.{flag, bitOf}
+use Rattle.text.specs.Lines.{flagField, bitOf}
 
 -- a byte that stands for itself, the sixteen digits of number j, a flag that is number j, or n and the CR after it
 pub data Piece : Type 0 where
@@ -44,7 +44,7 @@ abbrev pub spelled : (ps : List Piece) → Values ps → List ℕ
 spelled [] w = []
 spelled (mark c ∷ ps) w = c ∷ spelled ps w
 spelled (number j ∷ ps) w = hex (w .0) ++ spelled ps (w .2)
-spelled (flagged j ∷ ps) w = flag (w .0) ++ spelled ps (w .1)
+spelled (flagged j ∷ ps) w = flagField (w .0) ++ spelled ps (w .1)
 spelled (count ∷ ps) w = decimal (w .0) ++ (13 ∷ spelled ps (w .2))
 
 -- the numbers after them, and n
@@ -55,12 +55,12 @@ loaded (number j ∷ ps) w g = loaded ps (w .2) (set g j (w .0))
 loaded (flagged j ∷ ps) w g = loaded ps (w .1) (set g j (bitOf (w .0)))
 loaded (count ∷ ps) w g = loaded ps (w .2) g
 
-abbrev pub counted : (ps : List Piece) → Values ps → ℕ → ℕ
-counted [] w n = n
-counted (mark c ∷ ps) w n = counted ps w n
-counted (number j ∷ ps) w n = counted ps (w .2) n
-counted (flagged j ∷ ps) w n = counted ps (w .1) n
-counted (count ∷ ps) w n = counted ps (w .2) (w .0)
+abbrev pub countRead : (ps : List Piece) → Values ps → ℕ → ℕ
+countRead [] w n = n
+countRead (mark c ∷ ps) w n = countRead ps w n
+countRead (number j ∷ ps) w n = countRead ps (w .2) n
+countRead (flagged j ∷ ps) w n = countRead ps (w .1) n
+countRead (count ∷ ps) w n = countRead ps (w .2) (w .0)
 
 -- a byte that is none of the plan's letters
 abbrev pub plain : ℕ → Bool
@@ -110,7 +110,7 @@ module _ {plan : List ℕ} {line : ℕ} (f : Form plan line) where
 
   -- s is such a text, of as many lines as it says: the CR LF of the last may be missing
   abbrev pub Spells : List ℕ → Values (f .head) → List (Values (f .row)) → Type 0
-  Spells s w ws = (counted (f .head) w 0 ≡ length ws) × ((s ≡ spelledText w ws) ⊎ (s ++ bytes "\r\n" ≡ spelledText w ws))
+  Spells s w ws = (countRead (f .head) w 0 ≡ length ws) × ((s ≡ spelledText w ws) ⊎ (s ++ bytes "\r\n" ≡ spelledText w ws))
 
   -- what the reader holds after it
   abbrev pub heldOf : Values (f .head) → List (Values (f .row)) → Reader

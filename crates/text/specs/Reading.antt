@@ -12,12 +12,12 @@ abbrev pub startOf : Reader
 startOf = record { at = 0; n = 0; seen = 0; numbers = replicate 10 0 }
 
 -- the reader at another place, with another n and other numbers
-abbrev pub put : Reader → ℕ → ℕ → List ℕ → Reader
-put r at n numbers = record { at = at; n = n; seen = r .seen; numbers = numbers }
+abbrev pub readerWith : Reader → ℕ → ℕ → List ℕ → Reader
+readerWith r at n numbers = record { at = at; n = n; seen = r .seen; numbers = numbers }
 
 -- past every plan: where a reader stays that met a byte that it did not want
 abbrev pub stuckOf : Reader → Reader
-stuckOf r = put r 18446744073709551615 (r .n) (r .numbers)
+stuckOf r = readerWith r 18446744073709551615 (r .n) (r .numbers)
 
 -- on to the next line
 abbrev pub nextOf : ℕ → Reader → Reader
@@ -25,10 +25,10 @@ nextOf line r = record { at = line; n = r .n; seen = r .seen + 1; numbers = r .n
 
 -- on to the next place
 unfoldable pub steppedOf : ℕ → ℕ → Reader → Reader
-steppedOf last line r = cond (ltb (r .at) last) (put r (r .at + 1) (r .n) (r .numbers)) (cond (leb (r .n) (r .seen)) (stuckOf r) (nextOf line r))
+steppedOf last line r = cond (ltb (r .at) last) (readerWith r (r .at + 1) (r .n) (r .numbers)) (cond (leb (r .n) (r .seen)) (stuckOf r) (nextOf line r))
 
 abbrev pub numberedOf : Reader → ℕ → ℕ → Reader
-numberedOf r j v = put r (r .at) (r .n) (set (r .numbers) j v)
+numberedOf r j v = readerWith r (r .at) (r .n) (set (r .numbers) j v)
 
 -- one more digit. (The top digit of a full number falls out.)
 abbrev pub shifted : ℕ → ℕ → ℕ
@@ -45,10 +45,10 @@ matchedOf last line r b want = cond (eqb b want) (steppedOf last line r) (stuckO
 
 -- one more digit of n, where that fits 64 bits
 unfoldable pub countedOf : Reader → ℕ → Reader
-countedOf r d = cond (ltb ((18446744073709551615 - d) / 10) (r .n)) (stuckOf r) (put r (r .at) (r .n * 10 + d) (r .numbers))
+countedOf r d = cond (ltb ((18446744073709551615 - d) / 10) (r .n)) (stuckOf r) (readerWith r (r .at) (r .n * 10 + d) (r .numbers))
 
 unfoldable pub firstOf : ℕ → ℕ → Reader → ℕ → Reader
-firstOf last line r b = cond (ltb b 48) (stuckOf r) (cond (ltb 57 b) (stuckOf r) (steppedOf last line (put r (r .at) (b - 48) (r .numbers))))
+firstOf last line r b = cond (ltb b 48) (stuckOf r) (cond (ltb 57 b) (stuckOf r) (steppedOf last line (readerWith r (r .at) (b - 48) (r .numbers))))
 
 unfoldable pub moreOf : ℕ → ℕ → Reader → ℕ → Reader
 moreOf last line r b =

@@ -5,14 +5,14 @@ use mathlib.Core.List.{[]}
 use native.Mathlib.Omega.{arith}
 use Rattle.pipes.specs.Reads.{spent}
 use Rattle.listing_text.specs.Reading.{startOf}
-use Rattle.listing.specs.Turns.{Turned, most}
+use Rattle.listing.specs.Turns.{Turned, mostReads}
 use Rattle.listing.proofs.TurnLaws.{turned-then, turned-most}
 use borrow.Author.Needs.{needs}
 use Rattle.listing.proofs.read_all.Statement.{statement}
 use Rattle.listing.proofs.read_all.Tie as tie
 
 abbrev Inv-loop : tie.InvT-loop
-Inv-loop turn₀ turns₀ turn turns = (done : ℕ) × (done + turns ≡ most) × Turned done startOf turn
+Inv-loop turn₀ turns₀ turn turns = (done : ℕ) × (done + turns ≡ mostReads) × Turned done startOf turn
 
 abbrev μ-loop : tie.MeasureT-loop
 μ-loop turn₀ turns₀ turn turns = turns
@@ -39,7 +39,7 @@ returns : tie.Need-returns Inv-loop μ-loop
 returns c = let i = c .before .before .loop .inv in turned-most (i .2) (c .if1 .left) (omega (arith, i .1))
 
 returns-2 : tie.Need-returns-2 Inv-loop μ-loop
-returns-2 c = let i = c .before .loop .inv in let e : i .0 ≡ most = omega (arith, i .1) in subst (λ (n : ℕ). Turned n startOf (c .before .loop .turn)) e (i .2)
+returns-2 c = let i = c .before .loop .inv in let e : i .0 ≡ mostReads = omega (arith, i .1) in subst (λ (n : ℕ). Turned n startOf (c .before .loop .turn)) e (i .2)
 
 pub read-all-spec : {M : Type 1} → statement M
 read-all-spec =

@@ -2,7 +2,7 @@ use borrow.Rule.Slice.PartMut.{mid-len}
 use Prim.Native.Nat.{_<_, _≤_}
 use mathlib.Core.Path.{subst}
 use lib.ListN.{getD}
-use Rattle.model.specs.Sizes.{memberRoom, homeRoom}
+use Rattle.layout.specs.Widths.{homeRoom, memberRoom}
 use Rattle.model.specs.State.{none}
 use Rattle.tables.proofs.ListLaws.{Within, home-in, member-in, member-part}
 use Rattle.acts.proofs.LinkLaws.{member-more, home-more, enter-listed, enter-full, enter-crowded, enter-done}

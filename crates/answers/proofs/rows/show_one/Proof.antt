@@ -1,7 +1,7 @@
 -- `show_one`: five places are written. Assumes nothing.
 use lib.ListN.{length-set}
 use Rattle.tables.specs.Decode.{grainAt}
-use Rattle.answers.specs.Answer.{shown}
+use Rattle.answers.specs.Answer.{shownGrain}
 use Rattle.answers.proofs.RowLaws.{five-set}
 use native.Mathlib.Omega.{arith}
 use borrow.Author.Needs.{needs}
@@ -62,7 +62,7 @@ returns c =
     let c8 = c4 .before .before .before .before in
     let c12 = c8 .before .before .before .before in
     rw (c8 .bits-of-float .ensures, c .before .before .before .before .before .before .bits-of-float2 .ensures, c4 .bits-of-float3 .ensures, c .before .before .bits-of-float4 .ensures, c .bits-of-float5 .ensures)
-    (five-set (c12 .args .bits .now) (shown (grainAt (c12 .args .grains .now))) (c12 .pre .1))
+    (five-set (c12 .args .bits .now) (shownGrain (grainAt (c12 .args .grains .now))) (c12 .pre .1))
 
 pub show-one-spec : {M : Type 1} → statement M
 show-one-spec =

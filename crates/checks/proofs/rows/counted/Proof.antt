@@ -2,7 +2,7 @@ use mathlib.Core.Path.{_≡_}
 use mathlib.Core.Bool.{Bool, true, false}
 use Prim.Native.Nat.{_*_, _≤_, _-_}
 use lib.ListN.{length}
-use Rattle.checks.specs.Check.{counted}
+use Rattle.checks.specs.Check.{countsWithin}
 use Rattle.chunks.proofs.Laws.{some, tail-long}
 use Rattle.checks.proofs.Cut.{less-rows, rest-long, counted-none, counted-no, counted-more}
 use native.Mathlib.Omega.{arith}
@@ -11,7 +11,7 @@ use Rattle.checks.proofs.rows.counted.Statement.{statement}
 use Rattle.checks.proofs.rows.counted.Tie as tie
 
 abbrev Inv-loop : tie.InvT-loop
-Inv-loop rows v w n rest₀ left₀ rest left = (left * w ≤ length rest) × (length rest ≤ length rows) × ((r : Bool) → r ≡ counted v w left rest → r ≡ counted v w n rows)
+Inv-loop rows v w n rest₀ left₀ rest left = (left * w ≤ length rest) × (length rest ≤ length rows) × ((r : Bool) → r ≡ countsWithin v w left rest → r ≡ countsWithin v w n rows)
 
 abbrev μ-loop : tie.MeasureT-loop
 μ-loop rows v w n rest₀ left₀ rest left = left

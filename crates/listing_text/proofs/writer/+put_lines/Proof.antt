@@ -5,7 +5,7 @@ use native.Mathlib.Omega.{arith}
 use borrow.Author.Needs.{needs}
 use borrow.Fn.Kinds.{In}
 use borrow.Fn.PlainCycle.{Measures, is, falls, and}
-use Rattle.listing_text.specs.Rows.{grainAt}
+use Rattle.listing_text.specs.Rows.{rowGrain}
 use Rattle.text.proofs.Putting.{put-length}
 use Rattle.listing_text.proofs.Putting.{line-short, lines-none, lines-more}
 use Rattle.listing_text.proofs.writer.+put_lines.{statement}
@@ -43,7 +43,7 @@ put-lines-put-lines-requires : (t : ℕ) → put-lines-lts.Need-put-lines-requir
 put-lines-put-lines-requires t c κs =
     let c3 = c .before .before .before in
     let c8 = c3 .before .before .before .before .before in
-    (omega arith, (omega (arith, put-length (c3 .put-line .ensures), c3 .put-line .ensures .place, line-short (c8 .args .time) (c8 .args .i) (grainAt (c8 .args .numbers .now) (c8 .args .i)) (omega arith)), omega arith, omega arith))
+    (omega arith, (omega (arith, put-length (c3 .put-line .ensures), c3 .put-line .ensures .place, line-short (c8 .args .time) (c8 .args .i) (rowGrain (c8 .args .numbers .now) (c8 .args .i)) (omega arith)), omega arith, omega arith))
 
 put-lines-same-length : (t : ℕ) → put-lines-lts.Need-same-length (Rd t) (put-lines-at t) put-lines.Post
 put-lines-same-length t c = put-length (c .before .before .put-lines .ensures) ∙ put-length (c .before .before .before .before .before .before .put-line .ensures)

@@ -3,7 +3,7 @@ use mathlib.Core.Path.{_∙_}
 use native.Mathlib.Omega.{arith}
 use lib.ListN.{length-set}
 use borrow.Author.Needs.{needs}
-use Rattle.listing_text.specs.Rows.{grainAt}
+use Rattle.listing_text.specs.Rows.{rowGrain}
 use Rattle.text.proofs.Putting.{put-length, decimal-most}
 use Rattle.listing_text.proofs.Putting.{line-put}
 use Rattle.listing_text.proofs.writer.put_line.Statement.{statement}
@@ -55,7 +55,7 @@ returns c =
     let a = c14 .args in
     let f = c10 .put-field .ensures in
     let d = c6 .put-decimal .ensures in
-    line-put (a .time) (a .i) (grainAt (a .numbers .now) (a .i)) f d (omega (arith, put-length f, f .place, put-length d, d .place, decimal-most 2 (a .i) (c14 .pre .2))) (c2 .put-grain .ensures)
+    line-put (a .time) (a .i) (rowGrain (a .numbers .now) (a .i)) f d (omega (arith, put-length f, f .place, put-length d, d .place, decimal-most 2 (a .i) (c14 .pre .2))) (c2 .put-grain .ensures)
 
 pub put-line-spec : {M : Type 1} → statement M
 put-line-spec =

@@ -1,7 +1,7 @@
--- `counts_ok` meets its contract. Assumes nothing.
+-- `counts::counts_ok` meets its contract. Assumes nothing.
 use borrow.Author.Tests.{le-leb, lt-leb}
-use Rattle.checks.proofs.counts_ok.Statement.{statement}
-use Rattle.checks.proofs.counts_ok.Tie as tie
+use Rattle.checks.proofs.counts.counts_ok.Statement.{statement}
+use Rattle.checks.proofs.counts.counts_ok.Tie as tie
 
 returns : tie.Need-returns
 returns c = rw (lt-leb _ _ (c .if1 .taken))
