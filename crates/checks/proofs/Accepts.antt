@@ -9,6 +9,7 @@ use lib.ListN.{getD, drop}
 use lib.Seq.{getD-drop}
 use lib.Ieee.{Float, nan, binary64, fits}
 use borrow.Author.Tests.{le-leb}
+use Rattle.layout.specs.Widths.{grainWide, queueWide, eventsWide}
 use Rattle.model.specs.declared.Place.{Place}
 use Rattle.model.specs.Sizes.{rated}
 use Rattle.model.specs.State.{none}
@@ -46,7 +47,7 @@ queues-timed : (room n : ℕ) (q : List ℕ) (e : List Float) (c : ℕ) → AllF
 unfolding cutBoth
 queues-timed room zero q e c f = tt
 queues-timed room (suc n) q e zero f = all-take Timed (placesOf room (drop 1 q) e) (getD q 0 0) (places-timed room (drop 1 q) e f)
-queues-timed room (suc n) q e (suc c) f = queues-timed room n (drop (room * 4 + 1) q) (drop (room * 10) e) c (fits-drop (room * 10) e f)
+queues-timed room (suc n) q e (suc c) f = queues-timed room n (drop (queueWide room) q) (drop (eventsWide room) e) c (fits-drop (eventsWide room) e f)
 
 pub fitted : (t : Tables) → Floats t → Fitted (decoded t)
 fitted t f = record { clock = f .grains-fit 2; times = λ c. queues-timed ((sizesOf (t .lists)) .room) ((sizesOf (t .lists)) .cells) (t .queue) (t .events) c (f .events-fit) }
@@ -99,7 +100,7 @@ sized-model t e =
     let z = sizesOf (t .lists) in
     let S = sized-means t e in
     rw (
-      ap (λ (n : ℕ). leb n 256) (cut-long grainAt 6 (z .grains) (grainsPart (t .grains))) ∙ le-leb (z .grains) 256 (S .grains-most),
+      ap (λ (n : ℕ). leb n 256) (cut-long grainAt grainWide (z .grains) (grainsPart (t .grains))) ∙ le-leb (z .grains) 256 (S .grains-most),
       le-leb 16 (z .room) (S .room-least),
       le-leb (z .room) 256 (S .room-most),
       le-leb 9 (z .cells) (S .cells-least),

@@ -8,6 +8,7 @@ use mathlib.Core.Bool.{Bool, true, _&&_}
 use lib.ListN.{length, getD, drop}
 use lib.Seq.{drop-at}
 use borrow.Author.Tests.{le-leb}
+use Rattle.layout.specs.Widths.{homeRoom, memberRoom, homeWide, membersWide, queueWide}
 use Rattle.halting.specs.Every.{All}
 use Rattle.chunks.specs.Flat.{flat}
 use Rattle.model.specs.Grid.{cells}
@@ -48,8 +49,8 @@ module _ (z : Sizes) (t : Tables) (s : State) (H : Hold z t s) where
       rw (
         le-leb (getD (t .lists) 4 0) 1 (H .flags .0),
         le-leb (getD (t .lists) 5 0) 1 (H .flags .1),
-        ap (countsWithin 8 9 (z .grains)) (lists-cut z t s H) ∙ rows-counted 8 (s .homes) _ (H .body .listed .homes),
-        ap (countsWithin 32 33 (z .cells)) (members-cut z t s H) ∙ rows-counted 32 (s .members) _ (H .body .listed .members),
-        ap (countsWithin room (room * 4 + 1) (z .cells)) (queue-cut z t s H)
-            ∙ counted-flat queueNums room (room * 4 + 1) (Good room) (λ r g. row-nums-long room r (g .full)) (λ r y g. live-few r (g .full)) (z .cells) (s .queues) (drop (queueNeed z) (t .queue)) (H .body .queued .tables .many) (H .body .queued .tables .good),
+        ap (countsWithin homeRoom homeWide (z .grains)) (lists-cut z t s H) ∙ rows-counted homeRoom (s .homes) _ (H .body .listed .homes),
+        ap (countsWithin memberRoom membersWide (z .cells)) (members-cut z t s H) ∙ rows-counted memberRoom (s .members) _ (H .body .listed .members),
+        ap (countsWithin room (queueWide room) (z .cells)) (queue-cut z t s H)
+            ∙ counted-flat queueNums room (queueWide room) (Good room) (λ r g. row-nums-long room r (g .full)) (λ r y g. live-few r (g .full)) (z .cells) (s .queues) (drop (queueNeed z) (t .queue)) (H .body .queued .tables .many) (H .body .queued .tables .good),
       )

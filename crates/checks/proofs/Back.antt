@@ -8,6 +8,7 @@ use mathlib.Core.List.{List, [], _∷_, _++_, append-assoc}
 use lib.ListN.{length, take, drop, take-append-drop}
 use lib.Seq.{take-at, drop-at, drop-drop}
 use lib.Ieee.{Float}
+use Rattle.layout.specs.Widths.{listsHeadWide, grainsHeadWide, grainWide, homeRoom, memberRoom, homeFrom, placeNumsWide, placeRealsWide, queueWide, eventsWide, heapWide, orderWide}
 use Rattle.halting.specs.Every.{All}
 use Rattle.halting.proofs.All.{all-to, all-always}
 use Rattle.chunks.specs.Flat.{flat}
@@ -62,7 +63,7 @@ nums-back : (v : ℕ) (r : Row ℕ) (y : List ℕ) → length (rowNums r) ≡ v 
 nums-back v r y e = ap (rowOf (length (r .live))) (take-at (places r) y v (let a = add-one v in omega arith)) ∙ row-back r
 
 places-back : (n : ℕ) (ps : List Place) (y : List ℕ) (z : List Float) → length ps ≡ n → placesOf n (flat placeNums ps ++ y) (flat placeReals ps ++ z) ≡ ps
-places-back n ps y z e = both-back placeAt placeNums placeReals 4 10 (λ p. Unit {0}) (λ x u. refl) (λ x u. refl) (λ x y z u. refl) n ps y z e (all-always (λ p. Unit {0}) (λ p. tt) ps)
+places-back n ps y z e = both-back placeAt placeNums placeReals placeNumsWide placeRealsWide (λ p. Unit {0}) (λ x u. refl) (λ x u. refl) (λ x y z u. refl) n ps y z e (all-always (λ p. Unit {0}) (λ p. tt) ps)
 
 queue-back : (room : ℕ) (r : Row Place) → length (places r) ≡ room → (y : List ℕ) (z : List Float) → queueAt room (queueNums r ++ y) (queueReals r ++ z) ≡ r
 queue-back room r f y z = ap (rowOf (length (r .live))) (places-back room (places r) y z f) ∙ row-back r
@@ -75,23 +76,23 @@ rows-back : (k : ℕ) {m n : ℕ} (rs : List (Row ℕ)) (y : List ℕ) → Rows 
 rows-back k {m = m} rs y R = cut-back (rowAt k) rowNums (k + 1) (nums-back k) m rs y (R .many) (row-wide k rs (R .wide))
 
 grains-back : (n : ℕ) (gs : List Particle) (y : List Float) → length gs ≡ n → grainsOf n (flat grainReals gs ++ y) ≡ gs
-grains-back n gs y e = cut-back grainAt grainReals 6 (λ p y e. refl) n gs y e (all-always (λ (p : Particle). length (grainReals p) ≡ 6) (λ p. refl) gs)
+grains-back n gs y e = cut-back grainAt grainReals grainWide (λ p y e. refl) n gs y e (all-always (λ (p : Particle). length (grainReals p) ≡ grainWide) (λ p. refl) gs)
 
 queues-back : (room n : ℕ) (qs : List (Row Place)) (y : List ℕ) (z : List Float) → length qs ≡ n → All (Good room) qs → queuesOf room n (flat queueNums qs ++ y) (flat queueReals qs ++ z) ≡ qs
 queues-back room n qs y z e f =
-    both-back (queueAt room) queueNums queueReals (room * 4 + 1) (room * 10) (Good room) (λ r g. row-nums-long room r (g .full)) (λ r g. row-reals-long room r (g .full)) (λ r y z g. queue-back room r (g .full) y z) n qs y z e f
+    both-back (queueAt room) queueNums queueReals (queueWide room) (eventsWide room) (Good room) (λ r g. row-nums-long room r (g .full)) (λ r g. row-reals-long room r (g .full)) (λ r y z g. queue-back room r (g .full) y z) n qs y z e f
 
-scheduler-back : (n : ℕ) (o : List ℕ) (h : Scheduler) → take 512 o ≡ h .heap ++ h .lookups → length (h .heap) ≡ 256 → length (h .lookups) ≡ 256 → h .cells ≡ n → schedulerOf n o ≡ h
+scheduler-back : (n : ℕ) (o : List ℕ) (h : Scheduler) → take orderWide o ≡ h .heap ++ h .lookups → length (h .heap) ≡ 256 → length (h .lookups) ≡ 256 → h .cells ≡ n → schedulerOf n o ≡ h
 scheduler-back n o h e a b c = same first second (sym c)
   where
-    cut-up : o ≡ h .heap ++ (h .lookups ++ drop 512 o)
-    cut-up = sym (take-append-drop 512 o) ∙ ap (λ (l : List ℕ). l ++ drop 512 o) e ∙ append-assoc (h .heap) (h .lookups) (drop 512 o)
+    cut-up : o ≡ h .heap ++ (h .lookups ++ drop orderWide o)
+    cut-up = sym (take-append-drop orderWide o) ∙ ap (λ (l : List ℕ). l ++ drop orderWide o) e ∙ append-assoc (h .heap) (h .lookups) (drop orderWide o)
 
-    first : take 256 o ≡ h .heap
-    first = ap (take 256) cut-up ∙ take-at (h .heap) (h .lookups ++ drop 512 o) 256 a
+    first : take heapWide o ≡ h .heap
+    first = ap (take heapWide) cut-up ∙ take-at (h .heap) (h .lookups ++ drop orderWide o) 256 a
 
-    second : take 256 (drop 256 o) ≡ h .lookups
-    second = ap (λ (l : List ℕ). take 256 (drop 256 l)) cut-up ∙ ap (take 256) (drop-at (h .heap) (h .lookups ++ drop 512 o) 256 a) ∙ take-at (h .lookups) (drop 512 o) 256 b
+    second : take heapWide (drop heapWide o) ≡ h .lookups
+    second = ap (λ (l : List ℕ). take heapWide (drop heapWide l)) cut-up ∙ ap (take heapWide) (drop-at (h .heap) (h .lookups ++ drop orderWide o) 256 a) ∙ take-at (h .lookups) (drop orderWide o) 256 b
 
     same : {x y : List ℕ} {m : ℕ} → x ≡ h .heap → y ≡ h .lookups → m ≡ h .cells → _≡_ {A = Scheduler} (record { heap = x; lookups = y; cells = m }) h
     same p q r = rw (p, q, r)
@@ -106,27 +107,27 @@ same-state b c m r g h l q s = rw (b, c, m, r, g, h, l, q, s)
 
 module _ (z : Sizes) (t : Tables) (s : State) (H : Hold z t s) where
   abbrev pub beyond : List ℕ
-  beyond = drop (listsNeed z - 6) (drop 6 (t .lists))
+  beyond = drop (listsNeed z - listsHeadWide) (drop listsHeadWide (t .lists))
 
-  pub lists-cut : drop 6 (t .lists) ≡ flat rowNums (s .homes) ++ (flat rowNums (s .members) ++ beyond)
+  pub lists-cut : drop listsHeadWide (t .lists) ≡ flat rowNums (s .homes) ++ (flat rowNums (s .members) ++ beyond)
   lists-cut =
-      sym (take-append-drop (listsNeed z - 6) (drop 6 (t .lists))) ∙ ap (λ (l : List ℕ). l ++ beyond) (H .body .listed .is)
+      sym (take-append-drop (listsNeed z - listsHeadWide) (drop listsHeadWide (t .lists))) ∙ ap (λ (l : List ℕ). l ++ beyond) (H .body .listed .is)
       ∙ append-assoc (flat rowNums (s .homes)) (flat rowNums (s .members)) beyond
 
-  homes-back : rowsOf 8 (z .grains) (drop 6 (t .lists)) ≡ s .homes
-  homes-back = ap (rowsOf 8 (z .grains)) lists-cut ∙ rows-back 8 (s .homes) (flat rowNums (s .members) ++ beyond) (H .body .listed .homes)
+  homes-back : rowsOf homeRoom (z .grains) (drop listsHeadWide (t .lists)) ≡ s .homes
+  homes-back = ap (rowsOf homeRoom (z .grains)) lists-cut ∙ rows-back homeRoom (s .homes) (flat rowNums (s .members) ++ beyond) (H .body .listed .homes)
 
-  pub members-cut : drop (6 + z .grains * 9) (t .lists) ≡ flat rowNums (s .members) ++ beyond
+  pub members-cut : drop (listsHeadWide + homeFrom (z .grains)) (t .lists) ≡ flat rowNums (s .members) ++ beyond
   members-cut =
-      sym (drop-drop (z .grains * 9) 6 (t .lists)) ∙ ap (drop (z .grains * 9)) lists-cut ∙ drop-at (flat rowNums (s .homes)) (flat rowNums (s .members) ++ beyond) (z .grains * 9) (rows-long (H .body .listed .homes))
+      sym (drop-drop (homeFrom (z .grains)) listsHeadWide (t .lists)) ∙ ap (drop (homeFrom (z .grains))) lists-cut ∙ drop-at (flat rowNums (s .homes)) (flat rowNums (s .members) ++ beyond) (homeFrom (z .grains)) (rows-long (H .body .listed .homes))
 
-  members-back : rowsOf 32 (z .cells) (drop (6 + z .grains * 9) (t .lists)) ≡ s .members
-  members-back = ap (rowsOf 32 (z .cells)) members-cut ∙ rows-back 32 (s .members) beyond (H .body .listed .members)
+  members-back : rowsOf memberRoom (z .cells) (drop (listsHeadWide + homeFrom (z .grains)) (t .lists)) ≡ s .members
+  members-back = ap (rowsOf memberRoom (z .cells)) members-cut ∙ rows-back memberRoom (s .members) beyond (H .body .listed .members)
 
-  all-grains-back : grainsOf (z .grains) (drop 3 (t .grains)) ≡ s .grains
+  all-grains-back : grainsOf (z .grains) (drop grainsHeadWide (t .grains)) ≡ s .grains
   all-grains-back =
-      ap (grainsOf (z .grains)) (sym (take-append-drop (grainsNeed z - 3) (drop 3 (t .grains))) ∙ ap (λ (l : List Float). l ++ drop (grainsNeed z - 3) (drop 3 (t .grains))) (H .body .grained .is))
-      ∙ grains-back (z .grains) (s .grains) (drop (grainsNeed z - 3) (drop 3 (t .grains))) (H .body .grained .many)
+      ap (grainsOf (z .grains)) (sym (take-append-drop (grainsNeed z - grainsHeadWide) (drop grainsHeadWide (t .grains))) ∙ ap (λ (l : List Float). l ++ drop (grainsNeed z - grainsHeadWide) (drop grainsHeadWide (t .grains))) (H .body .grained .is))
+      ∙ grains-back (z .grains) (s .grains) (drop (grainsNeed z - grainsHeadWide) (drop grainsHeadWide (t .grains))) (H .body .grained .many)
 
   pub queue-cut : t .queue ≡ flat queueNums (s .queues) ++ drop (queueNeed z) (t .queue)
   queue-cut = sym (take-append-drop (queueNeed z) (t .queue)) ∙ ap (λ (l : List ℕ). l ++ drop (queueNeed z) (t .queue)) (H .body .queued .tables .queue-is)

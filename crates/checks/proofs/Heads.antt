@@ -10,6 +10,7 @@ use lib.ListN.{length, getD, take, drop}
 use lib.Seq.{getD-drop}
 use lib.Ieee.{Float, nan}
 use borrow.Author.Tests.{ne-eqb}
+use Rattle.layout.specs.Widths.{queueWide, eventsWide}
 use Rattle.order.specs.Numbers.{f64Max}
 use Rattle.scheduler.specs.Inside.{headIn}
 use Rattle.model.specs.declared.Place.{Place}
@@ -25,16 +26,16 @@ head-first zero room q e h = refl
 head-first (suc k) zero q e h = absurd (not-suc-le-zero h)
 head-first (suc k) (suc room) q e h = sym (ap (λ (b : Bool). cond b f64Max (getD e 0 nan)) (ne-eqb (suc k) 0 (suc-ne-zero k)))
 
-pub heads-in : (room n : ℕ) (q : List ℕ) (e : List Float) (c : ℕ) → 0 < room → c < n → n * (room * 10) ≤ length e → heads (queuesOf room n q e) c ≡ headIn e q room c
+pub heads-in : (room n : ℕ) (q : List ℕ) (e : List Float) (c : ℕ) → 0 < room → c < n → n * eventsWide room ≤ length e → heads (queuesOf room n q e) c ≡ headIn e q room c
 unfolding heads headIn
 heads-in room n q e c r h l =
-    ap (λ (x : Row Place). headTime (x .live)) (both-at (queueAt room) (room * 4 + 1) (room * 10) n q e c none h)
-    ∙ head-first (getD (drop (c * (room * 4 + 1)) q) 0 0) room (drop 1 (drop (c * (room * 4 + 1)) q)) (drop (c * (room * 10)) e) r
-    ∙ ap (λ (k : ℕ). cond (eqb k 0) f64Max (getD (drop (c * (room * 10)) e) 0 nan)) (at q (c * (room * 4 + 1)) 0)
-    ∙ ap (λ (x : Float). cond (eqb (getD q (c * (room * 4 + 1)) 0) 0) f64Max x) (at e (c * (room * 10)) nan ∙ getD-any e (c * (room * 10)) nan f64Max inside)
+    ap (λ (x : Row Place). headTime (x .live)) (both-at (queueAt room) (queueWide room) (eventsWide room) n q e c none h)
+    ∙ head-first (getD (drop (c * queueWide room) q) 0 0) room (drop 1 (drop (c * queueWide room) q)) (drop (c * eventsWide room) e) r
+    ∙ ap (λ (k : ℕ). cond (eqb k 0) f64Max (getD (drop (c * eventsWide room) e) 0 nan)) (at q (c * queueWide room) 0)
+    ∙ ap (λ (x : Float). cond (eqb (getD q (c * queueWide room) 0) 0) f64Max x) (at e (c * eventsWide room) nan ∙ getD-any e (c * eventsWide room) nan f64Max inside)
   where
     at : {A : Type 0} (l : List A) (i : ℕ) (d : A) → getD (drop i l) 0 d ≡ getD l i d
     at l i d = getD-drop i l 0 d ∙ ap (λ (k : ℕ). getD l k d) (add-zero i)
 
-    inside : c * (room * 10) < length e
-    inside = let s = suc-mul c (room * 10) in let m = mul-le-mul-right (room * 10) h in omega arith
+    inside : c * eventsWide room < length e
+    inside = let s = suc-mul c (eventsWide room) in let m = mul-le-mul-right (eventsWide room) h in omega arith

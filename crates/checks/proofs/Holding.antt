@@ -9,6 +9,7 @@ use mathlib.Core.Bool.{true}
 use lib.ListN.{length, getD, take, drop, length-append, length-drop, take-append-drop}
 use lib.Seq.{take-add, drop-drop, length-take-le}
 use lib.Ieee.{Float, nan}
+use Rattle.layout.specs.Widths.{listsHeadWide, grainsHeadWide, grainWide, homeRoom, memberRoom, membersWide, homeFrom, placeNumsWide, placeRealsWide, queueWide, eventsWide}
 use Rattle.halting.specs.Every.{All}
 use Rattle.halting.proofs.All.{all-of}
 use Rattle.chunks.specs.Flat.{flat}
@@ -75,31 +76,31 @@ inside : {B : Type 0} (n w i : ℕ) (l : List B) → n * w ≤ length l → i < 
 inside n w i l h g = let s = suc-mul i w in let m = mul-le-mul-right w g in let e = length-drop (i * w) l in omega arith
 
 -- ---- each record
-grain-read : (l : List Float) → 6 ≤ length l → grainReals (grainAt l) ≡ take 6 l
+grain-read : (l : List Float) → grainWide ≤ length l → grainReals (grainAt l) ≡ take grainWide l
 grain-read l h = sym (take-tab l nan 6 0 h)
 
-places-nums : (n : ℕ) (q : List ℕ) (e : List Float) → n * 4 ≤ length q → flat placeNums (placesOf n q e) ≡ take (n * 4) q
-places-nums n q e h = both-first placeAt 4 10 placeNums n q e (λ i g. sym (take-tab (drop (i * 4) q) 0 4 0 (inside n 4 i q h g)))
+places-nums : (n : ℕ) (q : List ℕ) (e : List Float) → n * placeNumsWide ≤ length q → flat placeNums (placesOf n q e) ≡ take (n * placeNumsWide) q
+places-nums n q e h = both-first placeAt placeNumsWide placeRealsWide placeNums n q e (λ i g. sym (take-tab (drop (i * placeNumsWide) q) 0 placeNumsWide 0 (inside n placeNumsWide i q h g)))
 
-places-reals : (n : ℕ) (q : List ℕ) (e : List Float) → n * 10 ≤ length e → flat placeReals (placesOf n q e) ≡ take (n * 10) e
-places-reals n q e h = both-second placeAt 4 10 placeReals n q e (λ i g. sym (take-tab (drop (i * 10) e) nan 10 0 (inside n 10 i e h g)))
+places-reals : (n : ℕ) (q : List ℕ) (e : List Float) → n * placeRealsWide ≤ length e → flat placeReals (placesOf n q e) ≡ take (n * placeRealsWide) e
+places-reals n q e h = both-second placeAt placeNumsWide placeRealsWide placeReals n q e (λ i g. sym (take-tab (drop (i * placeRealsWide) e) nan placeRealsWide 0 (inside n placeRealsWide i e h g)))
 
 module _ (room : ℕ) (q : List ℕ) (e : List Float) (h : getD q 0 0 ≤ room) where
   all-places : places (queueAt room q e) ≡ placesOf room (drop 1 q) e
   all-places = take-append-drop (getD q 0 0) (placesOf room (drop 1 q) e)
 
-  queue-nums : room * 4 + 1 ≤ length q → queueNums (queueAt room q e) ≡ take (room * 4 + 1) q
+  queue-nums : queueWide room ≤ length q → queueNums (queueAt room q e) ≡ take (queueWide room) q
   queue-nums k =
-      ap (λ (n : ℕ). n ∷ flat placeNums (places (queueAt room q e))) (length-take-le (getD q 0 0) (placesOf room (drop 1 q) e) (let l = both-long placeAt 4 10 room (drop 1 q) e in omega arith))
+      ap (λ (n : ℕ). n ∷ flat placeNums (places (queueAt room q e))) (length-take-le (getD q 0 0) (placesOf room (drop 1 q) e) (let l = both-long placeAt placeNumsWide placeRealsWide room (drop 1 q) e in omega arith))
       ∙ ap (λ (ps : List Place). getD q 0 0 ∷ flat placeNums ps) all-places
       ∙ ap (λ (x : List ℕ). getD q 0 0 ∷ x) (places-nums room (drop 1 q) e (let l = length-drop 1 q in omega arith))
       ∙ whole q k
     where
-      whole : (q : List ℕ) → room * 4 + 1 ≤ length q → getD q 0 0 ∷ take (room * 4) (drop 1 q) ≡ take (room * 4 + 1) q
+      whole : (q : List ℕ) → queueWide room ≤ length q → getD q 0 0 ∷ take (room * placeNumsWide) (drop 1 q) ≡ take (queueWide room) q
       whole [] k = absurd (omega arith)
-      whole (x ∷ q) k = ap (λ (n : ℕ). take n (x ∷ q)) (sym (add-one (room * 4)))
+      whole (x ∷ q) k = ap (λ (n : ℕ). take n (x ∷ q)) (sym (add-one (room * placeNumsWide)))
 
-  queue-reals : room * 10 ≤ length e → queueReals (queueAt room q e) ≡ take (room * 10) e
+  queue-reals : eventsWide room ≤ length e → queueReals (queueAt room q e) ≡ take (eventsWide room) e
   queue-reals k = ap (flat placeReals) all-places ∙ places-reals room (drop 1 q) e k
 
 -- a side of the lists
@@ -123,45 +124,45 @@ rows-flat v n l c h = cut-flat (rowAt v) rowNums (v + 1) n l (λ i g. row-read v
 
 module _ (z : Sizes) (t : Tables) (S : Sized z t) (L : Legible z (t .lists) (t .queue)) (F : Stands (decodedBy z t)) where
   abbrev g9 : ℕ
-  g9 = z .grains * 9
+  g9 = homeFrom (z .grains)
 
   cells-agree : cells ((decodedBy z t) .box) ≡ z .cells
   cells-agree = sym (F .sound .heap .cells)
 
   grains-agree : length ((decodedBy z t) .grains) ≡ z .grains
-  grains-agree = cut-long grainAt 6 (z .grains) (grainsPart (t .grains))
+  grains-agree = cut-long grainAt grainWide (z .grains) (grainsPart (t .grains))
 
   lists-held : Listed z (listsBody z (t .lists)) ((decodedBy z t) .homes) ((decodedBy z t) .members)
   lists-held =
       let l = t .lists in
       let need = S .lists-long in
-      let d6 = length-drop 6 l in
-      let dm = length-drop (6 + g9) l in
-      let k : listsNeed z - 6 ≡ g9 + z .cells * 33 = omega arith in
+      let d6 = length-drop listsHeadWide l in
+      let dm = length-drop (listsHeadWide + g9) l in
+      let k : listsNeed z - listsHeadWide ≡ g9 + z .cells * membersWide = omega arith in
       record {
-        is = ap (λ (n : ℕ). take n (drop 6 l)) k ∙ take-add g9 (z .cells * 33) (drop 6 l)
-            ∙ ap (λ (x : List ℕ). take g9 (drop 6 l) ++ take (z .cells * 33) x) (drop-drop g9 6 l)
-            ∙ ap (λ (x : List ℕ). x ++ take (z .cells * 33) (drop (6 + g9) l)) (sym (rows-flat 8 (z .grains) (drop 6 l) (L .homes) (omega arith)))
-            ∙ ap (λ (x : List ℕ). flat rowNums ((decodedBy z t) .homes) ++ x) (sym (rows-flat 32 (z .cells) (drop (6 + g9) l) (L .members) (omega arith)));
-        homes = side-rows 8 ((decodedBy z t) .homes) grains-agree cells-agree (F .sound .lists .homes);
-        members = side-rows 32 ((decodedBy z t) .members) cells-agree grains-agree (F .sound .lists .members);
+        is = ap (λ (n : ℕ). take n (drop listsHeadWide l)) k ∙ take-add g9 (z .cells * membersWide) (drop listsHeadWide l)
+            ∙ ap (λ (x : List ℕ). take g9 (drop listsHeadWide l) ++ take (z .cells * membersWide) x) (drop-drop g9 listsHeadWide l)
+            ∙ ap (λ (x : List ℕ). x ++ take (z .cells * membersWide) (drop (listsHeadWide + g9) l)) (sym (rows-flat homeRoom (z .grains) (drop listsHeadWide l) (L .homes) (omega arith)))
+            ∙ ap (λ (x : List ℕ). flat rowNums ((decodedBy z t) .homes) ++ x) (sym (rows-flat memberRoom (z .cells) (drop (listsHeadWide + g9) l) (L .members) (omega arith)));
+        homes = side-rows homeRoom ((decodedBy z t) .homes) grains-agree cells-agree (F .sound .lists .homes);
+        members = side-rows memberRoom ((decodedBy z t) .members) cells-agree grains-agree (F .sound .lists .members);
       }
 
   grains-held : Grained z (grainsBody z (t .grains)) ((decodedBy z t) .grains)
   grains-held =
       let need = S .grains-long in
-      let d = length-drop 3 (t .grains) in
-      let k : grainsNeed z - 3 ≡ z .grains * 6 = omega arith in
+      let d = length-drop grainsHeadWide (t .grains) in
+      let k : grainsNeed z - grainsHeadWide ≡ z .grains * grainWide = omega arith in
       record {
-        is = ap (λ (n : ℕ). take n (drop 3 (t .grains))) k
-            ∙ sym (cut-flat grainAt grainReals 6 (z .grains) (drop 3 (t .grains)) (λ i h. grain-read (drop (i * 6) (drop 3 (t .grains))) (inside (z .grains) 6 i (drop 3 (t .grains)) (omega arith) h)));
+        is = ap (λ (n : ℕ). take n (drop grainsHeadWide (t .grains))) k
+            ∙ sym (cut-flat grainAt grainReals grainWide (z .grains) (drop grainsHeadWide (t .grains)) (λ i h. grain-read (drop (i * grainWide) (drop grainsHeadWide (t .grains))) (inside (z .grains) grainWide i (drop grainsHeadWide (t .grains)) (omega arith) h)));
         many = grains-agree;
       }
 
   queues-held : Tabled z (queueBody z (t .queue)) (eventsBody z (t .events)) ((decodedBy z t) .queues)
   queues-held =
-      let w = z .room * 4 + 1 in
-      let v = z .room * 10 in
+      let w = queueWide (z .room) in
+      let v = eventsWide (z .room) in
       let qs = (decodedBy z t) .queues in
       let many : length qs ≡ z .cells = both-long (queueAt (z .room)) w v (z .cells) (t .queue) (t .events) in
       record {

@@ -9,6 +9,7 @@ use lib.ListN.{length, getD, take, drop, length-drop}
 use lib.Seq.{length-take-le}
 use lib.Ieee.{Float, lt}
 use borrow.Author.Tests.{eq-eqb, le-leb, leb-true, ltb-true}
+use Rattle.layout.specs.Widths.{grainWide, homeRoom, memberRoom, homeWide, membersWide, queueWide, eventsWide, heapWide}
 use Rattle.halting.specs.Every.{every}
 use Rattle.halting.proofs.Tests.{true-every}
 use Rattle.halting.proofs.Bools.{and-l, and-r}
@@ -29,10 +30,10 @@ use Rattle.checks.proofs.Heads.{heads-in}
 -- ---- what the tables hold, part by part, and the tests of the parts
 module _ (z : Sizes) (t : Tables) where
   abbrev pub homesIn : List (Row ℕ)
-  homesIn = rowsOf 8 (z .grains) (homesPart (t .lists))
+  homesIn = rowsOf homeRoom (z .grains) (homesPart (t .lists))
 
   abbrev pub membersIn : List (Row ℕ)
-  membersIn = rowsOf 32 (z .cells) (membersPart (z .grains) (t .lists))
+  membersIn = rowsOf memberRoom (z .cells) (membersPart (z .grains) (t .lists))
 
   abbrev pub settledIn : Bool
   settledIn = settled (mark (t .lists)) (clockIn (t .grains)) (boxIn (t .lists) (t .grains)) (z .cells) (grainsOf (z .grains) (grainsPart (t .grains)))
@@ -44,14 +45,14 @@ module _ (z : Sizes) (t : Tables) where
   queuedIn = queued (clockIn (t .grains)) (z .room) (z .cells) membersIn (queuesOf (z .room) (z .cells) (t .queue) (t .events))
 
   abbrev pub heapedIn : Bool
-  heapedIn = heaped (headIn (t .events) (t .queue) (z .room)) (z .cells) (take 256 (t .order)) (take 256 (drop 256 (t .order)))
+  heapedIn = heaped (headIn (t .events) (t .queue) (z .room)) (z .cells) (take heapWide (t .order)) (take heapWide (drop heapWide (t .order)))
 
   -- in the code's order
   abbrev pub partsIn : Bool
   partsIn = legibleBy z (t .lists) (t .queue) && (settledIn && (linkedIn && (queuedIn && heapedIn)))
 
 -- ---- heads of cells in range are read alike
-module _ (room n : ℕ) (q : List ℕ) (e : List Float) (heap lookups : List ℕ) (some : 0 < room) (long : n * (room * 10) ≤ length e) where
+module _ (room n : ℕ) (q : List ℕ) (e : List Float) (heap lookups : List ℕ) (some : 0 < room) (long : n * eventsWide room ≤ length e) where
   abbrev heads′ : ℕ → Float
   heads′ = heads (queuesOf room n q e)
 
@@ -82,9 +83,9 @@ module _ (room n : ℕ) (q : List ℕ) (e : List Float) (heap lookups : List ℕ
 -- ---- counts within their room
 pub legible-means : (z : Sizes) (l q : List ℕ) → legibleBy z l q ≡ true → Legible z l q
 legible-means z l q e =
-    let a = countsWithin 8 9 (z .grains) (homesPart l) in
-    let b = countsWithin 32 33 (z .cells) (membersPart (z .grains) l) in
-    let c = countsWithin (z .room) (z .room * 4 + 1) (z .cells) q in
+    let a = countsWithin homeRoom homeWide (z .grains) (homesPart l) in
+    let b = countsWithin memberRoom membersWide (z .cells) (membersPart (z .grains) l) in
+    let c = countsWithin (z .room) (queueWide (z .room)) (z .cells) q in
     let f = and-l (leb (getD l 4 0) 1 && leb (getD l 5 0) 1) (a && (b && c)) e in
     let r = and-r (leb (getD l 4 0) 1 && leb (getD l 5 0) 1) (a && (b && c)) e in
     let r2 = and-r a (b && c) r in
@@ -99,15 +100,15 @@ legible-means z l q e =
 -- ---- the state has the shape that the counts say
 module _ (z : Sizes) (t : Tables) (S : Sized z t) where
   grains-many : length (grainsOf (z .grains) (grainsPart (t .grains))) ≡ z .grains
-  grains-many = cut-long grainAt 6 (z .grains) (grainsPart (t .grains))
+  grains-many = cut-long grainAt grainWide (z .grains) (grainsPart (t .grains))
 
   shaped-is : model.shaped (decodedBy z t) ≡ true
   shaped-is =
-      let a = length-take-le 256 (t .order) (let k = S .order-long in omega arith) in
-      let b = length-take-le 256 (drop 256 (t .order)) (let k = S .order-long in let m = length-drop 256 (t .order) in omega arith) in
-      let h = cut-long (rowAt 8) 9 (z .grains) (homesPart (t .lists)) in
-      let m = cut-long (rowAt 32) 33 (z .cells) (membersPart (z .grains) (t .lists)) in
-      let q = both-long (queueAt (z .room)) (z .room * 4 + 1) (z .room * 10) (z .cells) (t .queue) (t .events) in
+      let a = length-take-le heapWide (t .order) (let k = S .order-long in omega arith) in
+      let b = length-take-le heapWide (drop heapWide (t .order)) (let k = S .order-long in let m = length-drop heapWide (t .order) in omega arith) in
+      let h = cut-long (rowAt homeRoom) homeWide (z .grains) (homesPart (t .lists)) in
+      let m = cut-long (rowAt memberRoom) membersWide (z .cells) (membersPart (z .grains) (t .lists)) in
+      let q = both-long (queueAt (z .room)) (queueWide (z .room)) (eventsWide (z .room)) (z .cells) (t .queue) (t .events) in
       rw (
         ap (λ (n : ℕ). leb n 256) grains-many ∙ le-leb (z .grains) 256 (S .grains-most),
         le-leb 16 (z .room) (S .room-least),
@@ -121,7 +122,7 @@ module _ (z : Sizes) (t : Tables) (S : Sized z t) where
       )
 
   abbrev heapedBy : (ℕ → Float) → Bool
-  heapedBy h = heaped h (z .cells) (take 256 (t .order)) (take 256 (drop 256 (t .order)))
+  heapedBy h = heaped h (z .cells) (take heapWide (t .order)) (take heapWide (drop heapWide (t .order)))
 
   -- with so many grains, and these head times
   abbrev joined : ℕ → (ℕ → Float) → Bool
@@ -134,7 +135,7 @@ module _ (z : Sizes) (t : Tables) (S : Sized z t) where
       ap (λ (b : Bool). b && joined (length (grainsOf (z .grains) (grainsPart (t .grains)))) h) shaped-is
       ∙ ap (λ (g : ℕ). joined g h) grains-many
       ∙ ap (λ (b : Bool). settledIn z t && (linkedIn z t && (queuedIn z t && b)))
-      (heaped-is (z .room) (z .cells) (t .queue) (t .events) (take 256 (t .order)) (take 256 (drop 256 (t .order))) (let r = S .room-least in omega arith) (S .events-long))
+      (heaped-is (z .room) (z .cells) (t .queue) (t .events) (take heapWide (t .order)) (take heapWide (drop heapWide (t .order))) (let r = S .room-least in omega arith) (S .events-long))
 
   -- THE CODE'S TEST IS 01's
   pub parts-are : partsIn z t ≡ standing t

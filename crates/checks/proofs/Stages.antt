@@ -9,6 +9,7 @@ use lib.ListN.{length, length-drop}
 use lib.Ieee.{Float}
 use borrow.Author.Tests.{leb-true, le-leb}
 use borrow.Rule.Slice.PartMut.{midOf}
+use Rattle.layout.specs.Widths.{listsHeadWide, homeRoom, memberRoom, homeWide, membersWide, homeFrom, queueWide, orderWide}
 use Rattle.model.specs.Sizes.{mostGrains, leastRoom, mostRoom, fewestCells, mostCells, countsOk, cellsOk, rated}
 use Rattle.model.specs.State.{Row}
 use Rattle.model.specs.Check.{linked, queued, halt}
@@ -35,7 +36,7 @@ ranged-means z a =
     )
 
 -- with the counts as they are read
-module _ (l : List ℕ) (g q e o : ℕ) {z : Sizes} (h : 6 ≤ length l) (s : z ≡ sizesOf l) where
+module _ (l : List ℕ) (g q e o : ℕ) {z : Sizes} (h : listsHeadWide ≤ length l) (s : z ≡ sizesOf l) where
   pub sized-no : ranged z ≡ false → false ≡ sizedBy l g q e o
   unfolding sizedBy
   sized-no f = rw (le-leb _ _ h, sym (ap ranged s) ∙ f)
@@ -49,12 +50,12 @@ unfolding sizedBy
 sized-means t e =
     let z = sizesOf (t .lists) in
     let l = length (t .lists) in
-    let r = and-r (leb 6 l) (ranged z && long z l (length (t .grains)) (length (t .queue)) (length (t .events)) (length (t .order))) e in
+    let r = and-r (leb listsHeadWide l) (ranged z && long z l (length (t .grains)) (length (t .queue)) (length (t .events)) (length (t .order))) e in
     let a = ranged-means z (and-l (ranged z) (long z l (length (t .grains)) (length (t .queue)) (length (t .events)) (length (t .order))) r) in
     let b = and-r (ranged z) (long z l (length (t .grains)) (length (t .queue)) (length (t .events)) (length (t .order))) r in
-    let lg = and-l (leb (listsNeed z) l && leb (grainsNeed z) (length (t .grains))) ((leb (queueNeed z) (length (t .queue)) && leb (eventsNeed z) (length (t .events))) && leb 512 (length (t .order))) b in
-    let qo = and-r (leb (listsNeed z) l && leb (grainsNeed z) (length (t .grains))) ((leb (queueNeed z) (length (t .queue)) && leb (eventsNeed z) (length (t .events))) && leb 512 (length (t .order))) b in
-    let qe = and-l (leb (queueNeed z) (length (t .queue)) && leb (eventsNeed z) (length (t .events))) (leb 512 (length (t .order))) qo in
+    let lg = and-l (leb (listsNeed z) l && leb (grainsNeed z) (length (t .grains))) ((leb (queueNeed z) (length (t .queue)) && leb (eventsNeed z) (length (t .events))) && leb orderWide (length (t .order))) b in
+    let qo = and-r (leb (listsNeed z) l && leb (grainsNeed z) (length (t .grains))) ((leb (queueNeed z) (length (t .queue)) && leb (eventsNeed z) (length (t .events))) && leb orderWide (length (t .order))) b in
+    let qe = and-l (leb (queueNeed z) (length (t .queue)) && leb (eventsNeed z) (length (t .events))) (leb orderWide (length (t .order))) qo in
     record {
       sizes = refl;
       grains-most = a .0;
@@ -66,14 +67,14 @@ sized-means t e =
       grains-long = leb-true _ _ (and-r (leb (listsNeed z) l) (leb (grainsNeed z) (length (t .grains))) lg);
       queue-long = leb-true _ _ (and-l (leb (queueNeed z) (length (t .queue))) (leb (eventsNeed z) (length (t .events))) qe);
       events-long = leb-true _ _ (and-r (leb (queueNeed z) (length (t .queue))) (leb (eventsNeed z) (length (t .events))) qe);
-      order-long = leb-true _ _ (and-r (leb (queueNeed z) (length (t .queue)) && leb (eventsNeed z) (length (t .events))) (leb 512 (length (t .order))) qo);
+      order-long = leb-true _ _ (and-r (leb (queueNeed z) (length (t .queue)) && leb (eventsNeed z) (length (t .events))) (leb orderWide (length (t .order))) qo);
     }
 
 pub means-sized : (t : Tables) → Sized (sizesOf (t .lists)) t → sized t ≡ true
 unfolding sizedBy
 means-sized t S =
     rw (
-      le-leb 6 (length (t .lists)) (let h = S .lists-long in omega arith),
+      le-leb listsHeadWide (length (t .lists)) (let h = S .lists-long in omega arith),
       le-leb _ _ (S .grains-most),
       le-leb _ _ (S .cells-least),
       le-leb _ _ (S .cells-most),
@@ -88,15 +89,15 @@ means-sized t S =
 
 -- ---- rows as they are lent
 module _ (z : Sizes) (t : Tables) (S : Sized z t) (L : Legible z (t .lists) (t .queue)) where
-  pub homes-rowed : Rowed 8 9 (z .grains) (midOf 6 (length (t .lists) - 6) (t .lists))
-  homes-rowed = subst (Rowed 8 9 (z .grains)) (sym (tail-is 6 (t .lists)))
-      (record { counts = L .homes; long = let h = S .lists-long in let e = length-drop 6 (t .lists) in omega arith })
+  pub homes-rowed : Rowed homeRoom homeWide (z .grains) (midOf listsHeadWide (length (t .lists) - listsHeadWide) (t .lists))
+  homes-rowed = subst (Rowed homeRoom homeWide (z .grains)) (sym (tail-is listsHeadWide (t .lists)))
+      (record { counts = L .homes; long = let h = S .lists-long in let e = length-drop listsHeadWide (t .lists) in omega arith })
 
-  pub members-rowed : Rowed 32 33 (z .cells) (midOf (6 + z .grains * 9) (length (t .lists) - (6 + z .grains * 9)) (t .lists))
-  members-rowed = subst (Rowed 32 33 (z .cells)) (sym (tail-is (6 + z .grains * 9) (t .lists)))
-      (record { counts = L .members; long = let h = S .lists-long in let e = length-drop (6 + z .grains * 9) (t .lists) in omega arith })
+  pub members-rowed : Rowed memberRoom membersWide (z .cells) (midOf (listsHeadWide + homeFrom (z .grains)) (length (t .lists) - (listsHeadWide + homeFrom (z .grains))) (t .lists))
+  members-rowed = subst (Rowed memberRoom membersWide (z .cells)) (sym (tail-is (listsHeadWide + homeFrom (z .grains)) (t .lists)))
+      (record { counts = L .members; long = let h = S .lists-long in let e = length-drop (listsHeadWide + homeFrom (z .grains)) (t .lists) in omega arith })
 
-  pub queue-rowed : Rowed (z .room) (z .room * 4 + 1) (z .cells) (t .queue)
+  pub queue-rowed : Rowed (z .room) (queueWide (z .room)) (z .cells) (t .queue)
   queue-rowed = record { counts = L .events; long = S .queue-long }
 
 -- ---- 10, up to the first test that fails
@@ -124,18 +125,18 @@ module _ (z : Sizes) (t : Tables) where
   abbrev lent : ℕ → List ℕ
   lent k = midOf k (length (t .lists) - k) (t .lists)
 
-  pub linked-lent : {r : Bool} → r ≡ linked (z .grains) (z .cells) (rowsOf 8 (z .grains) (lent 6)) (rowsOf 32 (z .cells) (lent (6 + z .grains * 9))) → linkedIn z t ≡ r
+  pub linked-lent : {r : Bool} → r ≡ linked (z .grains) (z .cells) (rowsOf homeRoom (z .grains) (lent listsHeadWide)) (rowsOf memberRoom (z .cells) (lent (listsHeadWide + homeFrom (z .grains)))) → linkedIn z t ≡ r
   linked-lent e =
-      sym (e ∙ ap (λ (l : List ℕ). linked (z .grains) (z .cells) (rowsOf 8 (z .grains) l) (rowsOf 32 (z .cells) (lent (6 + z .grains * 9)))) (tail-is 6 (t .lists))
-      ∙ ap (λ (l : List ℕ). linked (z .grains) (z .cells) (homesIn z t) (rowsOf 32 (z .cells) l)) (tail-is (6 + z .grains * 9) (t .lists)))
+      sym (e ∙ ap (λ (l : List ℕ). linked (z .grains) (z .cells) (rowsOf homeRoom (z .grains) l) (rowsOf memberRoom (z .cells) (lent (listsHeadWide + homeFrom (z .grains))))) (tail-is listsHeadWide (t .lists))
+      ∙ ap (λ (l : List ℕ). linked (z .grains) (z .cells) (homesIn z t) (rowsOf memberRoom (z .cells) l)) (tail-is (listsHeadWide + homeFrom (z .grains)) (t .lists)))
 
   abbrev queuedBy : Float → List (Row ℕ) → Bool
   queuedBy c ms = queued c (z .room) (z .cells) ms (queuesOf (z .room) (z .cells) (t .queue) (t .events))
 
-  pub queued-lent : {r : Bool} {c : Float} → c ≡ clockIn (t .grains) → r ≡ queuedBy c (rowsOf 32 (z .cells) (lent (6 + z .grains * 9))) → queuedIn z t ≡ r
+  pub queued-lent : {r : Bool} {c : Float} → c ≡ clockIn (t .grains) → r ≡ queuedBy c (rowsOf memberRoom (z .cells) (lent (listsHeadWide + homeFrom (z .grains)))) → queuedIn z t ≡ r
   queued-lent h e =
-      sym (e ∙ ap (λ (x : Float). queuedBy x (rowsOf 32 (z .cells) (lent (6 + z .grains * 9)))) h
-      ∙ ap (λ (l : List ℕ). queuedBy (clockIn (t .grains)) (rowsOf 32 (z .cells) l)) (tail-is (6 + z .grains * 9) (t .lists)))
+      sym (e ∙ ap (λ (x : Float). queuedBy x (rowsOf memberRoom (z .cells) (lent (listsHeadWide + homeFrom (z .grains))))) h
+      ∙ ap (λ (l : List ℕ). queuedBy (clockIn (t .grains)) (rowsOf memberRoom (z .cells) l)) (tail-is (listsHeadWide + homeFrom (z .grains)) (t .lists)))
 
 -- ---- 2, the mark, 3, 10
 module _ (rate : Float) (t : Tables) where

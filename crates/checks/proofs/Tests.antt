@@ -10,6 +10,7 @@ use lib.ListN.{length, getD, drop}
 use lib.Ieee.{Float, fits}
 use lib.Ieee.Scale.{finite}
 use borrow.Author.Tests.{eq-eqb, ne-eqb}
+use Rattle.layout.specs.Widths.{queueWide, eventsWide}
 use Rattle.halting.specs.Every.{every}
 use Rattle.chunks.proofs.Laws.{tail-is}
 use Rattle.model.specs.declared.Domain.{Domain}
@@ -61,18 +62,18 @@ module _ (t : Float) (room n : ℕ) (ms : List (Row ℕ)) (q : List ℕ) (e : Li
   unfolding queued
   queued-no h = rw h
 
-  pub queued-more : {k : ℕ} → 0 < n → countsWithin room (room * 4 + 1) n q ≡ true → each ≡ true → k ≡ syncs (placesOf (getD q 0 0) (drop 1 q) e) → eqb k 1 ≡ queued t room n ms (queuesOf room n q e)
+  pub queued-more : {k : ℕ} → 0 < n → countsWithin room (queueWide room) n q ≡ true → each ≡ true → k ≡ syncs (placesOf (getD q 0 0) (drop 1 q) e) → eqb k 1 ≡ queued t room n ms (queuesOf room n q e)
   unfolding queued
   queued-more {k} some c h s = rw h (ap (λ (j : ℕ). eqb j 1) (s ∙ ap syncs (sym first)))
     where
       few : getD q 0 0 ≤ room
-      few = subst (λ (k : ℕ). getD (drop k q) 0 0 ≤ room) (zero-mul (room * 4 + 1)) (counted-at room (room * 4 + 1) n q 0 c some)
+      few = subst (λ (k : ℕ). getD (drop k q) 0 0 ≤ room) (zero-mul (queueWide room)) (counted-at room (queueWide room) n q 0 c some)
 
       first : liveAt (queuesOf room n q e) 0 ≡ placesOf (getD q 0 0) (drop 1 q) e
       first =
-          ap (λ (r : Row Place). r .live) (both-at (queueAt room) (room * 4 + 1) (room * 10) n q e 0 none some)
-          ∙ ap (λ (k : ℕ). (queueAt room (drop k q) (drop (0 * (room * 10)) e)) .live) (zero-mul (room * 4 + 1))
-          ∙ ap (λ (k : ℕ). (queueAt room q (drop k e)) .live) (zero-mul (room * 10))
+          ap (λ (r : Row Place). r .live) (both-at (queueAt room) (queueWide room) (eventsWide room) n q e 0 none some)
+          ∙ ap (λ (k : ℕ). (queueAt room (drop k q) (drop (0 * eventsWide room) e)) .live) (zero-mul (queueWide room))
+          ∙ ap (λ (k : ℕ). (queueAt room q (drop k e)) .live) (zero-mul (eventsWide room))
           ∙ queue-live room q e few ∙ ap (λ (l : List ℕ). placesOf (getD q 0 0) l e) (tail-is 1 q)
 
 module _ (h : ℕ → Float) (n : ℕ) (a b : List ℕ) where

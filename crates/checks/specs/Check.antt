@@ -5,7 +5,7 @@ use mathlib.Core.Bool.{Bool, true, _&&_}
 use lib.Dec.{leb}
 use lib.ListN.{length, getD, drop}
 use lib.Ieee.{Float}
-use Rattle.layout.specs.Widths.{listsHeadWide, homeWide, membersWide, queueWide, homeRoom, memberRoom}
+use Rattle.layout.specs.Widths.{listsHeadWide, countAt, homeWide, membersWide, queueWide, homeRoom, memberRoom}
 use Rattle.model.specs.Sizes.{countsOk, cellsOk, rated}
 use Rattle.model.specs.Check.{runChecks}
 use Rattle.model.specs.Check as model
@@ -27,7 +27,7 @@ sized t = sizedBy (t .lists) (length (t .grains)) (length (t .queue)) (length (t
 -- ---- 10: the standing facts. What a state cannot show: each list count is within its room, and a flag is 0 or 1
 unfoldable pub countsWithin : ℕ → ℕ → ℕ → List ℕ → Bool
 countsWithin v w zero l = true
-countsWithin v w (suc n) l = leb (getD l 0 0) v && countsWithin v w n (drop w l)
+countsWithin v w (suc n) l = leb (getD l countAt 0) v && countsWithin v w n (drop w l)
 
 abbrev pub legibleBy : Sizes → List ℕ → List ℕ → Bool
 legibleBy z l q =

@@ -5,7 +5,7 @@ use mathlib.Core.Path.{_≡_}
 use mathlib.Core.List.{List}
 use mathlib.Core.Bool.{true}
 use lib.ListN.{length, getD}
-use Rattle.layout.specs.Widths.{homeWide, membersWide, queueWide, homeRoom, memberRoom}
+use Rattle.layout.specs.Widths.{countAt, rowWide, homeWide, membersWide, queueWide, homeRoom, memberRoom}
 use Rattle.tables.specs.declared.Sizes.{Sizes}
 use Rattle.tables.specs.Lengths.{listsNeed, grainsNeed, queueNeed, eventsNeed, orderNeed}
 use Rattle.tables.specs.Decode.{Tables, sizesOf, homesPart, membersPart}
@@ -31,8 +31,8 @@ pub record Rowed (v w n : ℕ) (l : List ℕ) : Type 0 where
   pub long : n * w ≤ length l
 
 pub record First (v : ℕ) (l : List ℕ) : Type 0 where
-  pub count : getD l 0 0 ≤ v
-  pub long : v + 1 ≤ length l
+  pub count : getD l countAt 0 ≤ v
+  pub long : rowWide v ≤ length l
 
 pub record Legible (z : Sizes) (l q : List ℕ) : Type 0 where
   pub flag0 : getD l 4 0 ≤ 1

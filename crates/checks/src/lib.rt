@@ -20,6 +20,7 @@ use layout::MEMBER_ROOM;
 use layout::MEMBERS;
 use layout::ORDER;
 use layout::PLACE_NUMS;
+use layout::PLACES;
 use tables::Sizes;
 use tables::headers;
 
@@ -82,7 +83,7 @@ fn legible(lists: &[u64], queue: &[u64], z: Sizes) -> bool
     if !rows::counted(&lists[a..], MEMBER_ROOM, MEMBERS, n) {
         return false;
     }
-    let w = room * PLACE_NUMS + 1;
+    let w = room * PLACE_NUMS + PLACES;
     rows::counted(queue, room, w, n)
 }
 
@@ -114,8 +115,8 @@ fn queued(queue: &[u64], events: &[f64], members: &[u64], z: Sizes, clock: f64) 
     if !places::queues_ok(queue, events, room, n, members, n, 0, clock) {
         return false;
     }
-    let k = queue[0] as usize;
-    places::syncs(&queue[1..], k) == 1
+    let k = tables::rows::count_of(queue);
+    places::syncs(&queue[PLACES..], k) == 1
 }
 
 // The heap: inverse to its lookups on the cells, and in order.

@@ -2,11 +2,12 @@
 ghost use mathlib.Core.Path.{_≡_};
 ghost use Prim.Native.Nat.{ℕ, _+_, _*_, _≤_};
 ghost use mathlib.Core.List.{List};
+ghost use mathlib.Core.Bool.{not, _&&_};
+ghost use lib.Dec.{eqb};
 ghost use lib.ListN.{length, getD, take};
 ghost use lib.Ieee.{Float};
 ghost use Rattle.layout.specs.Widths.{membersWide, placeNumsWide, placeRealsWide, queueWide, eventsWide, eventsFrom, memberRoom};
-ghost use Rattle.model.specs.Events.{eventOf};
-ghost use Rattle.model.specs.State.{liveAt};
+ghost use Rattle.model.specs.State.{has, liveAt};
 ghost use Rattle.model.specs.Standing.{syncs};
 ghost use Rattle.model.specs.Check.{all, walk, rising, named, held, queueOk};
 ghost use Rattle.tables.specs.Decode.{rowAt, rowsOf, placeAt, placesOf, queueAt, queuesOf};
@@ -14,6 +15,8 @@ ghost use Rattle.checks.specs.Inside.{First, Rowed};
 use layout::MEMBERS;
 use layout::PLACE_NUMS;
 use layout::PLACE_REALS;
+use layout::PLACES;
+use model::Event;
 
 // Are the times of the first k places in order, from t on?
 fn rising(reals: &[f64], k: usize, t: f64) -> bool
@@ -24,7 +27,7 @@ fn rising(reals: &[f64], k: usize, t: f64) -> bool
     let mut left = k;
     let mut from = t;
     while 0 < left {
-        let u = rest[0];
+        let u = tables::places::first_time(rest);
         if from <= u {
             rest = &rest[PLACE_REALS..];
             left -= 1;
@@ -36,36 +39,45 @@ fn rising(reals: &[f64], k: usize, t: f64) -> bool
     true
 }
 
-// The first place, of cell c of n, which lists the first k of `members`: does its event name only grains and cells that it may?
-fn named(nums: &[u64], members: &[u64], k: usize, n: u64, c: u64) -> bool
-    requires { ⌜ (placeNumsWide ≤ length (now nums)) × (k ≤ length (now members)) ⌝ }
-    ensures { λ r. ⌜ ((e : List Float) → r ≡ named n c (take k (now (members .entry))) (eventOf (getD (now (nums .entry)) 0 0) (placeAt (now (nums .entry)) e))) ⌝ }
+// Two different grains among the first k of `members`?
+fn both_named(members: &[u64], k: usize, p: u64, q: u64) -> bool
+    requires { ⌜ k ≤ length (now members) ⌝ }
+    ensures { λ r. ⌜ r ≡ (has p (take k (now (members .entry))) && (has q (take k (now (members .entry))) && not (eqb p q))) ⌝ }
 {
-    let kind = nums[0];
-    if kind < 1 {
-        return c == 0;
-    }
-    if 4 < kind {
-        return c == 0;
-    }
-    let p = nums[1];
     if !tables::rows::has(members, k, p) {
         return false;
     }
-    if kind == 1 {
-        let q = nums[2];
-        if !tables::rows::has(members, k, q) {
-            return false;
-        }
-        return p != q;
+    if !tables::rows::has(members, k, q) {
+        return false;
     }
-    if kind == 2 {
-        return nums[3] < n;
+    p != q
+}
+
+// An event of cell c of n, which lists the first k of `members`: does it name only grains and cells that it may?
+fn named(e: Event, members: &[u64], k: usize, n: u64, c: u64) -> bool
+    requires { ⌜ k ≤ length (now members) ⌝ }
+    ensures { λ r. ⌜ r ≡ named n c (take k (now (members .entry))) e ⌝ }
+{
+    match e {
+        Event::InterParticleCollision {
+            p,
+            q,
+            p_pos: _,
+            q_pos: _,
+            p_vel: _,
+            q_vel: _,
+            val: _,
+        } => both_named(members, k, p, q),
+        Event::MoveToNeighbour { p, pos: _, cell } => tables::rows::has(members, k, p) && cell < n,
+        Event::MoveOutOfCell { p, pos: _, cell } => tables::rows::has(members, k, p) && cell == c,
+        Event::WallReflection {
+            p,
+            pos: _,
+            vel: _,
+            val: _,
+        } => tables::rows::has(members, k, p),
+        Event::Synchronisation => c == 0,
     }
-    if kind == 3 {
-        return nums[3] == c;
-    }
-    true
 }
 
 // The first place: its kind is one, its floats are fine, and it names what it may.
@@ -73,18 +85,14 @@ fn held(nums: &[u64], reals: &[f64], members: &[u64], k: usize, n: u64, c: u64) 
     requires { ⌜ (placeNumsWide ≤ length (now nums)) × (placeRealsWide ≤ length (now reals)) × (k ≤ length (now members)) ⌝ }
     ensures { λ r. ⌜ r ≡ held n c (take k (now (members .entry))) (placeAt (now (nums .entry)) (now (reals .entry))) ⌝ }
 {
-    let kind = nums[0];
-    if kind < 1 {
-        return false;
-    }
-    if 5 < kind {
-        return false;
-    }
     let s = tables::places::get_head(&nums[0..PLACE_NUMS], &reals[0..PLACE_REALS]);
+    if !tables::places::known_kind(s) {
+        return false;
+    }
     if !tables::places::fine_place(s) {
         return false;
     }
-    named(nums, members, k, n, c)
+    named(tables::places::event_of(s), members, k, n, c)
 }
 
 // The same for each of the first j places.
@@ -127,12 +135,12 @@ fn queue_ok(
     requires { ⌜ (getD (now queue) 0 0 ≤ room) × (queueWide room ≤ length (now queue)) × (eventsWide room ≤ length (now events)) × First memberRoom (now members) ⌝ }
     ensures { λ r. ⌜ r ≡ queueOk t room n c ((rowAt memberRoom (now (members .entry))) .live) (queueAt room (now (queue .entry)) (now (events .entry))) ⌝ }
 {
-    let j = queue[0] as usize;
+    let j = tables::rows::count_of(queue);
     if !rising(events, j, t) {
         return false;
     }
-    let k = members[0] as usize;
-    all_held(&queue[1..], events, j, &members[1..], k, n, c)
+    let k = tables::rows::count_of(members);
+    all_held(&queue[PLACES..], events, j, &members[PLACES..], k, n, c)
 }
 
 // The same for each of m rows, the first of which is cell c's.
@@ -149,7 +157,7 @@ pub fn queues_ok(
     requires { ⌜ Rowed room (queueWide room) m (now queue) × (eventsFrom room m ≤ length (now events)) × (room ≤ 256) × Rowed memberRoom membersWide n (now members) × (n ≤ 256) × (c + m ≡ n) ⌝ }
     ensures { λ r. ⌜ r ≡ walk (λ i q. queueOk t room n i (liveAt (rowsOf memberRoom n (now (members .entry))) i) q) c (queuesOf room m (now (queue .entry)) (now (events .entry))) ⌝ }
 {
-    let w = room * PLACE_NUMS + 1;
+    let w = room * PLACE_NUMS + PLACES;
     let v = room * PLACE_REALS;
     let mut rows = queue;
     let mut floats = events;
@@ -176,13 +184,5 @@ pub fn syncs(nums: &[u64], k: usize) -> usize
     if k == 0 {
         return 0;
     }
-    let kind = nums[0];
-    let others = syncs(&nums[PLACE_NUMS..], k - 1);
-    if kind < 1 {
-        return 1 + others;
-    }
-    if 4 < kind {
-        return 1 + others;
-    }
-    others
+    tables::places::first_sync(nums) + syncs(&nums[PLACE_NUMS..], k - 1)
 }

@@ -3,14 +3,16 @@ ghost use mathlib.Core.Path.{_≡_};
 ghost use Prim.Native.Nat.{_+_, _*_, _≤_};
 ghost use lib.Dec.{ltb};
 ghost use lib.ListN.{length, take};
-ghost use Rattle.layout.specs.Widths.{homeWide, membersWide, homeRoom, memberRoom};
+ghost use Rattle.layout.specs.Widths.{homeRoom, memberRoom, rowWide, homeWide, membersWide};
 ghost use Rattle.model.specs.State.{has, liveAt};
 ghost use Rattle.model.specs.Check.{all, walk, once, numbers, backRow, housed, linked};
 ghost use Rattle.tables.specs.Decode.{rowAt, rowsOf};
 ghost use Rattle.checks.specs.Check.{countsWithin};
 ghost use Rattle.checks.specs.Inside.{First, Rowed};
+use layout::COUNT;
 use layout::HOME_ROOM;
 use layout::MEMBER_ROOM;
+use layout::PLACES;
 
 // Is each of the first k numbers below n?
 fn below(nums: &[u64], k: usize, n: u64) -> bool
@@ -51,7 +53,7 @@ pub fn counted(rows: &[u64], v: usize, w: usize, n: usize) -> bool
     let mut rest = rows;
     let mut left = n;
     while 0 < left {
-        if (v as u64) < rest[0] {
+        if (v as u64) < rest[COUNT] {
             return false;
         }
         rest = &rest[w..];
@@ -65,19 +67,19 @@ fn numbers(row: &[u64], v: usize, n: u64) -> bool
     requires { ⌜ First v (now row) ⌝ }
     ensures { λ r. ⌜ r ≡ numbers n v (rowAt v (now (row .entry))) ⌝ }
 {
-    let k = row[0] as usize;
-    if !below(&row[1..], k, n) {
+    let k = row[COUNT] as usize;
+    if !below(&row[PLACES..], k, n) {
         return false;
     }
-    once(&row[1..], k)
+    once(&row[PLACES..], k)
 }
 
 // The same for each of m rows.
 fn side(rows: &[u64], v: usize, m: usize, n: u64) -> bool
-    requires { ⌜ Rowed v (v + 1) m (now rows) × (v ≤ 256) ⌝ }
+    requires { ⌜ Rowed v (rowWide v) m (now rows) × (v ≤ 256) ⌝ }
     ensures { λ r. ⌜ r ≡ all (numbers n v) (rowsOf v m (now (rows .entry))) ⌝ }
 {
-    let w = v + 1;
+    let w = v + PLACES;
     let mut rest = rows;
     let mut left = m;
     while 0 < left {
@@ -92,14 +94,14 @@ fn side(rows: &[u64], v: usize, m: usize, n: u64) -> bool
 
 // Does each of m rows list some?
 fn housed(rows: &[u64], v: usize, m: usize) -> bool
-    requires { ⌜ Rowed v (v + 1) m (now rows) × (v ≤ 256) ⌝ }
+    requires { ⌜ Rowed v (rowWide v) m (now rows) × (v ≤ 256) ⌝ }
     ensures { λ r. ⌜ r ≡ all housed (rowsOf v m (now (rows .entry))) ⌝ }
 {
-    let w = v + 1;
+    let w = v + PLACES;
     let mut rest = rows;
     let mut left = m;
     while 0 < left {
-        if rest[0] < 1 {
+        if rest[COUNT] < 1 {
             return false;
         }
         rest = &rest[w..];
@@ -110,20 +112,20 @@ fn housed(rows: &[u64], v: usize, m: usize) -> bool
 
 // Does row c of n list x?
 fn lists(rows: &[u64], v: usize, n: usize, c: u64, x: u64) -> bool
-    requires { ⌜ Rowed v (v + 1) n (now rows) × (v ≤ 256) × (n ≤ 256) ⌝ }
+    requires { ⌜ Rowed v (rowWide v) n (now rows) × (v ≤ 256) × (n ≤ 256) ⌝ }
     ensures { λ r. ⌜ r ≡ has x (liveAt (rowsOf v n (now (rows .entry))) c) ⌝ }
 {
     if n as u64 <= c {
         return false;
     }
-    let a = (c as usize) * (v + 1);
-    let b = a + v + 1;
+    let a = (c as usize) * (v + PLACES);
+    let b = a + v + PLACES;
     tables::rows::lists(&rows[a..b], x)
 }
 
 // Do the rows that the first k numbers name list x?
 fn listed_by(nums: &[u64], k: usize, others: &[u64], v: usize, n: usize, x: u64) -> bool
-    requires { ⌜ (k ≤ length (now nums)) × Rowed v (v + 1) n (now others) × (v ≤ 256) × (n ≤ 256) ⌝ }
+    requires { ⌜ (k ≤ length (now nums)) × Rowed v (rowWide v) n (now others) × (v ≤ 256) × (n ≤ 256) ⌝ }
     ensures { λ r. ⌜ r ≡ all (λ c. has x (liveAt (rowsOf v n (now (others .entry))) c)) (take k (now (nums .entry))) ⌝ }
 {
     let mut rest = nums;
@@ -140,16 +142,16 @@ fn listed_by(nums: &[u64], k: usize, others: &[u64], v: usize, n: usize, x: u64)
 
 // Of m rows, the first of which is row x: does each that a row lists, list that row?
 fn back(rows: &[u64], u: usize, m: usize, others: &[u64], v: usize, n: usize, x: u64) -> bool
-    requires { ⌜ Rowed u (u + 1) m (now rows) × (u ≤ 256) × Rowed v (v + 1) n (now others) × (v ≤ 256) × (n ≤ 256) × (x + m ≤ 256) ⌝ }
+    requires { ⌜ Rowed u (rowWide u) m (now rows) × (u ≤ 256) × Rowed v (rowWide v) n (now others) × (v ≤ 256) × (n ≤ 256) × (x + m ≤ 256) ⌝ }
     ensures { λ r. ⌜ r ≡ walk (backRow (rowsOf v n (now (others .entry)))) x (rowsOf u m (now (rows .entry))) ⌝ }
 {
-    let w = u + 1;
+    let w = u + PLACES;
     let mut rest = rows;
     let mut left = m;
     let mut at = x;
     while 0 < left {
-        let k = rest[0] as usize;
-        if !listed_by(&rest[1..], k, others, v, n, at) {
+        let k = rest[COUNT] as usize;
+        if !listed_by(&rest[PLACES..], k, others, v, n, at) {
             return false;
         }
         rest = &rest[w..];

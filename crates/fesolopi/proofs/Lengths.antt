@@ -3,6 +3,7 @@ use Prim.Native.Nat.{ℕ, _*_, _≤_}
 use mathlib.Core.Path.{_≡_, refl, sym, ap, _∙_, subst}
 use mathlib.Core.Bool.{Bool, true, false, cond}
 use native.Mathlib.Omega.{arith}
+use Rattle.layout.specs.Widths.{inputWide, orderWide}
 use Rattle.model.specs.declared.Domain.{Domain}
 use Rattle.model.specs.Sizes.{boxOk, countsOk}
 use Rattle.model.specs.Grid.{cells}
@@ -43,7 +44,7 @@ module _ (b : Domain) (n room r : ℕ) (e : r ≡ refusedBy b n room) (z : r ≡
     pub few-cells : c ≤ 256
     few-cells = subst (λ m. m ≤ 256) (sym counted) (cells-max b (both .0))
 
-    pub all-needed : {l : Lengths} → l ≡ lengthsFor (record { grains = n; cells = c; room = room }) → needed 0 (n * 5) (l .lists) (l .grains) (l .queue) (l .events) 512 ≡ neededFor b n room
+    pub all-needed : {l : Lengths} → l ≡ lengthsFor (record { grains = n; cells = c; room = room }) → needed 0 (n * inputWide) (l .lists) (l .grains) (l .queue) (l .events) orderWide ≡ neededFor b n room
     all-needed q =
-        ap (λ (l : Lengths). needed 0 (n * 5) (l .lists) (l .grains) (l .queue) (l .events) 512) q
+        ap (λ (l : Lengths). needed 0 (n * inputWide) (l .lists) (l .grains) (l .queue) (l .events) orderWide) q
         ∙ ap (λ (m : ℕ). neededBy n (record { grains = n; cells = m; room = room })) counted ∙ rw (both .0, both .1)

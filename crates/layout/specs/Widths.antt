@@ -15,7 +15,14 @@ grainWide = 6
 abbrev pub inputWide : ℕ
 inputWide = 5
 
--- ---- rows of numbers: a count and its places. 01's sizes: a grain lists 8 cells, a cell 32 grains
+-- ---- a row begins with its count, and its places follow
+abbrev pub countAt : ℕ
+countAt = 0
+
+abbrev pub placesAt : ℕ
+placesAt = 1
+
+-- ---- rows of numbers. 01's sizes: a grain lists 8 cells, a cell 32 grains
 abbrev pub homeRoom : ℕ
 homeRoom = 8
 
@@ -23,7 +30,7 @@ abbrev pub memberRoom : ℕ
 memberRoom = 32
 
 abbrev pub rowWide : ℕ → ℕ
-rowWide places = places + 1
+rowWide places = places + placesAt
 
 abbrev pub homeWide : ℕ
 homeWide = rowWide homeRoom
@@ -46,7 +53,7 @@ abbrev pub placeRealsWide : ℕ
 placeRealsWide = 10
 
 abbrev pub queueWide : ℕ → ℕ
-queueWide room = room * placeNumsWide + 1
+queueWide room = room * placeNumsWide + placesAt
 
 abbrev pub eventsWide : ℕ → ℕ
 eventsWide room = room * placeRealsWide

@@ -13,14 +13,19 @@ pub const GRAIN: usize = 6;
 
 pub const INPUT: usize = 5;
 
+// A row begins with its count, and its places follow.
+pub const COUNT: usize = 0;
+
+pub const PLACES: usize = 1;
+
 // The places for a grain's cells and for a cell's grains, and each row with its count.
 pub const HOME_ROOM: usize = 8;
 
 pub const MEMBER_ROOM: usize = 32;
 
-pub const HOME: usize = HOME_ROOM + 1;
+pub const HOME: usize = HOME_ROOM + PLACES;
 
-pub const MEMBERS: usize = MEMBER_ROOM + 1;
+pub const MEMBERS: usize = MEMBER_ROOM + PLACES;
 
 // An event's numbers and floats.
 pub const PLACE_NUMS: usize = 4;
@@ -37,7 +42,7 @@ pub fn queue_wide(room: usize) -> usize
     requires { ⌜ room ≤ 256 ⌝ }
     ensures { λ r. ⌜ r ≡ queueWide room ⌝ }
 {
-    room * PLACE_NUMS + 1
+    room * PLACE_NUMS + PLACES
 }
 
 pub fn events_wide(room: usize) -> usize

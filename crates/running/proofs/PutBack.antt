@@ -8,6 +8,7 @@ use lib.ListN.{length, take, drop}
 use lib.Ieee.{Float}
 use lib.Seq.{length-take-le}
 use borrow.Rule.Slice.PartMut.{midOf, putMid, mid-len}
+use Rattle.layout.specs.Widths.{listsHeadWide, grainsHeadWide, orderWide}
 use Rattle.model.specs.declared.Domain.{Domain}
 use Rattle.model.specs.declared.Report.{Report}
 use Rattle.model.specs.declared.Report.the-variants.{Synchronised, Spent, Refused}
@@ -53,7 +54,7 @@ module _ {rate : Float} {t : Tables} (A : Answered rate t 0) where
 
   -- with the counts, the ends, the box and the clock as they were read
   pub lent : {w : Sizes} {n : Lengths} {b : Domain} {x : Float} → w ≡ sizesOf (t .lists) → n ≡ lengthsFor w → b ≡ boxIn (t .lists) (t .grains) → x ≡ clockIn (t .grains)
-      → Lent w b x (midOf 6 (n .lists - 6) (t .lists)) (midOf 3 (n .grains - 3) (t .grains)) (take (n .queue) (t .queue)) (take (n .events) (t .events)) (take 512 (t .order)) (decoded t)
+      → Lent w b x (midOf listsHeadWide (n .lists - listsHeadWide) (t .lists)) (midOf grainsHeadWide (n .grains - grainsHeadWide) (t .grains)) (take (n .queue) (t .queue)) (take (n .events) (t .events)) (take orderWide (t .order)) (decoded t)
   lent ze ne be xe = rw (ne, ze, be, xe) body
 
   pub placed : {w : Sizes} {b : Domain} {g : Grid} → w ≡ sizesOf (t .lists) → b ≡ boxIn (t .lists) (t .grains) → g ≡ gridOf b → Placed w b g
@@ -80,9 +81,9 @@ module _ {rate : Float} {t : Tables} (A : Answered rate t 0) where
 
   put-back : (budget : ℕ) {r : Report} {l : List ℕ} {g : List Float} {q : List ℕ} {e : List Float} {o : List ℕ} {m : ℕ} {x : Float} {l′ : List ℕ} {g′ : List Float}
       → length l ≡ length (listsBody (z A) (t .lists)) → length g ≡ length (grainsBody (z A) (t .grains)) → length q ≡ length (queueBody (z A) (t .queue)) → length e ≡ length (eventsBody (z A) (t .events)) → length o ≡ length (orderBody (t .order))
-      → l′ ≡ withMark m (putMid 6 (listsNeed (z A) - 6) (t .lists) l) → g′ ≡ withClock x (putMid 3 (grainsNeed (z A) - 3) (t .grains) g) → m ≡ markOf r → x ≡ clockOf r
+      → l′ ≡ withMark m (putMid listsHeadWide (listsNeed (z A) - listsHeadWide) (t .lists) l) → g′ ≡ withClock x (putMid grainsHeadWide (grainsNeed (z A) - grainsHeadWide) (t .grains) g) → m ≡ markOf r → x ≡ clockOf r
       → Gone (z A) (boxIn (t .lists) (t .grains)) l g q e o r (ran budget)
-      → toldTables r (tables l′ g′ (q ++ drop (queueNeed (z A)) (t .queue)) (e ++ drop (eventsNeed (z A)) (t .events)) (o ++ drop 512 (t .order))) ≡ ranOver (ran budget) t
+      → toldTables r (tables l′ g′ (q ++ drop (queueNeed (z A)) (t .queue)) (e ++ drop (eventsNeed (z A)) (t .events)) (o ++ drop orderWide (t .order))) ≡ ranOver (ran budget) t
   unfolding encoded
   put-back budget {r = r} {l = l} {g = g} {q = q} {e = e} {o = o} {m = m} {x = x} {l′ = l′} {g′ = g′} ll lg lq le lo el eg em ex G =
       answer-same r (decoded left) s left ∙ ap (λ (u : Ran). beside u left) (G .answer) ∙ ap (beside (ran budget)) (λ i. tables (lists-is i) (grains-is i) (queue-is i) (events-is i) (order-is i))
@@ -91,19 +92,19 @@ module _ {rate : Float} {t : Tables} (A : Answered rate t 0) where
       s = (runFrom rate budget 0 (decoded t)) .state
 
       left : Tables
-      left = tables l′ g′ (q ++ drop (queueNeed (z A)) (t .queue)) (e ++ drop (eventsNeed (z A)) (t .events)) (o ++ drop 512 (t .order))
+      left = tables l′ g′ (q ++ drop (queueNeed (z A)) (t .queue)) (e ++ drop (eventsNeed (z A)) (t .events)) (o ++ drop orderWide (t .order))
 
       sizes-are : sizesOf (t .lists) ≡ sizesIn s
       sizes-are = λ i. record { grains = sym (G .holds .grained .many) i; cells = sym (G .holds .queued .heap .cells-is) i; room = sym (G .holds .queued .room-is) i }
 
       lists-is : left .lists ≡ (encoded s t) .lists
       lists-is =
-          el ∙ lists-back (t .lists) l (t .grains) m (listsNeed (z A) - 6) (let h = long A .lists-long in omega arith) (whole A .hold .flags) (ll ∙ mid-len 6 (listsNeed (z A)) (t .lists) (long A .lists-long))
+          el ∙ lists-back (t .lists) l (t .grains) m (listsNeed (z A) - listsHeadWide) (let h = long A .lists-long in omega arith) (whole A .hold .flags) (ll ∙ mid-len 6 (listsNeed (z A)) (t .lists) (long A .lists-long))
           ∙ λ i. over (listsHead ((em ∙ sym (G .mark)) i) (sizes-are i) (sym (G .box) i) ++ (G .holds .listed .is i)) (t .lists)
 
       grains-is : left .grains ≡ (encoded s t) .grains
       grains-is =
-          eg ∙ grains-back (t .lists) (t .grains) g x (grainsNeed (z A) - 3) (let h = long A .grains-long in omega arith) (lg ∙ mid-len 3 (grainsNeed (z A)) (t .grains) (long A .grains-long))
+          eg ∙ grains-back (t .lists) (t .grains) g x (grainsNeed (z A) - grainsHeadWide) (let h = long A .grains-long in omega arith) (lg ∙ mid-len 3 (grainsNeed (z A)) (t .grains) (long A .grains-long))
           ∙ λ i. over (grainsHead (sym (G .box) i) ((ex ∙ sym (G .clock)) i) ++ (G .holds .grained .is i)) (t .grains)
 
       queue-is : left .queue ≡ (encoded s t) .queue
@@ -113,13 +114,14 @@ module _ {rate : Float} {t : Tables} (A : Answered rate t 0) where
       events-is = front-back (t .events) e _ (eventsNeed (z A)) (le ∙ length-take-le (eventsNeed (z A)) (t .events) (long A .events-long)) (G .holds .queued .tables .events-is)
 
       order-is : left .order ≡ (encoded s t) .order
-      order-is = front-back (t .order) o _ 512 (lo ∙ length-take-le 512 (t .order) (long A .order-long)) (G .holds .queued .heap .is)
+      order-is = front-back (t .order) o _ orderWide (lo ∙ length-take-le orderWide (t .order) (long A .order-long)) (G .holds .queued .heap .is)
 
   -- with the counts, the ends and the box as they were read
   pub worked : (budget : ℕ) {w : Sizes} {n : Lengths} {b : Domain} {r : Report} {l : List ℕ} {g : List Float} {q : List ℕ} {e : List Float} {o : List ℕ} {m : ℕ} {x : Float} {l′ : List ℕ} {g′ : List Float}
       → w ≡ sizesOf (t .lists) → n ≡ lengthsFor w → b ≡ boxIn (t .lists) (t .grains)
-      → length l ≡ length (midOf 6 (n .lists - 6) (t .lists)) → length g ≡ length (midOf 3 (n .grains - 3) (t .grains)) → length q ≡ length (take (n .queue) (t .queue)) → length e ≡ length (take (n .events) (t .events)) → length o ≡ length (take 512 (t .order))
-      → l′ ≡ withMark m (putMid 6 (n .lists - 6) (t .lists) l) → g′ ≡ withClock x (putMid 3 (n .grains - 3) (t .grains) g) → m ≡ markOf r → x ≡ clockOf r → Gone w b l g q e o r (ran budget)
-      → toldTables r (tables l′ g′ (q ++ drop (n .queue) (t .queue)) (e ++ drop (n .events) (t .events)) (o ++ drop 512 (t .order))) ≡ ranOver (ran budget) t
+      → length l ≡ length (midOf listsHeadWide (n .lists - listsHeadWide) (t .lists)) → length g ≡ length (midOf grainsHeadWide (n .grains - grainsHeadWide) (t .grains))
+      → length q ≡ length (take (n .queue) (t .queue)) → length e ≡ length (take (n .events) (t .events)) → length o ≡ length (take orderWide (t .order))
+      → l′ ≡ withMark m (putMid listsHeadWide (n .lists - listsHeadWide) (t .lists) l) → g′ ≡ withClock x (putMid grainsHeadWide (n .grains - grainsHeadWide) (t .grains) g) → m ≡ markOf r → x ≡ clockOf r → Gone w b l g q e o r (ran budget)
+      → toldTables r (tables l′ g′ (q ++ drop (n .queue) (t .queue)) (e ++ drop (n .events) (t .events)) (o ++ drop orderWide (t .order))) ≡ ranOver (ran budget) t
   worked budget ze ne be ll lg lq le lo el eg em ex G =
       rw (ne, ze) (put-back budget (rw (ne, ze) at ll) (rw (ne, ze) at lg) (rw (ne, ze) at lq) (rw (ne, ze) at le) lo (rw (ne, ze) at el) (rw (ne, ze) at eg) em ex (rw (ze, be) at G))

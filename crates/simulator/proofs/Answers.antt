@@ -7,6 +7,7 @@ use native.Mathlib.Omega.{arith}
 use lib.Dec.{eqb}
 use lib.ListN.{length}
 use lib.Ieee.{Float}
+use Rattle.layout.specs.Widths.{inputWide}
 use Rattle.model.specs.declared.Domain.{Domain}
 use Rattle.model.specs.declared.Started.{Started}
 use Rattle.model.specs.declared.Started.the-variants as answer
@@ -95,5 +96,5 @@ pub one-start : (b : Domain) (n room : ℕ) (inputs : List Float) (t : Tables) (
 one-start b n room inputs t r q a c e f = (ap (λ (w : StartedWith). w .answer) (e ∙ sym f), ap (λ (w : StartedWith). w .after) (e ∙ sym f))
 
 -- the table of start numbers is within 01's bound, as the five are (checks, Needs)
-pub inputs-most : (z : Sizes) → z .grains * 5 ≤ allowed z
+pub inputs-most : (z : Sizes) → z .grains * inputWide ≤ allowed z
 inputs-most z = omega arith

@@ -7,6 +7,7 @@ use native.Mathlib.Omega.{arith}
 use lib.ListN.{length, getD, drop, length-append, length-drop}
 use lib.Seq.{take-at}
 use lib.Ieee.{Float}
+use Rattle.layout.specs.Widths.{listsHeadWide, grainsHeadWide, grainWide, homeRoom, memberRoom, queueWide, eventsWide, orderWide}
 use Rattle.chunks.specs.Flat.{flat}
 use Rattle.chunks.proofs.Laws.{length-flat, row-long}
 use Rattle.model.specs.Grid.{cells, boxOf}
@@ -41,7 +42,7 @@ pub record Long (z : Sizes) (t : Tables) : Type 0 where
   pub grains : grainsNeed z ≤ length (t .grains)
   pub queue : queueNeed z ≤ length (t .queue)
   pub events : eventsNeed z ≤ length (t .events)
-  pub order : 512 ≤ length (t .order)
+  pub order : orderWide ≤ length (t .order)
 
 over-long : {A : Type 0} (xs l : List A) (k : ℕ) → length xs ≡ k → k ≤ length l → length (over xs l) ≡ length l
 over-long xs l k e h = let a = length-append xs (drop (length xs) l) in let d = length-drop (length xs) l in omega (arith, a, d, e)
@@ -62,7 +63,7 @@ module _ (s : State) (K : Sound s) where
   holds l g q e o =
       let n = K .heap .cells in
       record {
-        listed = record { is = l; homes = side-rows 8 (s .homes) refl (sym n) (K .lists .homes); members = side-rows 32 (s .members) (sym n) refl (K .lists .members) };
+        listed = record { is = l; homes = side-rows homeRoom (s .homes) refl (sym n) (K .lists .homes); members = side-rows memberRoom (s .members) (sym n) refl (K .lists .members) };
         grained = record { is = g; many = refl };
         queued = sound-held {z = sizesIn s} s K refl (sym n) refl q e o;
       }
@@ -75,15 +76,15 @@ module _ (s : State) (K : Sound s) where
   lists-many = let l = listed-long (H .listed) in omega (arith, l)
 
   grains-many : length (flat grainReals (s .grains)) ≡ grainsNeed (sizesIn s) - 3
-  grains-many = let g : length (flat grainReals (s .grains)) ≡ length (s .grains) * 6 = row-long grainReals 6 (λ p. refl) (lib.Dec.lit< tt) (s .grains) refl in omega (arith, g)
+  grains-many = let g : length (flat grainReals (s .grains)) ≡ length (s .grains) * grainWide = row-long grainReals grainWide (λ p. refl) (lib.Dec.lit< tt) (s .grains) refl in omega (arith, g)
 
   queue-many : length (flat queueNums (s .queues)) ≡ queueNeed (sizesIn s)
-  queue-many = length-flat queueNums (s .room * 4 + 1) (s .queues) (rows-nums-wide (s .room) (s .queues) (H .queued .tables .good)) ∙ ap (λ (n : ℕ). n * (s .room * 4 + 1)) (H .queued .tables .many)
+  queue-many = length-flat queueNums (queueWide (s .room)) (s .queues) (rows-nums-wide (s .room) (s .queues) (H .queued .tables .good)) ∙ ap (λ (n : ℕ). n * (queueWide (s .room))) (H .queued .tables .many)
 
   events-many : length (flat queueReals (s .queues)) ≡ eventsNeed (sizesIn s)
-  events-many = length-flat queueReals (s .room * 10) (s .queues) (rows-reals-wide (s .room) (s .queues) (H .queued .tables .good)) ∙ ap (λ (n : ℕ). n * (s .room * 10)) (H .queued .tables .many)
+  events-many = length-flat queueReals (eventsWide (s .room)) (s .queues) (rows-reals-wide (s .room) (s .queues) (H .queued .tables .good)) ∙ ap (λ (n : ℕ). n * (eventsWide (s .room))) (H .queued .tables .many)
 
-  order-many : length (orderBytes (s .sched)) ≡ 512
+  order-many : length (orderBytes (s .sched)) ≡ orderWide
   order-many = let a = length-append (s .sched .heap) (s .sched .lookups) in let h = H .queued .heap .heap-long in let l = H .queued .heap .lookups-long in omega (arith, a, h, l)
 
   -- with the headers
@@ -108,11 +109,11 @@ module _ (s : State) (K : Sound s) where
       flags = (flagged-small (s .box .periodic0), flagged-small (s .box .periodic1));
       box-is = λ i. boxOf (s .box .lengths) (flag-back (s .box .periodic0) i) (flag-back (s .box .periodic1) i);
       clock-is = refl;
-      body = holds (take-at (flat rowNums (s .homes) ++ flat rowNums (s .members)) (drop (length lists-front) (t .lists)) (listsNeed (sizesIn s) - 6) lists-many)
-          (take-at (flat grainReals (s .grains)) (drop (length grains-front) (t .grains)) (grainsNeed (sizesIn s) - 3) grains-many)
+      body = holds (take-at (flat rowNums (s .homes) ++ flat rowNums (s .members)) (drop (length lists-front) (t .lists)) (listsNeed (sizesIn s) - listsHeadWide) lists-many)
+          (take-at (flat grainReals (s .grains)) (drop (length grains-front) (t .grains)) (grainsNeed (sizesIn s) - grainsHeadWide) grains-many)
           (take-at (flat queueNums (s .queues)) (drop (length (flat queueNums (s .queues))) (t .queue)) (queueNeed (sizesIn s)) queue-many)
           (take-at (flat queueReals (s .queues)) (drop (length (flat queueReals (s .queues))) (t .events)) (eventsNeed (sizesIn s)) events-many)
-          (take-at (orderBytes (s .sched)) (drop (length (orderBytes (s .sched))) (t .order)) 512 order-many);
+          (take-at (orderBytes (s .sched)) (drop (length (orderBytes (s .sched))) (t .order)) orderWide order-many);
     }
 
     -- READ AS THE STATE THAT THEY HOLD
@@ -152,7 +153,7 @@ module _ (s : State) (K : Sound s) where
           grains-long = let e = over-long grains-front (t .grains) (grainsNeed (sizesIn s)) grains-long (F .grains) in let h = F .grains in omega (arith, e, h);
           queue-long = let e = over-long (flat queueNums (s .queues)) (t .queue) (queueNeed (sizesIn s)) queue-many (F .queue) in let h = F .queue in omega (arith, e, h);
           events-long = let e = over-long (flat queueReals (s .queues)) (t .events) (eventsNeed (sizesIn s)) events-many (F .events) in let h = F .events in omega (arith, e, h);
-          order-long = let e = over-long (orderBytes (s .sched)) (t .order) 512 order-many (F .order) in let h = F .order in omega (arith, e, h);
+          order-long = let e = over-long (orderBytes (s .sched)) (t .order) orderWide order-many (F .order) in let h = F .order in omega (arith, e, h);
         }
 
 -- ---- a state over another of the same sizes

@@ -12,6 +12,7 @@ use lib.Dec.{leb}
 use lib.ListN.{length}
 use lib.Ieee.{Float}
 use borrow.Author.Tests.{leb-true}
+use Rattle.layout.specs.Widths.{inputWide}
 use Rattle.model.specs.declared.Domain.{Domain}
 use Rattle.model.specs.declared.Particle.{Particle}
 use Rattle.model.specs.declared.Started.the-variants as answer
@@ -101,7 +102,7 @@ module _ (b : Domain) (n room : ℕ) (inputs : List Float) (t : Tables) where
   number = (startAll b n room inputs t) .number
 
   many : length (inputsOf n inputs) ≡ n
-  many = cut-long inputAt 5 n inputs
+  many = cut-long inputAt inputWide n inputs
 
   -- a start that was not refused gives 0 or a halt's number, so not 1 to 4
   pub begin-halts : boxOk b ≡ true → fit ≡ true → firstBad b (inputsOf n inputs) ≡ n → ((begin b room (inputsOf n inputs)) .num ≡ 0 → ⊥) → (5 ≤ (begin b room (inputsOf n inputs)) .num) × ((begin b room (inputsOf n inputs)) .num ≤ 9)

@@ -10,6 +10,7 @@ use lib.Dec.{eqb, leb}
 use lib.ListN.{length, length-replicate}
 use lib.Ieee.{Float}
 use borrow.Author.Tests.{leb-true}
+use Rattle.layout.specs.Widths.{inputWide, orderWide}
 use Rattle.order.specs.Numbers.{fzero}
 use Rattle.model.specs.declared.Domain.{Domain}
 use Rattle.model.specs.declared.Report.{Report}
@@ -78,7 +79,7 @@ not-taken r g x = by (eqb r 4) x
 
 begins : (b : Domain) (n room : ℕ) (inputs : List Float) (t : Tables) → Taken ((startAll b n room inputs t) .answer) → Begins b n room inputs t ((startAll b n room inputs t) .after)
 unfolding startAll fits
-begins b n room inputs t = by (boxOk b) (countsOk room n) (leb (n * 5) (length inputs)) (long (sizesFor b n room) (length (t .lists)) (length (t .grains)) (length (t .queue)) (length (t .events)) (length (t .order))) refl (start b room (inputsOf n inputs)) refl
+begins b n room inputs t = by (boxOk b) (countsOk room n) (leb (n * inputWide) (length inputs)) (long (sizesFor b n room) (length (t .lists)) (length (t .grains)) (length (t .queue)) (length (t .events)) (length (t .order))) refl (start b room (inputsOf n inputs)) refl
   where
     by : (x y w v : Bool) → long (sizesFor b n room) (length (t .lists)) (length (t .grains)) (length (t .queue)) (length (t .events)) (length (t .order)) ≡ v → (o : Begun) → start b room (inputsOf n inputs) ≡ o
         → Taken ((cond x (cond (y && (w && v)) (startedOver o t) (with (answer.Refused 2) t)) (with (answer.Refused 1) t)) .answer)
@@ -97,7 +98,7 @@ start-kept b room n inputs s e =
     let a = begin-acted b room gs in
     let k = does-kept (a .acts) (clear b room (length gs)) ((begin b room gs) .st) (a .did) in
     let q = accepted b room gs s e .is in
-    (ap (λ (u : State). u .box) q ∙ k .box, ap (λ (u : State). u .room) q ∙ k .room, ap (λ (u : State). length (u .grains)) q ∙ k .few ∙ length-replicate (length gs) zeroG ∙ cut-long inputAt 5 n inputs)
+    (ap (λ (u : State). u .box) q ∙ k .box, ap (λ (u : State). u .room) q ∙ k .room, ap (λ (u : State). length (u .grains)) q ∙ k .few ∙ length-replicate (length gs) zeroG ∙ cut-long inputAt inputWide n inputs)
 
 long-apart : (z : Sizes) (t : Tables) → long z (length (t .lists)) (length (t .grains)) (length (t .queue)) (length (t .events)) (length (t .order)) ≡ true → Long z (cleared t)
 long-apart z t e =
@@ -105,7 +106,7 @@ long-apart z t e =
     let b = leb (grainsNeed z) (length (t .grains)) in
     let c = leb (queueNeed z) (length (t .queue)) in
     let d = leb (eventsNeed z) (length (t .events)) in
-    let o = leb 512 (length (t .order)) in
+    let o = leb orderWide (length (t .order)) in
     let f = and-l (a && b) ((c && d) && o) e in
     let g = and-r (a && b) ((c && d) && o) e in
     let h = and-l (c && d) o g in
@@ -114,7 +115,7 @@ long-apart z t e =
       grains = let w = leb-true (grainsNeed z) (length (t .grains)) (and-r a b f) in let r = length-replicate (length (t .grains)) fzero in omega (arith, w, r);
       queue = let w = leb-true (queueNeed z) (length (t .queue)) (and-l c d h) in let r = length-replicate {A = ℕ} (length (t .queue)) 0 in omega (arith, w, r);
       events = let w = leb-true (eventsNeed z) (length (t .events)) (and-r c d h) in let r = length-replicate (length (t .events)) fzero in omega (arith, w, r);
-      order = let w = leb-true 512 (length (t .order)) (and-r (c && d) o g) in let r = length-replicate {A = ℕ} (length (t .order)) 0 in omega (arith, w, r);
+      order = let w = leb-true orderWide (length (t .order)) (and-r (c && d) o g) in let r = length-replicate {A = ℕ} (length (t .order)) 0 in omega (arith, w, r);
     }
 
 -- what calls leave

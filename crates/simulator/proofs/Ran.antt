@@ -5,6 +5,7 @@ use mathlib.Core.Path.{_≡_, refl, sym, ap, _∙_, subst}
 use mathlib.Core.Bool.{Bool, true, false, _&&_, cond}
 use native.Mathlib.Omega.{arith}
 use lib.Ieee.{Float}
+use Rattle.layout.specs.Widths.{grainWide}
 use Rattle.model.specs.Grid.{cells}
 use Rattle.model.specs.Sizes.{rated}
 use Rattle.model.specs.State.{State}
@@ -92,7 +93,7 @@ module _ (rate : Float) (b : ℕ) (t : Tables) (S : sized t ≡ true) (L : legib
   pub left-long : rated rate ≡ true → Stands (decoded t) → Long (sizesIn ((runFrom rate b 0 (decoded t)) .state)) t
   left-long R st =
       let u = (runFrom rate b 0 (decoded t)) .state in
-      let n : (sizesIn (decoded t)) .grains ≡ (sizesOf (t .lists)) .grains = cut-long grainAt 6 ((sizesOf (t .lists)) .grains) (grainsPart (t .grains)) in
+      let n : (sizesIn (decoded t)) .grains ≡ (sizesOf (t .lists)) .grains = cut-long grainAt grainWide ((sizesOf (t .lists)) .grains) (grainsPart (t .grains)) in
       let z : sizesIn u ≡ sizesOf (t .lists) = sizes-same (decoded t) u (st .sound) (left-sound R st) (run-kept rate b 0 (decoded t)) ∙ (λ i. record { grains = n i; cells = (sizesOf (t .lists)) .cells; room = (sizesOf (t .lists)) .room }) in
       let F = sized-means t S in
       subst (λ (y : Sizes). Long y t) (sym z) (record { lists = F .lists-long; grains = F .grains-long; queue = F .queue-long; events = F .events-long; order = F .order-long })

@@ -7,6 +7,7 @@ use lib.Dec.{leb}
 use lib.ListN.{length}
 use lib.Ieee.{Float}
 use borrow.Author.Tests.{leb-true, eq-eqb, ne-eqb}
+use Rattle.layout.specs.Widths.{inputWide}
 use Rattle.model.specs.declared.Domain.{Domain}
 use Rattle.model.specs.declared.Particle.{Particle}
 use Rattle.model.specs.declared.Started.the-variants as answer
@@ -45,13 +46,13 @@ module _ (z : Sizes) (ni nl ng nq ne no : ℕ) (e : fits z ni nl ng nq ne no ≡
   unfolding fits
   counts-pass = and-l (countsOk (z .room) (z .grains)) _ e
 
-  inputs-pass : leb (z .grains * 5) ni ≡ true
+  inputs-pass : leb (z .grains * inputWide) ni ≡ true
   unfolding fits
-  inputs-pass = and-l (leb (z .grains * 5) ni) _ (and-r (countsOk (z .room) (z .grains)) _ e)
+  inputs-pass = and-l (leb (z .grains * inputWide) ni) _ (and-r (countsOk (z .room) (z .grains)) _ e)
 
   long-pass : long z nl ng nq ne no ≡ true
   unfolding fits
-  long-pass = and-r (leb (z .grains * 5) ni) _ (and-r (countsOk (z .room) (z .grains)) _ e)
+  long-pass = and-r (leb (z .grains * inputWide) ni) _ (and-r (countsOk (z .room) (z .grains)) _ e)
 
   pub startable : (b : Domain) (g : Grid) → boxOk b ≡ true → g ≡ gridOf b → z .cells ≡ cells b → Startable z b g ni nl ng nq ne no
   startable b g box grid are =
@@ -121,19 +122,19 @@ module _ (b : Domain) (n room : ℕ) (inputs : List Float) (t : Tables) where
 
       pub counts-ok : countsOk room (length (inputsOf n inputs)) ≡ true
       counts-ok =
-          ap (countsOk room) (cut-long inputAt 5 n inputs)
+          ap (countsOk room) (cut-long inputAt inputWide n inputs)
           ∙ counts-pass (sizesFor b n room) (length inputs) (length (t .lists)) (length (t .grains)) (length (t .queue)) (length (t .events)) (length (t .order)) e
 
       pub start-4 : (bad : ℕ) → bad ≡ firstBad b (inputsOf n inputs) → (bad ≡ n → ⊥) → with (answer.BadGrain bad) t ≡ startAll b n room inputs t
       start-4 bad f u =
           ap (λ (k : ℕ). with (answer.BadGrain k) t) f
-          ∙ sym (start-is ∙ ap (λ (r : Begun). startedOver r t) (start-bad b room (inputsOf n inputs) box counts-ok (λ q. u (f ∙ q ∙ cut-long inputAt 5 n inputs))))
+          ∙ sym (start-is ∙ ap (λ (r : Begun). startedOver r t) (start-bad b room (inputsOf n inputs) box counts-ok (λ q. u (f ∙ q ∙ cut-long inputAt inputWide n inputs))))
 
       start-begun : (r : ℕ) (u : Tables) → firstBad b (inputsOf n inputs) ≡ n → Began (begin b room (inputsOf n inputs)) r t u → with (markTold r) u ≡ startAll b n room inputs t
       start-begun r u f B =
           (λ i. with (markTold (B .number i)) (B .left i))
           ∙ (let o = begin b room (inputsOf n inputs) in λ i. record { number = mark-number (o .num) i; grain = mark-grain (o .num) i; answer = markTold (o .num); after = encoded (marked (o .num) (o .st)) (cleared t) })
-          ∙ sym (start-is ∙ ap (λ (r : Begun). startedOver r t) (start-good b room (inputsOf n inputs) box counts-ok (f ∙ sym (cut-long inputAt 5 n inputs))))
+          ∙ sym (start-is ∙ ap (λ (r : Begun). startedOver r t) (start-good b room (inputsOf n inputs) box counts-ok (f ∙ sym (cut-long inputAt inputWide n inputs))))
 
       pub start-accepted : (r : ℕ) (u : Tables) → firstBad b (inputsOf n inputs) ≡ n → Began (begin b room (inputsOf n inputs)) r t u → r ≡ 0 → with answer.Accepted u ≡ startAll b n room inputs t
       start-accepted r u f B z = ap (λ (k : ℕ). with (markTold k) u) (sym z) ∙ start-begun r u f B

@@ -6,6 +6,7 @@ use native.Mathlib.Omega.{arith}
 use lib.ListN.{length, replicate, length-replicate}
 use lib.Ieee.{Float}
 use borrow.Rule.Slice.PartMut.{midOf, putMid}
+use Rattle.layout.specs.Widths.{listsHeadWide, grainsHeadWide, grainWide, inputWide, membersWide, homeFrom, queueWide, eventsWide, orderWide}
 use Rattle.order.specs.Numbers.{fzero}
 use Rattle.chunks.specs.Flat.{flat}
 use Rattle.halting.specs.Out.{Out, then, each}
@@ -62,7 +63,7 @@ module _ {z : Sizes} {w : World} (inputs : List Float) {l : List ℕ} {t : List 
   unfolding beginning
   begin-is =
       performs.begin-is (w .domain) (z .room) (inputsOf (z .grains) inputs)
-      ∙ ap (λ (n : ℕ). then (each (goesIn (inputsOf (z .grains) inputs)) n 0 (clear (w .domain) (z .room) n)) (λ s. each initCell (cells (w .domain)) 0 s)) (cut-long inputAt 5 (z .grains) inputs)
+      ∙ ap (λ (n : ℕ). then (each (goesIn (inputsOf (z .grains) inputs)) n 0 (clear (w .domain) (z .room) n)) (λ s. each initCell (cells (w .domain)) 0 s)) (cut-long inputAt inputWide (z .grains) inputs)
       ∙ ap (λ (n : ℕ). then (each (goesIn (inputsOf (z .grains) inputs)) n 0 (blank z w)) (λ s. each initCell (cells (w .domain)) 0 s)) (let h : z .grains ≡ z .grains - 0 = omega arith in h)
       ∙ ap (λ (n : ℕ). then (allIn z w inputs) (λ s. each initCell n 0 s)) (F .placed .cells-are)
 
@@ -131,38 +132,38 @@ module _ {z : Sizes} {b : Domain} {g : Grid} {ni : ℕ} (tab : Tables) (S : Star
   order₀ = over (orderBytes (startHeap (z .cells))) (replicate no 0)
 
   abbrev listsLong : ℕ
-  listsLong = 6 + z .grains * 9 + z .cells * 33 - 6
+  listsLong = listsHeadWide + homeFrom (z .grains) + z .cells * membersWide - listsHeadWide
 
   abbrev grainsLong : ℕ
-  grainsLong = 3 + z .grains * 6 - 3
+  grainsLong = grainsHeadWide + z .grains * grainWide - grainsHeadWide
 
   abbrev queueLong : ℕ
-  queueLong = z .cells * (z .room * 4 + 1) - 0
+  queueLong = z .cells * (queueWide (z .room)) - 0
 
   abbrev eventsLong : ℕ
-  eventsLong = z .cells * (z .room * 10) - 0
+  eventsLong = z .cells * (eventsWide (z .room)) - 0
 
-  order-full : length (orderBytes (startHeap (z .cells))) ≡ 512
+  order-full : length (orderBytes (startHeap (z .cells))) ≡ orderWide
   order-full = start-long (z .cells) (few-cells S)
 
-  lists-part : midOf 6 listsLong lists₀ ≡ replicate (z .grains * 9 + z .cells * 33) 0
+  lists-part : midOf listsHeadWide listsLong lists₀ ≡ replicate (homeFrom (z .grains) + z .cells * membersWide) 0
   lists-part =
-      let k : listsLong ≡ z .grains * 9 + z .cells * 33 = omega arith in
-      over-part (listsHead 0 z b) (replicate nl 0) 6 listsLong refl ∙ same-part 0 nl 6 listsLong (let h = S .lists-long in omega arith) ∙ ap (λ (n : ℕ). replicate n 0) k
+      let k : listsLong ≡ homeFrom (z .grains) + z .cells * membersWide = omega arith in
+      over-part (listsHead 0 z b) (replicate nl 0) listsHeadWide listsLong refl ∙ same-part 0 nl listsHeadWide listsLong (let h = S .lists-long in omega arith) ∙ ap (λ (n : ℕ). replicate n 0) k
 
-  grains-part : midOf 3 grainsLong grains₀ ≡ replicate (z .grains * 6) fzero
+  grains-part : midOf grainsHeadWide grainsLong grains₀ ≡ replicate (z .grains * grainWide) fzero
   grains-part =
-      let k : grainsLong ≡ z .grains * 6 = omega arith in
-      over-part (grainsHead b fzero) (replicate ng fzero) 3 grainsLong refl ∙ same-part fzero ng 3 grainsLong (let h = S .grains-long in omega arith) ∙ ap (λ (n : ℕ). replicate n fzero) k
+      let k : grainsLong ≡ z .grains * grainWide = omega arith in
+      over-part (grainsHead b fzero) (replicate ng fzero) grainsHeadWide grainsLong refl ∙ same-part fzero ng grainsHeadWide grainsLong (let h = S .grains-long in omega arith) ∙ ap (λ (n : ℕ). replicate n fzero) k
 
-  queue-part : midOf 0 queueLong (replicate {A = ℕ} nq 0) ≡ replicate (z .cells * (z .room * 4 + 1)) 0
-  queue-part = let h = S .queue-long in same-part 0 nq 0 queueLong (omega arith) ∙ ap (λ (n : ℕ). replicate n 0) (let k : queueLong ≡ z .cells * (z .room * 4 + 1) = omega arith in k)
+  queue-part : midOf 0 queueLong (replicate {A = ℕ} nq 0) ≡ replicate (z .cells * (queueWide (z .room))) 0
+  queue-part = let h = S .queue-long in same-part 0 nq 0 queueLong (omega arith) ∙ ap (λ (n : ℕ). replicate n 0) (let k : queueLong ≡ z .cells * (queueWide (z .room)) = omega arith in k)
 
-  events-part : midOf 0 eventsLong (replicate ne fzero) ≡ replicate (z .cells * (z .room * 10)) fzero
-  events-part = let h = S .events-long in same-part fzero ne 0 eventsLong (omega arith) ∙ ap (λ (n : ℕ). replicate n fzero) (let k : eventsLong ≡ z .cells * (z .room * 10) = omega arith in k)
+  events-part : midOf 0 eventsLong (replicate ne fzero) ≡ replicate (z .cells * (eventsWide (z .room))) fzero
+  events-part = let h = S .events-long in same-part fzero ne 0 eventsLong (omega arith) ∙ ap (λ (n : ℕ). replicate n fzero) (let k : eventsLong ≡ z .cells * (eventsWide (z .room)) = omega arith in k)
 
-  order-part : midOf 0 (512 - 0) order₀ ≡ orderBytes (startHeap (z .cells))
-  order-part = over-front (orderBytes (startHeap (z .cells))) (replicate no 0) (512 - 0) order-full
+  order-part : midOf 0 (orderWide - 0) order₀ ≡ orderBytes (startHeap (z .cells))
+  order-part = over-front (orderBytes (startHeap (z .cells))) (replicate no 0) (orderWide - 0) order-full
 
   module _ {l : List ℕ} {t : List Float} {q : List ℕ} {e : List Float} {o : List ℕ} (H : tables l t q e o ≡ headed z b tab) where
     el : l ≡ lists₀
@@ -181,10 +182,10 @@ module _ {z : Sizes} {b : Domain} {g : Grid} {ni : ℕ} (tab : Tables) (S : Star
     eo = ap (λ (u : Tables). u .order) H
 
     abbrev L : List ℕ
-    L = midOf 6 listsLong l
+    L = midOf listsHeadWide listsLong l
 
     abbrev G : List Float
-    G = midOf 3 grainsLong t
+    G = midOf grainsHeadWide grainsLong t
 
     abbrev Q : List ℕ
     Q = midOf 0 queueLong q
@@ -193,22 +194,22 @@ module _ {z : Sizes} {b : Domain} {g : Grid} {ni : ℕ} (tab : Tables) (S : Star
     E = midOf 0 eventsLong e
 
     abbrev O : List ℕ
-    O = midOf 0 (512 - 0) o
+    O = midOf 0 (orderWide - 0) o
 
-    part-l : L ≡ replicate (z .grains * 9 + z .cells * 33) 0
-    part-l = ap (midOf 6 listsLong) el ∙ lists-part
+    part-l : L ≡ replicate (homeFrom (z .grains) + z .cells * membersWide) 0
+    part-l = ap (midOf listsHeadWide listsLong) el ∙ lists-part
 
-    part-g : G ≡ replicate (z .grains * 6) fzero
-    part-g = ap (midOf 3 grainsLong) et ∙ grains-part
+    part-g : G ≡ replicate (z .grains * grainWide) fzero
+    part-g = ap (midOf grainsHeadWide grainsLong) et ∙ grains-part
 
-    part-q : Q ≡ replicate (z .cells * (z .room * 4 + 1)) 0
+    part-q : Q ≡ replicate (z .cells * (queueWide (z .room))) 0
     part-q = ap (midOf 0 queueLong) eq ∙ queue-part
 
-    part-e : E ≡ replicate (z .cells * (z .room * 10)) fzero
+    part-e : E ≡ replicate (z .cells * (eventsWide (z .room))) fzero
     part-e = ap (midOf 0 eventsLong) ee ∙ events-part
 
     part-o : O ≡ orderBytes (startHeap (z .cells))
-    part-o = ap (midOf 0 (512 - 0)) eo ∙ order-part
+    part-o = ap (midOf 0 (orderWide - 0)) eo ∙ order-part
 
     world-held : (l : List ℕ) (t : List Float) (q : List ℕ) (e : List Float) (o : List ℕ) → Holds z l t q e o (clear b (z .room) (z .grains)) → Held z (worldAt b g fzero) l t q e o (clear b (z .room) (z .grains))
     unfolding clear
@@ -233,36 +234,36 @@ module _ {z : Sizes} {b : Domain} {g : Grid} {ni : ℕ} (tab : Tables) (S : Star
           let h = told .1 .seen in
           λ i. record { grains = (sym (h .grained .many)) i; cells = (sym (h .queued .heap .cells-is)) i; room = (sym (h .queued .room-is)) i }
 
-      lists-end : withMark r (putMid 6 listsLong l l′) ≡ over (listsHead (a .num) (sizesIn end) (end .box) ++ (flat rowNums (end .homes) ++ flat rowNums (end .members))) (replicate nl 0)
+      lists-end : withMark r (putMid listsHeadWide listsLong l l′) ≡ over (listsHead (a .num) (sizesIn end) (end .box) ++ (flat rowNums (end .homes) ++ flat rowNums (end .members))) (replicate nl 0)
       lists-end =
-          ap (λ (m : List ℕ). withMark r (putMid 6 listsLong m l′)) el
-          ∙ ap (withMark r) (over-put (listsHead 0 z b) l′ (replicate nl 0) 6 listsLong refl (kl ∙ ap length part-l ∙ length-replicate (z .grains * 9 + z .cells * 33) 0 ∙ (let k : z .grains * 9 + z .cells * 33 ≡ listsLong = omega arith in k)))
+          ap (λ (m : List ℕ). withMark r (putMid listsHeadWide listsLong m l′)) el
+          ∙ ap (withMark r) (over-put (listsHead 0 z b) l′ (replicate nl 0) listsHeadWide listsLong refl (kl ∙ ap length part-l ∙ length-replicate (homeFrom (z .grains) + z .cells * membersWide) 0 ∙ (let k : homeFrom (z .grains) + z .cells * membersWide ≡ listsLong = omega arith in k)))
           ∙ λ i. over (listsHead (told .0 i) (sizes-end i) (sym (told .1 .seen .at .0) i) ++ told .1 .listed .is i) (replicate nl 0)
 
-      grains-end : putMid 3 grainsLong t t′ ≡ over (grainsHead (end .box) (end .clock) ++ flat grainReals (end .grains)) (replicate ng fzero)
+      grains-end : putMid grainsHeadWide grainsLong t t′ ≡ over (grainsHead (end .box) (end .clock) ++ flat grainReals (end .grains)) (replicate ng fzero)
       grains-end =
-          ap (λ (m : List Float). putMid 3 grainsLong m t′) et
-          ∙ over-put (grainsHead b fzero) t′ (replicate ng fzero) 3 grainsLong refl (kg ∙ ap length part-g ∙ length-replicate (z .grains * 6) fzero ∙ (let k : z .grains * 6 ≡ grainsLong = omega arith in k))
+          ap (λ (m : List Float). putMid grainsHeadWide grainsLong m t′) et
+          ∙ over-put (grainsHead b fzero) t′ (replicate ng fzero) grainsHeadWide grainsLong refl (kg ∙ ap length part-g ∙ length-replicate (z .grains * grainWide) fzero ∙ (let k : z .grains * grainWide ≡ grainsLong = omega arith in k))
           ∙ λ i. over (grainsHead (sym (told .1 .seen .at .0) i) (sym (told .1 .seen .at .1) i) ++ told .1 .seen .grained .is i) (replicate ng fzero)
 
       queue-end : putMid 0 queueLong q q′ ≡ over (flat queueNums (end .queues)) (replicate nq 0)
       queue-end =
           ap (λ (m : List ℕ). putMid 0 queueLong m q′) eq
-          ∙ over-put [] q′ (replicate nq 0) 0 queueLong refl (kq ∙ ap length part-q ∙ length-replicate (z .cells * (z .room * 4 + 1)) 0 ∙ (let k : z .cells * (z .room * 4 + 1) ≡ queueLong = omega arith in k))
+          ∙ over-put [] q′ (replicate nq 0) 0 queueLong refl (kq ∙ ap length part-q ∙ length-replicate (z .cells * (queueWide (z .room))) 0 ∙ (let k : z .cells * (queueWide (z .room)) ≡ queueLong = omega arith in k))
           ∙ ap (λ (m : List ℕ). over m (replicate nq 0)) (told .1 .seen .queued .tables .queue-is)
 
       events-end : putMid 0 eventsLong e e′ ≡ over (flat queueReals (end .queues)) (replicate ne fzero)
       events-end =
           ap (λ (m : List Float). putMid 0 eventsLong m e′) ee
-          ∙ over-put [] e′ (replicate ne fzero) 0 eventsLong refl (ke ∙ ap length part-e ∙ length-replicate (z .cells * (z .room * 10)) fzero ∙ (let k : z .cells * (z .room * 10) ≡ eventsLong = omega arith in k))
+          ∙ over-put [] e′ (replicate ne fzero) 0 eventsLong refl (ke ∙ ap length part-e ∙ length-replicate (z .cells * (eventsWide (z .room))) fzero ∙ (let k : z .cells * (eventsWide (z .room)) ≡ eventsLong = omega arith in k))
           ∙ ap (λ (m : List Float). over m (replicate ne fzero)) (told .1 .seen .queued .tables .events-is)
 
-      order-end : putMid 0 (512 - 0) o o′ ≡ over (orderBytes (end .sched)) (replicate no 0)
+      order-end : putMid 0 (orderWide - 0) o o′ ≡ over (orderBytes (end .sched)) (replicate no 0)
       order-end =
-          ap (λ (m : List ℕ). putMid 0 (512 - 0) m o′) eo
-          ∙ over-again (orderBytes (startHeap (z .cells))) o′ (replicate no 0) (512 - 0) order-full (ko ∙ ap length part-o ∙ order-full)
+          ap (λ (m : List ℕ). putMid 0 (orderWide - 0) m o′) eo
+          ∙ over-again (orderBytes (startHeap (z .cells))) o′ (replicate no 0) (orderWide - 0) order-full (ko ∙ ap length part-o ∙ order-full)
           ∙ ap (λ (m : List ℕ). over m (replicate no 0)) (told .1 .seen .queued .heap .is)
 
-      pub begun : Began a r tab (tables (withMark r (putMid 6 listsLong l l′)) (putMid 3 grainsLong t t′) (putMid 0 queueLong q q′) (putMid 0 eventsLong e e′) (putMid 0 (512 - 0) o o′))
+      pub begun : Began a r tab (tables (withMark r (putMid listsHeadWide listsLong l l′)) (putMid grainsHeadWide grainsLong t t′) (putMid 0 queueLong q q′) (putMid 0 eventsLong e e′) (putMid 0 (orderWide - 0) o o′))
       unfolding encoded
       begun = record { number = told .0; left = λ i. tables (lists-end i) (grains-end i) (queue-end i) (events-end i) (order-end i) }

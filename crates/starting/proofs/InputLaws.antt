@@ -7,6 +7,7 @@ use native.Mathlib.Omega.{arith}
 use lib.ListN.{length, getD}
 use lib.Ieee.{Float}
 use borrow.Rule.Slice.PartMut.{midOf}
+use Rattle.layout.specs.Widths.{inputWide}
 use Rattle.order.specs.Numbers.{fzero}
 use Rattle.model.specs.declared.Domain.{Domain}
 use Rattle.model.specs.declared.Particle.{Particle}
@@ -17,12 +18,12 @@ use Rattle.chunks.proofs.Laws.{tail-is}
 use Rattle.checks.proofs.Cut.{cut-none, cut-step, cut-at, cut-long}
 use Rattle.tables.specs.Inputs.{inputAt, inputsOf}
 
-pub input-read : (n : ℕ) (l : List Float) (i : ℕ) → i < n → inputAt (midOf (i * 5) (length l - i * 5) l) ≡ getD (inputsOf n l) i zeroG
-input-read n l i h = ap inputAt (tail-is (i * 5) l) ∙ sym (cut-at inputAt 5 n l i zeroG h)
+pub input-read : (n : ℕ) (l : List Float) (i : ℕ) → i < n → inputAt (midOf (i * inputWide) (length l - i * inputWide) l) ≡ getD (inputsOf n l) i zeroG
+input-read n l i h = ap inputAt (tail-is (i * inputWide) l) ∙ sym (cut-at inputAt inputWide n l i zeroG h)
 
 -- its time is 0
 pub input-timed : (n : ℕ) (l : List Float) (i : ℕ) (p : Particle) → i < n → p ≡ getD (inputsOf n l) i zeroG → grainOf (p .pos) (p .vel) fzero (p .val) ≡ p
-input-timed n l i p h e = subst (λ (q : Particle). grainOf (q .pos) (q .vel) fzero (q .val) ≡ q) (sym (e ∙ cut-at inputAt 5 n l i zeroG h)) refl
+input-timed n l i p h e = subst (λ (q : Particle). grainOf (q .pos) (q .vel) fzero (q .val) ≡ q) (sym (e ∙ cut-at inputAt inputWide n l i zeroG h)) refl
 
 module _ (b : Domain) where
   first-step : (p : Particle) (ps : List Particle) → grainOk b p ≡ true → 1 + firstBad b ps ≡ firstBad b (p ∷ ps)
@@ -48,14 +49,14 @@ module _ (b : Domain) where
 
   module _ (n : ℕ) (l : List Float) where
     pub bad-most : firstBad b (inputsOf n l) ≤ n
-    bad-most = subst (λ (k : ℕ). firstBad b (inputsOf n l) ≤ k) (cut-long inputAt 5 n l) (most (inputsOf n l))
+    bad-most = subst (λ (k : ℕ). firstBad b (inputsOf n l) ≤ k) (cut-long inputAt inputWide n l) (most (inputsOf n l))
 
     pub bad-none : n ≡ 0 → 0 ≡ firstBad b (inputsOf n l)
-    bad-none e = first-empty ∙ ap (firstBad b) (sym (cut-none inputAt 5 n l e))
+    bad-none e = first-empty ∙ ap (firstBad b) (sym (cut-none inputAt inputWide n l e))
 
     pub bad-first : (n ≡ 0 → ⊥) → grainOk b (inputAt l) ≡ false → 0 ≡ firstBad b (inputsOf n l)
-    bad-first z e = first-stop (inputAt l) (inputsOf (n - 1) (midOf 5 (length l - 5) l)) e ∙ ap (firstBad b) (sym (cut-step inputAt 5 n l z))
+    bad-first z e = first-stop (inputAt l) (inputsOf (n - 1) (midOf inputWide (length l - inputWide) l)) e ∙ ap (firstBad b) (sym (cut-step inputAt inputWide n l z))
 
-    pub bad-later : (k : ℕ) → (n ≡ 0 → ⊥) → grainOk b (inputAt l) ≡ true → k ≡ firstBad b (inputsOf (n - 1) (midOf 5 (length l - 5) l)) → 1 + k ≡ firstBad b (inputsOf n l)
+    pub bad-later : (k : ℕ) → (n ≡ 0 → ⊥) → grainOk b (inputAt l) ≡ true → k ≡ firstBad b (inputsOf (n - 1) (midOf inputWide (length l - inputWide) l)) → 1 + k ≡ firstBad b (inputsOf n l)
     bad-later k z e f =
-        ap (λ (j : ℕ). 1 + j) f ∙ first-step (inputAt l) (inputsOf (n - 1) (midOf 5 (length l - 5) l)) e ∙ ap (firstBad b) (sym (cut-step inputAt 5 n l z))
+        ap (λ (j : ℕ). 1 + j) f ∙ first-step (inputAt l) (inputsOf (n - 1) (midOf inputWide (length l - inputWide) l)) e ∙ ap (firstBad b) (sym (cut-step inputAt inputWide n l z))

@@ -8,6 +8,7 @@ use native.Mathlib.Numerals.{add-one}
 use native.Mathlib.Omega.{arith}
 use lib.ListN.{length, replicate, length-append, length-replicate, replicate-append-replicate}
 use lib.Ieee.{Float}
+use Rattle.layout.specs.Widths.{grainWide, homeRoom, memberRoom, homeWide, membersWide, homeFrom, placeNumsWide, placeRealsWide, queueWide, eventsWide, orderWide}
 use Rattle.order.specs.Numbers.{fzero}
 use Rattle.halting.specs.Every.{All}
 use Rattle.chunks.specs.Flat.{flat}
@@ -46,76 +47,76 @@ empty-rows m w n = record {
   below = every-same (λ (r : Row ℕ). All (λ (x : ℕ). x < n) (r .live)) (empty w 0) tt m;
 }
 
-empty-queue : (room : ℕ) → queueNums (empty room zeroP) ≡ replicate (room * 4 + 1) 0
-empty-queue room = ap (λ (l : List ℕ). 0 ∷ l) (sym (flat-same placeNums zeroP 0 4 refl room)) ∙ ap (λ (k : ℕ). replicate k 0) (sym (add-one (room * 4)))
+empty-queue : (room : ℕ) → queueNums (empty room zeroP) ≡ replicate (queueWide room) 0
+empty-queue room = ap (λ (l : List ℕ). 0 ∷ l) (sym (flat-same placeNums zeroP 0 placeNumsWide refl room)) ∙ ap (λ (k : ℕ). replicate k 0) (sym (add-one (room * placeNumsWide)))
 
-empty-events : (room : ℕ) → queueReals (empty room zeroP) ≡ replicate (room * 10) fzero
-empty-events room = sym (flat-same placeReals zeroP fzero 10 refl room)
+empty-events : (room : ℕ) → queueReals (empty room zeroP) ≡ replicate (eventsWide room) fzero
+empty-events room = sym (flat-same placeReals zeroP fzero placeRealsWide refl room)
 
 module _ (b : Domain) (room n : ℕ) where
   abbrev zeroLists : List ℕ
-  zeroLists = replicate (n * 9 + cells b * 33) 0
+  zeroLists = replicate (homeFrom n + cells b * membersWide) 0
 
   abbrev zeroGrains : List Float
-  zeroGrains = replicate (n * 6) fzero
+  zeroGrains = replicate (n * grainWide) fzero
 
   abbrev zeroQueue : List ℕ
-  zeroQueue = replicate (cells b * (room * 4 + 1)) 0
+  zeroQueue = replicate (cells b * queueWide room) 0
 
   abbrev zeroEvents : List Float
-  zeroEvents = replicate (cells b * (room * 10)) fzero
+  zeroEvents = replicate (cells b * eventsWide room) fzero
 
   clear-listed : Listed (sizesFor b n room) zeroLists ((clear b room n) .homes) ((clear b room n) .members)
   unfolding clear
   clear-listed = record {
     is =
-        sym (replicate-append-replicate (n * 9) (cells b * 33) 0)
-        ∙ ap (λ (l : List ℕ). l ++ replicate (cells b * 33) 0) (flat-same rowNums (empty 8 0) 0 9 refl n)
-        ∙ ap (λ (l : List ℕ). flat rowNums (replicate n (empty 8 0)) ++ l) (flat-same rowNums (empty 32 0) 0 33 refl (cells b));
-    homes = empty-rows n 8 (cells b);
-    members = empty-rows (cells b) 32 n;
+        sym (replicate-append-replicate (homeFrom n) (cells b * membersWide) 0)
+        ∙ ap (λ (l : List ℕ). l ++ replicate (cells b * membersWide) 0) (flat-same rowNums (empty homeRoom 0) 0 homeWide refl n)
+        ∙ ap (λ (l : List ℕ). flat rowNums (replicate n (empty homeRoom 0)) ++ l) (flat-same rowNums (empty memberRoom 0) 0 membersWide refl (cells b));
+    homes = empty-rows n homeRoom (cells b);
+    members = empty-rows (cells b) memberRoom n;
   }
 
   clear-grained : Grained (sizesFor b n room) zeroGrains ((clear b room n) .grains)
   unfolding clear
-  clear-grained = record { is = flat-same grainReals zeroG fzero 6 refl n; many = length-replicate n zeroG }
+  clear-grained = record { is = flat-same grainReals zeroG fzero grainWide refl n; many = length-replicate n zeroG }
 
   module _ (box : boxOk b ≡ true) (r : 16 ≤ room) (r′ : room ≤ 256) (few : n ≤ 256) where
     clear-queued : Queued (sizesFor b n room) zeroQueue zeroEvents (orderBytes (startHeap (cells b))) (clear b room n)
     unfolding clear
     clear-queued =
         sound-held {z = sizesFor b n room} (clear b room n) (clear-sound b room n box r r′ few) (length-replicate n zeroG) refl refl
-        (flat-same queueNums (empty room zeroP) 0 (room * 4 + 1) (empty-queue room) (cells b))
-        (flat-same queueReals (empty room zeroP) fzero (room * 10) (empty-events room) (cells b)) refl
+        (flat-same queueNums (empty room zeroP) 0 (queueWide room) (empty-queue room) (cells b))
+        (flat-same queueReals (empty room zeroP) fzero (eventsWide room) (empty-events room) (cells b)) refl
 
     clear-held : Holds (sizesFor b n room) zeroLists zeroGrains zeroQueue zeroEvents (orderBytes (startHeap (cells b))) (clear b room n)
     clear-held = record { listed = clear-listed; grained = clear-grained; queued = clear-queued }
 
 -- the heap and the lookups of a start
-pub start-long : (n : ℕ) → n ≤ 256 → length (orderBytes (startHeap n)) ≡ 512
+pub start-long : (n : ℕ) → n ≤ 256 → length (orderBytes (startHeap n)) ≡ orderWide
 start-long n h =
     let i = start-inverse n h in
     length-append ((startHeap n) .heap) ((startHeap n) .lookups) ∙ (let p = i .heap-long in let q = i .lookups-long in omega arith)
 
 -- over any sizes that are the box's
 pub cleared-held : (z : Sizes) (b : Domain) → z .cells ≡ cells b → boxOk b ≡ true → 16 ≤ z .room → z .room ≤ 256 → z .grains ≤ 256
-    → {l : List ℕ} {t : List Float} {q : List ℕ} {e : List Float} {o : List ℕ} → l ≡ replicate (z .grains * 9 + z .cells * 33) 0 → t ≡ replicate (z .grains * 6) fzero
-    → q ≡ replicate (z .cells * (z .room * 4 + 1)) 0 → e ≡ replicate (z .cells * (z .room * 10)) fzero → o ≡ orderBytes (startHeap (z .cells))
+    → {l : List ℕ} {t : List Float} {q : List ℕ} {e : List Float} {o : List ℕ} → l ≡ replicate (homeFrom (z .grains) + z .cells * membersWide) 0 → t ≡ replicate (z .grains * grainWide) fzero
+    → q ≡ replicate (z .cells * (queueWide (z .room))) 0 → e ≡ replicate (z .cells * (eventsWide (z .room))) fzero → o ≡ orderBytes (startHeap (z .cells))
     → Holds z l t q e o (clear b (z .room) (z .grains))
 cleared-held z b c box r r′ few {l} {t} {q} {e} {o} el et eq ee eo = go (sym el) (sym et) (sym eq) (sym ee) (sym eo)
   where
     at : ℕ → Type 0
-    at n = Holds (record { grains = z .grains; cells = n; room = z .room }) (replicate (z .grains * 9 + n * 33) 0) (replicate (z .grains * 6) fzero)
-        (replicate (n * (z .room * 4 + 1)) 0) (replicate (n * (z .room * 10)) fzero) (orderBytes (startHeap n)) (clear b (z .room) (z .grains))
+    at n = Holds (record { grains = z .grains; cells = n; room = z .room }) (replicate (homeFrom (z .grains) + n * membersWide) 0) (replicate (z .grains * grainWide) fzero)
+        (replicate (n * (queueWide (z .room))) 0) (replicate (n * (eventsWide (z .room))) fzero) (orderBytes (startHeap n)) (clear b (z .room) (z .grains))
 
     zeros : at (z .cells)
     zeros = subst at (sym c) (clear-held b (z .room) (z .grains) box r r′ few)
 
-    go : replicate (z .grains * 9 + z .cells * 33) 0 ≡ l → replicate (z .grains * 6) fzero ≡ t → replicate (z .cells * (z .room * 4 + 1)) 0 ≡ q
-        → replicate (z .cells * (z .room * 10)) fzero ≡ e → orderBytes (startHeap (z .cells)) ≡ o → Holds z l t q e o (clear b (z .room) (z .grains))
+    go : replicate (homeFrom (z .grains) + z .cells * membersWide) 0 ≡ l → replicate (z .grains * grainWide) fzero ≡ t → replicate (z .cells * (queueWide (z .room))) 0 ≡ q
+        → replicate (z .cells * (eventsWide (z .room))) fzero ≡ e → orderBytes (startHeap (z .cells)) ≡ o → Holds z l t q e o (clear b (z .room) (z .grains))
     go a b′ c′ d f =
         subst (λ (m : List ℕ). Holds z m t q e o (clear b (z .room) (z .grains))) a
-        (subst (λ (m : List Float). Holds z (replicate (z .grains * 9 + z .cells * 33) 0) m q e o (clear b (z .room) (z .grains))) b′
-        (subst (λ (m : List ℕ). Holds z (replicate (z .grains * 9 + z .cells * 33) 0) (replicate (z .grains * 6) fzero) m e o (clear b (z .room) (z .grains))) c′
-        (subst (λ (m : List Float). Holds z (replicate (z .grains * 9 + z .cells * 33) 0) (replicate (z .grains * 6) fzero) (replicate (z .cells * (z .room * 4 + 1)) 0) m o (clear b (z .room) (z .grains))) d
-        (subst (λ (m : List ℕ). Holds z (replicate (z .grains * 9 + z .cells * 33) 0) (replicate (z .grains * 6) fzero) (replicate (z .cells * (z .room * 4 + 1)) 0) (replicate (z .cells * (z .room * 10)) fzero) m (clear b (z .room) (z .grains))) f zeros))))
+        (subst (λ (m : List Float). Holds z (replicate (homeFrom (z .grains) + z .cells * membersWide) 0) m q e o (clear b (z .room) (z .grains))) b′
+        (subst (λ (m : List ℕ). Holds z (replicate (homeFrom (z .grains) + z .cells * membersWide) 0) (replicate (z .grains * grainWide) fzero) m e o (clear b (z .room) (z .grains))) c′
+        (subst (λ (m : List Float). Holds z (replicate (homeFrom (z .grains) + z .cells * membersWide) 0) (replicate (z .grains * grainWide) fzero) (replicate (z .cells * (queueWide (z .room))) 0) m o (clear b (z .room) (z .grains))) d
+        (subst (λ (m : List ℕ). Holds z (replicate (homeFrom (z .grains) + z .cells * membersWide) 0) (replicate (z .grains * grainWide) fzero) (replicate (z .cells * (queueWide (z .room))) 0) (replicate (z .cells * (eventsWide (z .room))) fzero) m (clear b (z .room) (z .grains))) f zeros))))

@@ -6,6 +6,7 @@ use mathlib.Core.List.{List}
 use native.Mathlib.Omega.{arith}
 use lib.Ieee.{Float}
 use lib.ListN.{length, getD, List·getD-append}
+use Rattle.layout.specs.Widths.{queueWide}
 use Rattle.cell.specs.declared.Grid.{Grid}
 use Rattle.model.specs.declared.Domain.{Domain}
 use Rattle.model.specs.declared.Place.{Place}
@@ -43,7 +44,7 @@ module _ {z : Sizes} {l : List ℕ} {g : List Float} {q : List ℕ} {e : List Fl
     pub root-in : getD o 0 0 < z .cells
     root-in = let k = first-in s (st .sound) (cells-some (s .box)) in let r = root-is in omega (arith, n)
 
-    pub root-some : 0 < getD q (getD o 0 0 * (z .room * 4 + 1)) 0
+    pub root-some : 0 < getD q (getD o 0 0 * (queueWide (z .room))) 0
     root-some = rw root-is (let k = count-at (h .queued .tables) (first s) in let m = first-some s st in omega (arith, k))
 
     -- what its head asks for is there, also in the state without it

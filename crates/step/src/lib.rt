@@ -89,7 +89,7 @@ pub fn step(
         grid,
         clock,
     };
-    let e = event::event_of(place);
+    let e = tables::places::event_of(place);
     let code = execute::execute(lists, grains, queue, events, order, z, w, rate, e);
     Stepped {
         code,

@@ -6,7 +6,7 @@ use mathlib.Core.Bool.{Bool, _&&_}
 use lib.Dec.{eqb, leb}
 use lib.ListN.{getD, take, drop}
 use lib.Ieee.{Float, nan}
-use Rattle.layout.specs.Widths.{listsHeadWide, grainsHeadWide, grainWide, rowWide, homeFrom, placeNumsWide, placeRealsWide, queueWide, eventsWide, heapWide, homeRoom, memberRoom}
+use Rattle.layout.specs.Widths.{listsHeadWide, grainsHeadWide, grainWide, countAt, placesAt, rowWide, homeFrom, placeNumsWide, placeRealsWide, queueWide, eventsWide, heapWide, homeRoom, memberRoom}
 use Rattle.myvec.specs.Vec.{vec}
 use Rattle.scheduler.specs.declared.Scheduler.{Scheduler}
 use Rattle.model.specs.declared.Domain.{Domain}
@@ -69,7 +69,7 @@ grainsOf n g = cut grainAt grainWide n g
 
 -- ---- rows of numbers: a count, then v places
 abbrev pub rowAt : ℕ → List ℕ → Row ℕ
-rowAt v l = rowOf (getD l 0 0) (take v (drop 1 l))
+rowAt v l = rowOf (getD l countAt 0) (take v (drop placesAt l))
 
 abbrev pub rowsOf : ℕ → ℕ → List ℕ → List (Row ℕ)
 rowsOf v n l = cut (rowAt v) (rowWide v) n l
@@ -93,7 +93,7 @@ abbrev pub placesOf : ℕ → List ℕ → List Float → List Place
 placesOf n q e = cutBoth placeAt placeNumsWide placeRealsWide n q e
 
 abbrev pub queueAt : ℕ → List ℕ → List Float → Row Place
-queueAt room q e = rowOf (getD q 0 0) (placesOf room (drop 1 q) e)
+queueAt room q e = rowOf (getD q countAt 0) (placesOf room (drop placesAt q) e)
 
 abbrev pub queuesOf : ℕ → ℕ → List ℕ → List Float → List (Row Place)
 queuesOf room n q e = cutBoth (queueAt room) (queueWide room) (eventsWide room) n q e

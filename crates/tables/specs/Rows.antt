@@ -3,6 +3,7 @@ use Prim.Native.Nat.{ℕ}
 use mathlib.Core.Path.{_≡_}
 use mathlib.Core.List.{List}
 use lib.ListN.{getD}
+use Rattle.layout.specs.Widths.{countAt}
 use Rattle.model.specs.State.{Row}
 use Rattle.tables.specs.Layout.{rowNums}
 
@@ -12,4 +13,4 @@ InNums l P = (r : Row ℕ) × (l ≡ rowNums r) × P r
 
 -- a row's count, its first number
 abbrev pub countIn : List ℕ → ℕ
-countIn l = getD l 0 0
+countIn l = getD l countAt 0

@@ -1,11 +1,16 @@
-// Events, and the places that hold them: a run of places is a part of each of two lent tables.
+// Events, and the places that hold them: a run of places is a part of each of two lent tables. No other file has a place's numbers, nor the numbers of the kinds.
 ghost use mathlib.Core.Path.{_≡_};
-ghost use Prim.Native.Nat.{_+_, _-_, _*_, _<_, _≤_};
+ghost use Prim.Native.Nat.{ℕ, _+_, _-_, _*_, _<_, _≤_};
 ghost use mathlib.Core.List.{List, _∷_, _++_};
+ghost use mathlib.Core.Bool.{_&&_};
+ghost use lib.Dec.{leb};
+ghost use lib.Ieee.{Float};
 ghost use lib.ListN.{length, replicate, getD, set};
 ghost use Rattle.layout.specs.Widths.{placeNumsWide, placeRealsWide};
 ghost use Rattle.model.specs.Events.{placeOf, eventOf, names, insertBy, keepBy, goneBy, zeroP, finePlace};
 ghost use Rattle.model.specs.declared.Place.{Place as PlaceV};
+ghost use Rattle.model.specs.Standing.{one-if};
+ghost use Rattle.tables.specs.Decode.{placeAt};
 ghost use Rattle.tables.specs.Holds.{Run};
 ghost use Rattle.tables.specs.Places.{Passed, Keeping};
 use layout::PLACE_NUMS;
@@ -125,6 +130,45 @@ pub fn place_of(e: Pending) -> Place
     }
 }
 
+// The event that a place holds.
+pub fn event_of(s: Place) -> Event
+    ensures { λ r. ⌜ r ≡ eventOf (s .kind) s ⌝ }
+{
+    let kind = s.kind;
+    let a = s.a;
+    let b = s.b;
+    let c = s.c;
+    let d = s.d;
+    match kind {
+        1 => Event::InterParticleCollision {
+            p: s.p,
+            q: s.q,
+            p_pos: a,
+            q_pos: b,
+            p_vel: c,
+            q_vel: d,
+            val: s.val,
+        },
+        2 => Event::MoveToNeighbour {
+            p: s.p,
+            pos: a,
+            cell: s.cell,
+        },
+        3 => Event::MoveOutOfCell {
+            p: s.p,
+            pos: a,
+            cell: s.cell,
+        },
+        4 => Event::WallReflection {
+            p: s.p,
+            pos: a,
+            vel: c,
+            val: s.val,
+        },
+        _ => Event::Synchronisation,
+    }
+}
+
 // Whether a place's event names a grain. Most name others, and then their kind is not asked.
 pub fn names_grain(s: Place, g: u64) -> bool
     ensures { λ r. ⌜ r ≡ names (eventOf (s .kind) s) g ⌝ }
@@ -139,6 +183,38 @@ pub fn names_grain(s: Place, g: u64) -> bool
         return false;
     }
     s.kind < 5
+}
+
+// Is a place's kind one of the five?
+pub fn known_kind(s: Place) -> bool
+    ensures { λ r. ⌜ r ≡ (leb 1 (s .kind) && leb (s .kind) 5) ⌝ }
+{
+    if s.kind < 1 {
+        return false;
+    }
+    s.kind <= 5
+}
+
+// Of the first of a run of places: its time, and 1 where it holds a synchronisation, else 0.
+pub fn first_time(reals: &[f64]) -> f64
+    requires { ⌜ placeRealsWide ≤ length (now reals) ⌝ }
+    ensures { λ r. ⌜ ((q : List ℕ) → r ≡ (placeAt q (now (reals .entry))) .time) ⌝ }
+{
+    reals[0]
+}
+
+pub fn first_sync(nums: &[u64]) -> usize
+    requires { ⌜ placeNumsWide ≤ length (now nums) ⌝ }
+    ensures { λ r. ⌜ ((e : List Float) → r ≡ one-if (eventOf (getD (now (nums .entry)) 0 0) (placeAt (now (nums .entry)) e))) ⌝ }
+{
+    let kind = nums[0];
+    if kind < 1 {
+        return 1;
+    }
+    if 4 < kind {
+        return 1;
+    }
+    0
 }
 
 // The first of a run of places.

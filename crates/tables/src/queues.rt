@@ -8,6 +8,8 @@ ghost use Rattle.model.specs.State.{Row};
 ghost use Rattle.tables.specs.Layout.{places};
 ghost use Rattle.tables.specs.Queues.{placed, without, headless, RowIn, InParts};
 use crate::places;
+use layout::COUNT;
+use layout::PLACES;
 use model::Place;
 
 // A row with room holds one more event, after every one that is not later.
@@ -15,9 +17,9 @@ pub fn insert(nums: &mut [u64], reals: &mut [f64], e: Place)
     requires { ⌜ InParts (now nums) (now reals) (λ r. length (r .live) < length (places r)) ⌝ }
     ensures { λ _. ⌜ ((r : Row PlaceV) → RowIn (now (nums .entry)) (now (reals .entry)) r → RowIn (now (nums .exit)) (now (reals .exit)) (placed e r)) ⌝ }
 {
-    let n = nums[0] as usize;
-    places::insert(&mut nums[1..], reals, n, e);
-    nums[0] = (n + 1) as u64;
+    let n = nums[COUNT] as usize;
+    places::insert(&mut nums[PLACES..], reals, n, e);
+    nums[COUNT] = (n + 1) as u64;
 }
 
 // The events that name a grain go.
@@ -25,9 +27,9 @@ pub fn cancel(nums: &mut [u64], reals: &mut [f64], g: u64)
     requires { ⌜ InParts (now nums) (now reals) (λ r. length (r .live) ≤ length (places r)) ⌝ }
     ensures { λ _. ⌜ ((r : Row PlaceV) → RowIn (now (nums .entry)) (now (reals .entry)) r → RowIn (now (nums .exit)) (now (reals .exit)) (without g r)) ⌝ }
 {
-    let n = nums[0] as usize;
-    let kept = places::cancel(&mut nums[1..], reals, n, g);
-    nums[0] = kept as u64;
+    let n = nums[COUNT] as usize;
+    let kept = places::cancel(&mut nums[PLACES..], reals, n, g);
+    nums[COUNT] = kept as u64;
 }
 
 // The first event of a row that holds one goes.
@@ -36,9 +38,9 @@ pub fn take(nums: &mut [u64], reals: &mut [f64]) -> Place
     ensures { λ x. ⌜ ((r : Row PlaceV) → RowIn (now (nums .entry)) (now (reals .entry)) r
         → (x ≡ headPlace (r .live)) × RowIn (now (nums .exit)) (now (reals .exit)) (headless r)) ⌝ }
 {
-    let n = nums[0] as usize;
-    let first = places::get_head(&nums[1..], reals);
-    places::pull(&mut nums[1..], reals, n - 1);
-    nums[0] = (n - 1) as u64;
+    let n = nums[COUNT] as usize;
+    let first = places::get_head(&nums[PLACES..], reals);
+    places::pull(&mut nums[PLACES..], reals, n - 1);
+    nums[COUNT] = (n - 1) as u64;
     first
 }

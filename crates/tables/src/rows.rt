@@ -9,13 +9,15 @@ ghost use Rattle.tables.specs.Layout.{places, rowNums};
 ghost use Rattle.tables.specs.Parts.{lent};
 ghost use Rattle.tables.specs.Rows.{InNums, countIn};
 use crate::parts::Part;
+use layout::COUNT;
+use layout::PLACES;
 
 // How many places of a row are in use: its first number. A row of events has it too.
 pub fn count_of(row: &[u64]) -> usize
     requires { ⌜ 0 < length (now row) ⌝ }
     ensures { λ n. ⌜ n ≡ countIn (now (row .entry)) ⌝ }
 {
-    row[0] as usize
+    row[COUNT] as usize
 }
 
 // Where the numbers in use stand, of the row at a part of a table.
@@ -27,8 +29,8 @@ pub fn live_of(t: &[u64], p: Part) -> Part
     let at = p.from;
     let n = t[at] as usize;
     Part {
-        from: at + 1,
-        to: at + 1 + n,
+        from: at + PLACES,
+        to: at + PLACES + n,
     }
 }
 
@@ -79,8 +81,8 @@ pub fn lists(row: &[u64], x: u64) -> bool
     requires { ⌜ ((r : Row ℕ) × (now row ≡ rowNums r)) ⌝ }
     ensures { λ b. ⌜ ((r : Row ℕ) → now (row .entry) ≡ rowNums r → b ≡ has x (r .live)) ⌝ }
 {
-    let n = row[0] as usize;
-    has(&row[1..], n, x)
+    let n = row[COUNT] as usize;
+    has(&row[PLACES..], n, x)
 }
 
 // A row with room lists one more, at the end.
@@ -88,9 +90,9 @@ pub fn add_to(row: &mut [u64], x: u64)
     requires { ⌜ InNums (now row) (λ r. length (r .live) < length (places r)) ⌝ }
     ensures { λ _. ⌜ ((r : Row ℕ) → now (row .entry) ≡ rowNums r → now (row .exit) ≡ rowNums (pushed x r)) ⌝ }
 {
-    let n = row[0] as usize;
-    row[n + 1] = x;
-    row[0] = (n + 1) as u64;
+    let n = row[COUNT] as usize;
+    row[n + PLACES] = x;
+    row[COUNT] = (n + 1) as u64;
 }
 
 // A row that lists x does so once less.
@@ -98,7 +100,7 @@ pub fn drop_from(row: &mut [u64], x: u64)
     requires { ⌜ InNums (now row) (λ r. has x (r .live) ≡ true) ⌝ }
     ensures { λ _. ⌜ ((r : Row ℕ) → now (row .entry) ≡ rowNums r → now (row .exit) ≡ rowNums (pulled x r)) ⌝ }
 {
-    let n = row[0] as usize;
-    remove(&mut row[1..], n, x);
-    row[0] = (n - 1) as u64;
+    let n = row[COUNT] as usize;
+    remove(&mut row[PLACES..], n, x);
+    row[COUNT] = (n - 1) as u64;
 }

@@ -1,6 +1,7 @@
 -- `heaped` meets its contract. Assumes nothing.
 use mathlib.Core.Path.{sym, _∙_}
 use borrow.Author.Tests.{not-true, not-false}
+use Rattle.layout.specs.Widths.{heapWide}
 use Rattle.checks.proofs.Tests.{heaped-no, heaped-no-2, heaped-more}
 use lib.ListN.{take, drop, length-drop}
 use Rattle.scheduler.specs.Inside.{headIn}
@@ -14,8 +15,8 @@ slice-aggregate-inverse : tie.Need-slice-aggregate-inverse
 slice-aggregate-inverse c =
     let b : tie.Start = search in
     let o = b .args .order .now in
-    let j = length-take-le 256 o (let k = b .pre .0 in omega arith) in
-    let j′ = length-take-le 256 (drop 256 o) (let k = b .pre .0 in let m = length-drop 256 o in omega arith) in
+    let j = length-take-le heapWide o (let k = b .pre .0 in omega arith) in
+    let j′ = length-take-le heapWide (drop heapWide o) (let k = b .pre .0 in let m = length-drop heapWide o in omega arith) in
     sym j
 
 sub-inverse : tie.Need-sub-inverse
@@ -31,8 +32,8 @@ inverse-requires : tie.Need-inverse-requires
 inverse-requires c κs =
     let b : tie.Start = search in
     let o = b .args .order .now in
-    let j = length-take-le 256 o (let k = b .pre .0 in omega arith) in
-    let j′ = length-take-le 256 (drop 256 o) (let k = b .pre .0 in let m = length-drop 256 o in omega arith) in
+    let j = length-take-le heapWide o (let k = b .pre .0 in omega arith) in
+    let j′ = length-take-le heapWide (drop heapWide o) (let k = b .pre .0 in let m = length-drop heapWide o in omega arith) in
     (let m = b .pre .2 in omega arith, let m = b .pre .2 in omega arith)
 
 returns : tie.Need-returns
@@ -43,7 +44,7 @@ returns c =
     let o = b .args .order .now in
     let q = b .args .queue .now in
     let e = b .args .events .now in
-    heaped-no (headIn e q (z .room)) (z .cells) (take 256 o) (take 256 (drop 256 o)) (sym (c1 .inverse .ensures) ∙ not-true _ (c .if1 .taken))
+    heaped-no (headIn e q (z .room)) (z .cells) (take heapWide o) (take heapWide (drop heapWide o)) (sym (c1 .inverse .ensures) ∙ not-true _ (c .if1 .taken))
 
 sub-inverse-2 : tie.Need-sub-inverse-2
 sub-inverse-2 c = search needs
@@ -58,16 +59,16 @@ slice-aggregate-inverse-2 : tie.Need-slice-aggregate-inverse-2
 slice-aggregate-inverse-2 c =
     let b : tie.Start = search in
     let o = b .args .order .now in
-    let j = length-take-le 256 o (let k = b .pre .0 in omega arith) in
-    let j′ = length-take-le 256 (drop 256 o) (let k = b .pre .0 in let m = length-drop 256 o in omega arith) in
+    let j = length-take-le heapWide o (let k = b .pre .0 in omega arith) in
+    let j′ = length-take-le heapWide (drop heapWide o) (let k = b .pre .0 in let m = length-drop heapWide o in omega arith) in
     sym j
 
 inverse-requires-2 : tie.Need-inverse-requires-2
 inverse-requires-2 c κs =
     let b : tie.Start = search in
     let o = b .args .order .now in
-    let j = length-take-le 256 o (let k = b .pre .0 in omega arith) in
-    let j′ = length-take-le 256 (drop 256 o) (let k = b .pre .0 in let m = length-drop 256 o in omega arith) in
+    let j = length-take-le heapWide o (let k = b .pre .0 in omega arith) in
+    let j′ = length-take-le heapWide (drop heapWide o) (let k = b .pre .0 in let m = length-drop heapWide o in omega arith) in
     (let m = b .pre .2 in omega arith, let m = b .pre .2 in omega arith)
 
 returns-2 : tie.Need-returns-2
@@ -80,22 +81,22 @@ returns-2 c =
     let o = b .args .order .now in
     let q = b .args .queue .now in
     let e = b .args .events .now in
-    heaped-no-2 (headIn e q (z .room)) (z .cells) (take 256 o) (take 256 (drop 256 o)) (sym (c5 .inverse .ensures) ∙ not-false _ (c4 .if1 .left)) (sym (c1 .inverse2 .ensures) ∙ not-true _ (c .if2 .taken))
+    heaped-no-2 (headIn e q (z .room)) (z .cells) (take heapWide o) (take heapWide (drop heapWide o)) (sym (c5 .inverse .ensures) ∙ not-false _ (c4 .if1 .left)) (sym (c1 .inverse2 .ensures) ∙ not-true _ (c .if2 .taken))
 
 slice-aggregate-ordered : tie.Need-slice-aggregate-ordered
 slice-aggregate-ordered c =
     let b : tie.Start = search in
     let o = b .args .order .now in
-    let j = length-take-le 256 o (let k = b .pre .0 in omega arith) in
-    let j′ = length-take-le 256 (drop 256 o) (let k = b .pre .0 in let m = length-drop 256 o in omega arith) in
+    let j = length-take-le heapWide o (let k = b .pre .0 in omega arith) in
+    let j′ = length-take-le heapWide (drop heapWide o) (let k = b .pre .0 in let m = length-drop heapWide o in omega arith) in
     sym j
 
 ordered-requires : tie.Need-ordered-requires
 ordered-requires c κs =
     let b : tie.Start = search in
     let o = b .args .order .now in
-    let j = length-take-le 256 o (let k = b .pre .0 in omega arith) in
-    let j′ = length-take-le 256 (drop 256 o) (let k = b .pre .0 in let m = length-drop 256 o in omega arith) in
+    let j = length-take-le heapWide o (let k = b .pre .0 in omega arith) in
+    let j′ = length-take-le heapWide (drop heapWide o) (let k = b .pre .0 in let m = length-drop heapWide o in omega arith) in
     (let m = b .pre .2 in omega arith, b .pre .1)
 
 returns-3 : tie.Need-returns-3
@@ -109,7 +110,7 @@ returns-3 c =
     let o = b .args .order .now in
     let q = b .args .queue .now in
     let e = b .args .events .now in
-    heaped-more (headIn e q (z .room)) (z .cells) (take 256 o) (take 256 (drop 256 o)) (sym (c7 .inverse .ensures) ∙ not-false _ (c6 .if1 .left)) (sym (c3 .inverse2 .ensures) ∙ not-false _ (c2 .if2 .left)) (c .ordered .ensures)
+    heaped-more (headIn e q (z .room)) (z .cells) (take heapWide o) (take heapWide (drop heapWide o)) (sym (c7 .inverse .ensures) ∙ not-false _ (c6 .if1 .left)) (sym (c3 .inverse2 .ensures) ∙ not-false _ (c2 .if2 .left)) (c .ordered .ensures)
 
 pub heaped-spec : {M : Type 1} → statement M
 heaped-spec =

@@ -1,6 +1,7 @@
 -- `legible` meets its contract. Assumes nothing.
 use mathlib.Core.Path.{sym, ap, _∙_}
 use borrow.Author.Tests.{not-true, not-false}
+use Rattle.layout.specs.Widths.{listsHeadWide, homeRoom, memberRoom, homeWide, membersWide, homeFrom}
 use Rattle.chunks.proofs.Laws.{tail-is}
 use Prim.Native.Nat.{_+_, _*_}
 use Rattle.checks.specs.Check.{countsWithin}
@@ -36,7 +37,7 @@ returns-2 c =
     let start : tie.Start = search in
     rw (
       sym (f .flags-fine .ensures) ∙ not-false _ (else1 .if1 .left),
-      ap (countsWithin 8 9 (start .args .z .grains)) (sym (tail-is 6 (start .args .lists .now))) ∙ sym (c1 .counted .ensures) ∙ not-true _ (c .if2 .taken),
+      ap (countsWithin homeRoom homeWide (start .args .z .grains)) (sym (tail-is listsHeadWide (start .args .lists .now))) ∙ sym (c1 .counted .ensures) ∙ not-true _ (c .if2 .taken),
     )
 
 mul-a : tie.Need-mul-a
@@ -72,8 +73,8 @@ returns-3 c =
     let l = start .args .lists .now in
     rw (
       sym (f .flags-fine .ensures) ∙ not-false _ (else1 .if1 .left),
-      ap (countsWithin 8 9 (z .grains)) (sym (tail-is 6 l)) ∙ sym (c1 .counted .ensures) ∙ not-false _ (else2 .if2 .left),
-      ap (countsWithin 32 33 (z .cells)) (sym (tail-is (6 + z .grains * 9) l)) ∙ sym (c2 .counted2 .ensures) ∙ not-true _ (c .if3 .taken),
+      ap (countsWithin homeRoom homeWide (z .grains)) (sym (tail-is listsHeadWide l)) ∙ sym (c1 .counted .ensures) ∙ not-false _ (else2 .if2 .left),
+      ap (countsWithin memberRoom membersWide (z .cells)) (sym (tail-is (listsHeadWide + homeFrom (z .grains)) l)) ∙ sym (c2 .counted2 .ensures) ∙ not-true _ (c .if3 .taken),
     )
 
 mul-w : tie.Need-mul-w
@@ -98,8 +99,8 @@ returns-4 c =
     let l = start .args .lists .now in
     rw (
       sym (f .flags-fine .ensures) ∙ not-false _ (else1 .if1 .left),
-      ap (countsWithin 8 9 (z .grains)) (sym (tail-is 6 l)) ∙ sym (c1 .counted .ensures) ∙ not-false _ (else2 .if2 .left),
-      ap (countsWithin 32 33 (z .cells)) (sym (tail-is (6 + z .grains * 9) l)) ∙ sym (c2 .counted2 .ensures) ∙ not-false _ (else3 .if3 .left),
+      ap (countsWithin homeRoom homeWide (z .grains)) (sym (tail-is listsHeadWide l)) ∙ sym (c1 .counted .ensures) ∙ not-false _ (else2 .if2 .left),
+      ap (countsWithin memberRoom membersWide (z .cells)) (sym (tail-is (listsHeadWide + homeFrom (z .grains)) l)) ∙ sym (c2 .counted2 .ensures) ∙ not-false _ (else3 .if3 .left),
     )
     (c .counted3 .ensures)
 

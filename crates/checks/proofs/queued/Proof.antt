@@ -5,10 +5,12 @@ use Rattle.chunks.proofs.Laws.{tail-long, tail-is}
 use Rattle.checks.proofs.Cut.{rowed-first}
 use Rattle.checks.proofs.Tests.{queued-no, queued-more}
 use Rattle.tables.specs.Decode.{rowsOf, placesOf}
-use Prim.Native.Nat.{ℕ}
+use Prim.Native.Nat.{ℕ, _-_, _*_}
 use native.Mathlib.Nat.{mul-le-mul-right}
 use mathlib.Core.List.{List}
-use lib.ListN.{getD}
+use lib.ListN.{length, getD}
+use borrow.Rule.Slice.PartMut.{midOf}
+use Rattle.layout.specs.Widths.{memberRoom, placeNumsWide}
 use Rattle.model.specs.Standing.{syncs}
 use native.Mathlib.Omega.{arith}
 use borrow.Author.Needs.{needs}
@@ -20,18 +22,17 @@ queues-ok-requires c κs = search needs
 
 returns : tie.Need-returns
 returns c =
-    let c1 : tie.After-queues-ok = search in
-    let b = c1 .before .before .before .before in
+    let b : tie.Start = search in
+    let each : tie.After-queues-ok = search in
     let z = b .args .z in
-    let q = b .args .queue .now in
-    let e = b .args .events .now in
-    let ms = rowsOf 32 (z .cells) (b .args .members .now) in
-    let R = b .pre .0 in
-    let f = rowed-first R (λ w. omega (arith, b .pre .5)) in
-    queued-no (b .args .clock) (z .room) (z .cells) ms q e (sym (c1 .queues-ok .ensures) ∙ not-true _ (c .if1 .taken))
+    let ms = rowsOf memberRoom (z .cells) (b .args .members .now) in
+    queued-no (b .args .clock) (z .room) (z .cells) ms (b .args .queue .now) (b .args .events .now) (sym (each .queues-ok .ensures) ∙ not-true _ (c .if1 .taken))
 
-shared-slice-read-k : tie.Need-shared-slice-read-k
-shared-slice-read-k c = search needs
+count-of-requires : tie.Need-count-of-requires
+count-of-requires c κs =
+    let b : tie.Start = search in
+    let f = rowed-first (b .pre .0) (λ w. omega (arith, b .pre .5)) in
+    omega (arith, f .1)
 
 sub-syncs : tie.Need-sub-syncs
 sub-syncs c = search needs
@@ -45,25 +46,25 @@ part-syncs-end c = search needs
 syncs-requires : tie.Need-syncs-requires
 syncs-requires c κs =
     let b : tie.Start = search in
-    let q = b .args .queue .now in
-    let R = b .pre .0 in
-    let f = rowed-first R (λ w. omega (arith, b .pre .5)) in
-    let m = mul-le-mul-right 4 (f .0) in
-    let t = tail-long 1 q in
+    let count : tie.After-count-of = search in
+    let f = rowed-first (b .pre .0) (λ w. omega (arith, b .pre .5)) in
+    let m = mul-le-mul-right placeNumsWide (f .0) in
+    let k = ap (λ (n : ℕ). n * placeNumsWide) (count .count-of .ensures) in
+    let t = tail-long 1 (b .args .queue .now) in
     omega (arith, f .1)
 
 returns-2 : tie.Need-returns-2
 returns-2 c =
-    let c3 : tie.Else1 = search in
-    let c4 = c3 .before in
-    let b = c4 .before .before .before .before in
+    let b : tie.Start = search in
+    let each : tie.After-queues-ok = search in
+    let else1 : tie.Else1 = search in
+    let count : tie.After-count-of = search in
     let z = b .args .z in
     let q = b .args .queue .now in
     let e = b .args .events .now in
-    let ms = rowsOf 32 (z .cells) (b .args .members .now) in
-    let R = b .pre .0 in
-    let f = rowed-first R (λ w. omega (arith, b .pre .5)) in
-    queued-more (b .args .clock) (z .room) (z .cells) ms q e (let n = b .pre .5 in omega arith) (R .counts) (sym (c4 .queues-ok .ensures) ∙ not-false _ (c3 .if1 .left)) (c .syncs .ensures e ∙ ap (λ (l : List ℕ). syncs (placesOf (getD q 0 0) l e)) (tail-is 1 q))
+    let ms = rowsOf memberRoom (z .cells) (b .args .members .now) in
+    queued-more (b .args .clock) (z .room) (z .cells) ms q e (let n = b .pre .5 in omega arith) (b .pre .0 .counts) (sym (each .queues-ok .ensures) ∙ not-false _ (else1 .if1 .left))
+    (c .syncs .ensures e ∙ ap (λ (k : ℕ). syncs (placesOf k (midOf 1 (length q - 1) q) e)) (count .count-of .ensures) ∙ ap (λ (l : List ℕ). syncs (placesOf (getD q 0 0) l e)) (tail-is 1 q))
 
 pub queued-spec : {M : Type 1} → statement M
 queued-spec =
@@ -71,7 +72,7 @@ queued-spec =
     (tie.spec
     queues-ok-requires
     returns
-    shared-slice-read-k
+    count-of-requires
     sub-syncs
     part-syncs-start
     part-syncs-end

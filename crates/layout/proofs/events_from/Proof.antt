@@ -1,3 +1,4 @@
+-- `events_from` meets its contract. Assumes nothing.
 use Prim.Native.Nat.{_*_, _≤_}
 use mathlib.Core.Path.{sym, subst}
 use native.Mathlib.Nat.{mul-le-mul}

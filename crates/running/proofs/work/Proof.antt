@@ -5,6 +5,7 @@ use native.Mathlib.Omega.{arith}
 use lib.Seq.{length-take-le}
 use borrow.Rule.Slice.PartMut.{same-len-mid}
 use borrow.Author.Needs.{needs}
+use Rattle.layout.specs.Widths.{listsHeadWide, grainsHeadWide, orderWide}
 use Rattle.tables.specs.Decode.{Tables, tables, decoded}
 use Rattle.running.proofs.PutBack.{long, ends, lent, placed, rate-in, worked}
 use Rattle.running.proofs.work.Statement.{statement}
@@ -147,7 +148,7 @@ slice-aggregate-go-3 : tie.Need-slice-aggregate-go-3
 slice-aggregate-go-3 c =
     let n : tie.After-needed = search in
     let b = entry (counted n) in
-    sym (length-take-le 512 (b .args .order .now) (long (b .pre) .order-long))
+    sym (length-take-le orderWide (b .args .order .now) (long (b .pre) .order-long))
 
 go-requires : tie.Need-go-requires
 go-requires c κs =
@@ -169,7 +170,7 @@ set-mark-requires c κs =
     let g : tie.After-go = search in
     let n = sized g in
     let b = entry (counted n) in
-    let e = same-len-mid 6 (n .needed .result .lists - 6) (b .args .lists .now) (g .go .last .0) (g .go .kept .0) in
+    let e = same-len-mid listsHeadWide (n .needed .result .lists - listsHeadWide) (b .args .lists .now) (g .go .last .0) (g .go .kept .0) in
     omega (arith, e, long (b .pre) .lists-long)
 
 clock-of-requires : tie.Need-clock-of-requires
@@ -181,7 +182,7 @@ set-clock-requires c κs =
     let g = gone m in
     let n = sized g in
     let b = entry (counted n) in
-    let e = same-len-mid 3 (n .needed .result .grains - 3) (b .args .grains .now) (g .go .last .1 .0) (g .go .kept .1 .0) in
+    let e = same-len-mid grainsHeadWide (n .needed .result .grains - grainsHeadWide) (b .args .grains .now) (g .go .last .1 .0) (g .go .kept .1 .0) in
     omega (arith, e, long (b .pre) .grains-long)
 
 same-length : tie.Need-same-length
@@ -189,7 +190,7 @@ same-length c =
     let m : tie.After-set-mark = search in
     let g = gone m in
     let n = sized g in
-    m .set-mark .kept .0 ∙ same-len-mid 6 (n .needed .result .lists - 6) (entry (counted n) .args .lists .now) (g .go .last .0) (g .go .kept .0)
+    m .set-mark .kept .0 ∙ same-len-mid listsHeadWide (n .needed .result .lists - listsHeadWide) (entry (counted n) .args .lists .now) (g .go .last .0) (g .go .kept .0)
 
 same-length-2 : tie.Need-same-length-2
 same-length-2 c =
@@ -197,7 +198,7 @@ same-length-2 c =
     let m : tie.After-set-mark = search in
     let g = gone m in
     let n = sized g in
-    k .set-clock .kept .0 ∙ same-len-mid 3 (n .needed .result .grains - 3) (entry (counted n) .args .grains .now) (g .go .last .1 .0) (g .go .kept .1 .0)
+    k .set-clock .kept .0 ∙ same-len-mid grainsHeadWide (n .needed .result .grains - grainsHeadWide) (entry (counted n) .args .grains .now) (g .go .last .1 .0) (g .go .kept .1 .0)
 
 same-length-3 : tie.Need-same-length-3
 same-length-3 c = search needs

@@ -1,3 +1,4 @@
+-- `downshift` meets its contract, by recursion: its measure falls. Assumes nothing.
 use Rattle.scheduler.proofs.Laws.{child-in, child-after, downshifted-out, downshifted-stays, downshifted-goes}
 use Rattle.scheduler.specs.Heap.{childOf, swapAt, downshifted}
 use Rattle.scheduler.specs.Inside.{headIn, made}

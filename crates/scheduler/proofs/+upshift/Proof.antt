@@ -1,3 +1,4 @@
+-- `upshift` meets its contract, by recursion: its measure falls. Assumes nothing.
 use Rattle.scheduler.proofs.Laws.{parent-before, upshifted-stays, upshifted-goes}
 use Rattle.scheduler.specs.Heap.{parentOf, swapAt, upshifted}
 use Rattle.scheduler.specs.Inside.{headIn, made}

@@ -1,3 +1,4 @@
+-- `child` meets its contract. Assumes nothing.
 use Rattle.scheduler.specs.Heap.{childIn}
 use borrow.Author.Needs.{needs}
 use Rattle.scheduler.proofs.child.Statement.{statement}

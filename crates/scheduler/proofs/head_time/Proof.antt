@@ -1,3 +1,4 @@
+-- `head_time` meets its contract. Assumes nothing.
 use mathlib.Core.Path.{subst}
 use Prim.Native.Nat.{_≤_}
 use lib.ListN.{length, getD, List·getD-eq-default}

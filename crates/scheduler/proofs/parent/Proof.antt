@@ -1,3 +1,4 @@
+-- `parent` meets its contract. Assumes nothing.
 use Rattle.scheduler.proofs.Laws.{parent-out, parent-root, parent-early, parent-late}
 use Rattle.scheduler.specs.Heap.{timeIn, parent}
 use Rattle.scheduler.specs.Inside.{headIn}

@@ -1,3 +1,4 @@
+-- `swap` meets its contract. Assumes nothing.
 use mathlib.Core.Path.{refl}
 use Rattle.scheduler.specs.Heap.{swapAt}
 use borrow.Author.Needs.{needs}

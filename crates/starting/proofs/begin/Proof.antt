@@ -4,6 +4,7 @@ use mathlib.Core.Path.{_∙_}
 use native.Mathlib.Omega.{arith}
 use borrow.Rule.Slice.PartMut.{same-len-mid}
 use borrow.Author.Needs.{needs}
+use Rattle.layout.specs.Widths.{listsHeadWide, grainsHeadWide, orderWide}
 use Rattle.model.specs.Start.{begin}
 use Rattle.tables.specs.Decode.{Tables, tables}
 use Rattle.tables.specs.Inputs.{inputsOf}
@@ -128,7 +129,7 @@ set-mark-requires c κs =
     let f : tie.After-fill = search in
     let n = counted f in
     let b = entry n in
-    let k = same-len-mid 6 (n .needed .result .lists - 6) (clear n .clear .last .0) (f .fill .last .1 .0) (f .fill .kept .1 .0) in
+    let k = same-len-mid listsHeadWide (n .needed .result .lists - listsHeadWide) (clear n .clear .last .0) (f .fill .last .1 .0) (f .fill .kept .1 .0) in
     omega (arith, k, b .pre .lists-long, clear n .clear .kept .0)
 
 same-length : tie.Need-same-length
@@ -136,13 +137,13 @@ same-length c =
     let m : tie.After-set-mark = search in
     let f : tie.After-fill = search in
     let n = counted f in
-    m .set-mark .kept .0 ∙ same-len-mid 6 (n .needed .result .lists - 6) (clear n .clear .last .0) (f .fill .last .1 .0) (f .fill .kept .1 .0) ∙ clear n .clear .kept .0
+    m .set-mark .kept .0 ∙ same-len-mid listsHeadWide (n .needed .result .lists - listsHeadWide) (clear n .clear .last .0) (f .fill .last .1 .0) (f .fill .kept .1 .0) ∙ clear n .clear .kept .0
 
 same-length-2 : tie.Need-same-length-2
 same-length-2 c =
     let f : tie.After-fill = search in
     let n = counted f in
-    same-len-mid 3 (n .needed .result .grains - 3) (clear n .clear .last .1 .0) (f .fill .last .1 .1 .0) (f .fill .kept .1 .1 .0) ∙ clear n .clear .kept .1 .0
+    same-len-mid grainsHeadWide (n .needed .result .grains - grainsHeadWide) (clear n .clear .last .1 .0) (f .fill .last .1 .1 .0) (f .fill .kept .1 .1 .0) ∙ clear n .clear .kept .1 .0
 
 same-length-3 : tie.Need-same-length-3
 same-length-3 c =
@@ -160,7 +161,7 @@ same-length-5 : tie.Need-same-length-5
 same-length-5 c =
     let f : tie.After-fill = search in
     let n = counted f in
-    same-len-mid 0 (512 - 0) (clear n .clear .last .1 .1 .1 .1 .0) (f .fill .last .1 .1 .1 .1 .1 .0) (f .fill .kept .1 .1 .1 .1 .1 .0) ∙ clear n .clear .kept .1 .1 .1 .1 .0
+    same-len-mid 0 (orderWide - 0) (clear n .clear .last .1 .1 .1 .1 .0) (f .fill .last .1 .1 .1 .1 .1 .0) (f .fill .kept .1 .1 .1 .1 .1 .0) ∙ clear n .clear .kept .1 .1 .1 .1 .0
 
 returns : tie.Need-returns
 returns c =

@@ -1,3 +1,4 @@
+-- `step` meets its contract. Assumes nothing.
 use Rattle.model.proofs.Stands.{stands}
 use native.Mathlib.Omega.{arith}
 use mathlib.Core.Path.{ap, _∙_}

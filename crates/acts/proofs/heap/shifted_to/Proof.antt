@@ -1,3 +1,4 @@
+-- `heap::shifted_to` meets its contract. Assumes nothing.
 use Rattle.acts.specs.Queues.{shiftedTo}
 use Rattle.scheduler.specs.Inside.{headIn}
 use mathlib.Core.Bool.{Bool}

@@ -1,3 +1,4 @@
+-- `heap::update` meets its contract. Assumes nothing.
 use Rattle.acts.proofs.Updates.{update-same}
 use Rattle.tables.proofs.HeapLaws.{front-long}
 use Rattle.tables.specs.Decode.{schedulerOf}

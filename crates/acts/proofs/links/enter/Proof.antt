@@ -1,3 +1,4 @@
+-- `links::enter` meets its contract. Assumes nothing.
 use borrow.Rule.Slice.PartMut.{mid-len}
 use Prim.Native.Nat.{_<_, _≤_}
 use mathlib.Core.Path.{subst}

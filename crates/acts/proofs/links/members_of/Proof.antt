@@ -1,3 +1,4 @@
+-- `links::members_of` meets its contract. Assumes nothing.
 use lib.ListN.{getD}
 use Rattle.model.specs.State.{none}
 use Rattle.tables.proofs.ListLaws.{member-in, member-part}

@@ -1,3 +1,4 @@
+-- `queue::cancel_each` meets its contract, by recursion: its measure falls. Assumes nothing.
 use Rattle.tables.specs.Holds.{Queued}
 use Rattle.acts.proofs.InTurn.{of-none, of-stop, of-on, all-tail, tail-less}
 use Rattle.model.specs.Acts.{cancel, cancelled}

@@ -1,3 +1,4 @@
+-- `queue::cancel` meets its contract. Assumes nothing.
 use Rattle.acts.proofs.Queues.{row-asks, update-asks, cancel-asks, cancel-tables, cancel-done}
 use Prim.Native.Nat.{_-_}
 use borrow.Rule.Slice.PartMut.{same-len-mid}

@@ -1,3 +1,4 @@
+-- `queue::insert` meets its contract. Assumes nothing.
 use Rattle.acts.proofs.Queues.{no-of, yes-of, row-asks, update-asks, count-there, insert-five, insert-six, insert-asks, insert-tables, insert-done}
 use Rattle.model.specs.Events.{finePlace}
 use mathlib.Core.Path.{_≡_, refl, subst}

@@ -1,3 +1,4 @@
+-- `queue::put` meets its contract. Assumes nothing.
 use Rattle.model.specs.declared.Place.{Place}
 use Rattle.tables.specs.Holds.{Queued, Told}
 use Rattle.model.specs.Acts.{put, insert}

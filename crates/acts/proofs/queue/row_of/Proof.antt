@@ -1,3 +1,4 @@
+-- `queue::row_of` meets its contract. Assumes nothing.
 use Rattle.layout.specs.Widths.{queueWide, eventsWide}
 use Rattle.tables.proofs.PartLaws.{part-in}
 use borrow.Author.Needs.{needs}

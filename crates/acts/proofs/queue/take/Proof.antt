@@ -1,3 +1,4 @@
+-- `queue::take` meets its contract. Assumes nothing.
 use Rattle.acts.proofs.Queues.{row-asks, update-asks, take-asks, take-tables, take-done}
 use Prim.Native.Nat.{_-_}
 use borrow.Rule.Slice.PartMut.{same-len-mid}

@@ -1,3 +1,4 @@
+-- `store::step_from` meets its contract, by recursion: its measure falls. Assumes nothing.
 use Rattle.acts.proofs.StoreLaws.{timed}
 use Rattle.acts.proofs.Touch.{step-only, at-on}
 use Rattle.acts.proofs.InTurn.{each-end, each-stop, each-on}

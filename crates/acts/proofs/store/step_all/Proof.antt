@@ -1,3 +1,4 @@
+-- `store::step_all` meets its contract. Assumes nothing.
 use Rattle.acts.proofs.StoreLaws.{all-told}
 use Rattle.acts.specs.Tell.{InGrains}
 use Rattle.model.specs.Doing.{stepGrain}

@@ -1,3 +1,4 @@
+-- `store::step_grain` meets its contract. Assumes nothing.
 use Rattle.acts.proofs.StoreLaws.{step-told}
 use Rattle.tables.proofs.GrainLaws.{grain-fits}
 use borrow.Author.Needs.{needs}

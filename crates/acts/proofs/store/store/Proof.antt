@@ -1,3 +1,4 @@
+-- `store::store` meets its contract. Assumes nothing.
 use Rattle.acts.proofs.StoreLaws.{store-refused, store-done}
 use Rattle.tables.proofs.GrainLaws.{grain-fits}
 use borrow.Author.Tests.{not-true, not-false}

@@ -3,6 +3,7 @@ use mathlib.Core.Path.{sym, ap, _∙_}
 use borrow.Author.Tests.{not-true, not-false}
 use lib.ListN.{length}
 use lib.Ieee.{nan}
+use Rattle.layout.specs.Widths.{grainWide}
 use Rattle.tables.specs.Decode.{grainAt}
 use Rattle.model.specs.Check.{timely}
 use Rattle.checks.proofs.Cut.{take-tab, less-rows, cut-none, cut-step}
@@ -36,7 +37,7 @@ settled-returns t c =
     let b : settled-lts.Start (Rd t) (settled-at t) settled.Post = search in
     let l = b .args .reals .now in
     let n = b .args .n in
-    all-none (timely (b .args .t)) (cut-none grainAt 6 n l (c .if1 .taken))
+    all-none (timely (b .args .t)) (cut-none grainAt grainWide n l (c .if1 .taken))
 
 settled-sub-read-grain : (t : ℕ) → settled-lts.Need-sub-read-grain (Rd t) (settled-at t) settled.Post
 settled-sub-read-grain t c = search needs
@@ -63,7 +64,7 @@ settled-returns-2 t c =
     let n = b .args .n in
     let d = less-rows n 6 (length l) (c4 .if1 .left) (b .pre .1) in
     let p = c2 .read-grain in
-    all-no (timely (b .args .t)) _ _ (cut-step grainAt 6 n l (c4 .if1 .left)) (ap (timely (b .args .t)) (sym (p .ensures (grainAt l) (take-tab l nan 6 0 (d .0)))) ∙ rw (sym (c1 .fine-grain .ensures) ∙ not-true _ (c .if2 .taken)))
+    all-no (timely (b .args .t)) _ _ (cut-step grainAt grainWide n l (c4 .if1 .left)) (ap (timely (b .args .t)) (sym (p .ensures (grainAt l) (take-tab l nan 6 0 (d .0)))) ∙ rw (sym (c1 .fine-grain .ensures) ∙ not-true _ (c .if2 .taken)))
 
 settled-sub-settled : (t : ℕ) → settled-lts.Need-sub-settled (Rd t) (settled-at t) settled.Post
 settled-sub-settled t c = search needs
@@ -92,7 +93,7 @@ settled-returns-3 t c =
     let n = b .args .n in
     let d = less-rows n 6 (length l) (c8 .if1 .left) (b .pre .1) in
     let p = c6 .read-grain in
-    all-more (timely (b .args .t)) _ _ (cut-step grainAt 6 n l (c8 .if1 .left)) (ap (timely (b .args .t)) (sym (p .ensures (grainAt l) (take-tab l nan 6 0 (d .0)))) ∙ rw (sym (c5 .fine-grain .ensures) ∙ not-false _ (c4 .if2 .left), c2 .if3 .taken)) (c .settled .ensures)
+    all-more (timely (b .args .t)) _ _ (cut-step grainAt grainWide n l (c8 .if1 .left)) (ap (timely (b .args .t)) (sym (p .ensures (grainAt l) (take-tab l nan 6 0 (d .0)))) ∙ rw (sym (c5 .fine-grain .ensures) ∙ not-false _ (c4 .if2 .left), c2 .if3 .taken)) (c .settled .ensures)
 
 settled-returns-4 : (t : ℕ) → settled-lts.Need-returns-4 (Rd t) (settled-at t) settled.Post
 settled-returns-4 t c =
@@ -105,7 +106,7 @@ settled-returns-4 t c =
     let n = b .args .n in
     let d = less-rows n 6 (length l) (c6 .if1 .left) (b .pre .1) in
     let p = c4 .read-grain in
-    all-no (timely (b .args .t)) _ _ (cut-step grainAt 6 n l (c6 .if1 .left)) (ap (timely (b .args .t)) (sym (p .ensures (grainAt l) (take-tab l nan 6 0 (d .0)))) ∙ rw (sym (c3 .fine-grain .ensures) ∙ not-false _ (c2 .if2 .left), c .if3 .left))
+    all-no (timely (b .args .t)) _ _ (cut-step grainAt grainWide n l (c6 .if1 .left)) (ap (timely (b .args .t)) (sym (p .ensures (grainAt l) (take-tab l nan 6 0 (d .0)))) ∙ rw (sym (c3 .fine-grain .ensures) ∙ not-false _ (c2 .if2 .left), c .if3 .left))
 
 pub +settled-spec : {M : Type 1} → statement M
 +settled-spec = close μ-settled λ t. settled-lts.spec (Rd t)

@@ -1,14 +1,14 @@
 -- `places::syncs` meets its contract. Assumes nothing.
-use mathlib.Core.Path.{sym, ap, _∙_}
+use mathlib.Core.Path.{_≡_, sym, ap, _∙_}
 use Rattle.checks.proofs.Cut.{less-rows, both-none, both-step, both-long}
-use Rattle.checks.proofs.OnePlace.{syncs-none, syncs-step, syncs-most, one-sync, one-past, one-other}
+use Rattle.checks.proofs.OnePlace.{syncs-none, syncs-step, syncs-most, one-most}
+use Rattle.layout.specs.Widths.{placeNumsWide, placeRealsWide}
+use Rattle.model.specs.Events.{eventOf}
 use Rattle.tables.specs.Decode.{placeAt, placesOf}
 use Prim.Native.Nat.{_+_, _-_, ℕ, _<_}
-use native.Mathlib.Nat.{zero-add}
 use lib.ListN.{length, getD}
 use mathlib.Core.List.{[]}
 use borrow.Rule.Slice.PartMut.{midOf}
-use Rattle.model.specs.Standing.{syncs}
 use native.Mathlib.Omega.{arith}
 use borrow.Author.Needs.{needs}
 use borrow.Fn.Kinds.{In}
@@ -16,8 +16,13 @@ use borrow.Fn.PlainCycle.{Measures, is, falls, and}
 use Rattle.checks.proofs.places.syncs.Reads as syncs
 use Rattle.checks.proofs.places.syncs.Kinds as syncs-kinds
 use Rattle.checks.proofs.places.+syncs.Lts-syncs as syncs-lts
+use Rattle.tables.proofs.places.first_sync.Reads as first-sync-reads
 use Rattle.checks.proofs.places.+syncs.{statement}
 use Rattle.checks.proofs.places.+syncs.Tie.{close}
+
+-- two summands, each the same
+both : {a b c d : ℕ} → a ≡ b → c ≡ d → a + c ≡ b + d
+both e f = rw (e, f)
 
 abbrev μ-syncs : Measures 1 syncs-kinds.ps ℕ
 μ-syncs κs a = a .1 .0
@@ -28,115 +33,78 @@ syncs-at t = and 1 syncs-kinds.ps (is 1 syncs-kinds.ps μ-syncs t) syncs.Pre
 abbrev syncs-below : ℕ → In 1 syncs-kinds.ps
 syncs-below t = and 1 syncs-kinds.ps (falls 1 syncs-kinds.ps _<_ μ-syncs t) syncs.Pre
 
+abbrev Rd : ℕ → syncs-lts.Claims
+Rd t = (first-sync-reads.Asked, first-sync-reads.Learnt, syncs-below t, syncs.Post)
+
 syncs-returns :
-    (t : ℕ) → syncs-lts.Need-returns (syncs-below t, syncs.Post) (syncs-at t) syncs.Post
+    (t : ℕ) → syncs-lts.Need-returns (Rd t) (syncs-at t) syncs.Post
 syncs-returns t c =
-    let b : syncs-lts.Start (syncs-below t, syncs.Post) (syncs-at t) syncs.Post = search in
+    let b : syncs-lts.Start (Rd t) (syncs-at t) syncs.Post = search in
     let l = b .args .nums .now in
     let k = b .args .k in
-    λ e. syncs-none (both-none placeAt 4 10 k l e (c .if1 .taken))
+    λ e. syncs-none (both-none placeAt placeNumsWide placeRealsWide k l e (c .if1 .taken))
 
-abbrev Rd : ℕ → syncs-lts.Claims
-Rd t = (syncs-below t, syncs.Post)
-
-syncs-shared-slice-read-kind : (t : ℕ) → syncs-lts.Need-shared-slice-read-kind (Rd t) (syncs-at t) syncs.Post
-syncs-shared-slice-read-kind t c = search needs
+syncs-first-sync-requires : (t : ℕ) → syncs-lts.Need-first-sync-requires (Rd t) (syncs-at t) syncs.Post
+syncs-first-sync-requires t c κs = search needs
 
 syncs-sub-syncs :
-    (t : ℕ) → syncs-lts.Need-sub-syncs (syncs-below t, syncs.Post) (syncs-at t) syncs.Post
+    (t : ℕ) → syncs-lts.Need-sub-syncs (Rd t) (syncs-at t) syncs.Post
 syncs-sub-syncs t c = search needs
 
 syncs-part-syncs-start :
-    (t : ℕ) → syncs-lts.Need-part-syncs-start (syncs-below t, syncs.Post) (syncs-at t) syncs.Post
+    (t : ℕ) → syncs-lts.Need-part-syncs-start (Rd t) (syncs-at t) syncs.Post
 syncs-part-syncs-start t c = search needs
 
 syncs-part-syncs-end :
-    (t : ℕ) → syncs-lts.Need-part-syncs-end (syncs-below t, syncs.Post) (syncs-at t) syncs.Post
+    (t : ℕ) → syncs-lts.Need-part-syncs-end (Rd t) (syncs-at t) syncs.Post
 syncs-part-syncs-end t c = search needs
 
 syncs-sub-syncs-2 :
-    (t : ℕ) → syncs-lts.Need-sub-syncs-2 (syncs-below t, syncs.Post) (syncs-at t) syncs.Post
+    (t : ℕ) → syncs-lts.Need-sub-syncs-2 (Rd t) (syncs-at t) syncs.Post
 syncs-sub-syncs-2 t c = search needs
 
 syncs-syncs-requires :
-    (t : ℕ) → syncs-lts.Need-syncs-requires (syncs-below t, syncs.Post) (syncs-at t) syncs.Post
+    (t : ℕ) → syncs-lts.Need-syncs-requires (Rd t) (syncs-at t) syncs.Post
 syncs-syncs-requires t c κs = search needs
 
 syncs-add-result :
-    (t : ℕ) → syncs-lts.Need-add-result (syncs-below t, syncs.Post) (syncs-at t) syncs.Post
+    (t : ℕ) → syncs-lts.Need-add-result (Rd t) (syncs-at t) syncs.Post
 syncs-add-result t c =
-    let c1 : syncs-lts.After-syncs (syncs-below t, syncs.Post) (syncs-at t) syncs.Post = search in
-    let c4 = c1 .before .before .before in
-    let b = c4 .before .before in
+    let others : syncs-lts.After-syncs (Rd t) (syncs-at t) syncs.Post = search in
+    let first : syncs-lts.After-first-sync (Rd t) (syncs-at t) syncs.Post = search in
+    let else1 : syncs-lts.Else1 (Rd t) (syncs-at t) syncs.Post = search in
+    let b : syncs-lts.Start (Rd t) (syncs-at t) syncs.Post = search in
     let l = b .args .nums .now in
     let k = b .args .k in
-    let d = less-rows k 4 (length l) (c4 .if1 .left) (b .pre .1) in
-    let s = c1 .syncs .ensures [] in
-    let m = syncs-most (placesOf (k - 1) (midOf 4 (length l - 4) l) []) in
-    let j = both-long placeAt 4 10 (k - 1) (midOf 4 (length l - 4) l) [] in
+    let d = less-rows k placeNumsWide (length l) (else1 .if1 .left) (b .pre .1) in
+    let rest = midOf placeNumsWide (length l - placeNumsWide) l in
+    let s = others .syncs .ensures [] in
+    let m = syncs-most (placesOf (k - 1) rest []) in
+    let j = both-long placeAt placeNumsWide placeRealsWide (k - 1) rest [] in
+    let f = first .first-sync .ensures [] in
+    let o = one-most (eventOf (getD l 0 0) (placeAt l [])) in
     omega arith
 
 syncs-returns-2 :
-    (t : ℕ) → syncs-lts.Need-returns-2 (syncs-below t, syncs.Post) (syncs-at t) syncs.Post
+    (t : ℕ) → syncs-lts.Need-returns-2 (Rd t) (syncs-at t) syncs.Post
 syncs-returns-2 t c =
-    let c1 : syncs-lts.After-syncs (syncs-below t, syncs.Post) (syncs-at t) syncs.Post = search in
-    let c4 = c1 .before .before .before in
-    let b = c4 .before .before in
-    let l = b .args .nums .now in
-    let k = b .args .k in
-    λ e. ap (λ (n : ℕ). 1 + n) (c1 .syncs .ensures (midOf 10 (length e - 10) e))
-    ∙ sym ((syncs-step _ _ (both-step placeAt 4 10 k l e (c4 .if1 .left)))
-    ∙ ap (λ (n : ℕ). n + syncs (placesOf (k - 1) (midOf 4 (length l - 4) l) (midOf 10 (length e - 10) e))) (one-sync (placeAt l e) (getD l 0 0) (c .if2 .taken)))
-
-syncs-add-result-2 :
-    (t : ℕ) → syncs-lts.Need-add-result-2 (syncs-below t, syncs.Post) (syncs-at t) syncs.Post
-syncs-add-result-2 t c =
-    let c2 : syncs-lts.After-syncs (syncs-below t, syncs.Post) (syncs-at t) syncs.Post = search in
-    let c5 = c2 .before .before .before in
-    let b = c5 .before .before in
-    let l = b .args .nums .now in
-    let k = b .args .k in
-    let d = less-rows k 4 (length l) (c5 .if1 .left) (b .pre .1) in
-    let s = c2 .syncs .ensures [] in
-    let m = syncs-most (placesOf (k - 1) (midOf 4 (length l - 4) l) []) in
-    let j = both-long placeAt 4 10 (k - 1) (midOf 4 (length l - 4) l) [] in
-    omega arith
-
-syncs-returns-3 :
-    (t : ℕ) → syncs-lts.Need-returns-3 (syncs-below t, syncs.Post) (syncs-at t) syncs.Post
-syncs-returns-3 t c =
-    let c2 : syncs-lts.After-syncs (syncs-below t, syncs.Post) (syncs-at t) syncs.Post = search in
-    let c5 = c2 .before .before .before in
-    let b = c5 .before .before in
-    let l = b .args .nums .now in
-    let k = b .args .k in
-    λ e. ap (λ (n : ℕ). 1 + n) (c2 .syncs .ensures (midOf 10 (length e - 10) e))
-    ∙ sym ((syncs-step _ _ (both-step placeAt 4 10 k l e (c5 .if1 .left)))
-    ∙ ap (λ (n : ℕ). n + syncs (placesOf (k - 1) (midOf 4 (length l - 4) l) (midOf 10 (length e - 10) e))) (one-past (placeAt l e) (getD l 0 0) (c .if3 .taken)))
-
-syncs-returns-4 :
-    (t : ℕ) → syncs-lts.Need-returns-4 (syncs-below t, syncs.Post) (syncs-at t) syncs.Post
-syncs-returns-4 t c =
-    let c1 : syncs-lts.Else2 (syncs-below t, syncs.Post) (syncs-at t) syncs.Post = search in
-    let c2 = c1 .before in
-    let c5 = c2 .before .before .before in
-    let b = c5 .before .before in
-    let l = b .args .nums .now in
-    let k = b .args .k in
-    λ e. c2 .syncs .ensures (midOf 10 (length e - 10) e)
-    ∙ sym ((syncs-step _ _ (both-step placeAt 4 10 k l e (c5 .if1 .left)))
-    ∙ ap (λ (n : ℕ). n + syncs (placesOf (k - 1) (midOf 4 (length l - 4) l) (midOf 10 (length e - 10) e))) (one-other (placeAt l e) (getD l 0 0) (c1 .if2 .left) (c .if3 .left)) ∙ zero-add _)
+    let others : syncs-lts.After-syncs (Rd t) (syncs-at t) syncs.Post = search in
+    let first : syncs-lts.After-first-sync (Rd t) (syncs-at t) syncs.Post = search in
+    let else1 : syncs-lts.Else1 (Rd t) (syncs-at t) syncs.Post = search in
+    let b : syncs-lts.Start (Rd t) (syncs-at t) syncs.Post = search in
+    λ e. both (first .first-sync .ensures e) (others .syncs .ensures (midOf placeRealsWide (length e - placeRealsWide) e))
+    ∙ sym (syncs-step _ _ (both-step placeAt placeNumsWide placeRealsWide (b .args .k) (b .args .nums .now) e (else1 .if1 .left)))
 
 pub +syncs-spec : {M : Type 1} → statement M
 +syncs-spec =
     close
     μ-syncs
     λ t. syncs-lts.spec
-    (syncs-below t, syncs.Post)
+    (Rd t)
     (syncs-at t)
     syncs.Post
     (syncs-returns t)
-    (syncs-shared-slice-read-kind t)
+    (syncs-first-sync-requires t)
     (syncs-sub-syncs t)
     (syncs-part-syncs-start t)
     (syncs-part-syncs-end t)
@@ -144,6 +112,3 @@ pub +syncs-spec : {M : Type 1} → statement M
     (syncs-syncs-requires t)
     (syncs-add-result t)
     (syncs-returns-2 t)
-    (syncs-add-result-2 t)
-    (syncs-returns-3 t)
-    (syncs-returns-4 t)

@@ -1,8 +1,10 @@
+-- `places::all_held` meets its contract, by what holds at each turn of its loop. Assumes nothing.
 use mathlib.Core.Path.{_≡_, sym, _∙_}
 use mathlib.Core.Bool.{Bool, true, false}
 use borrow.Author.Tests.{not-true, not-false}
 use Prim.Native.Nat.{_*_, _≤_, _-_}
 use lib.ListN.{length, take}
+use Rattle.layout.specs.Widths.{placeNumsWide, placeRealsWide}
 use Rattle.model.specs.Check.{all, held}
 use Rattle.tables.specs.Decode.{placeAt, placesOf}
 use Rattle.chunks.proofs.Laws.{some}
@@ -14,7 +16,7 @@ use Rattle.checks.proofs.places.all_held.Statement.{statement}
 use Rattle.checks.proofs.places.all_held.Tie as tie
 
 abbrev Inv-loop : tie.InvT-loop
-Inv-loop nums reals j members k n c places₀ floats₀ left₀ places floats left = (left * 4 ≤ length places) × (left * 10 ≤ length floats)
+Inv-loop nums reals j members k n c places₀ floats₀ left₀ places floats left = (left * placeNumsWide ≤ length places) × (left * placeRealsWide ≤ length floats)
     × ((r : Bool) → r ≡ all (held n c (take k members)) (placesOf left places floats) → r ≡ all (held n c (take k members)) (placesOf j nums reals))
 
 abbrev μ-loop : tie.MeasureT-loop
@@ -34,7 +36,7 @@ returns c =
     let c7 = c3 .before .before .before .before in
     let l = c3 .loop in
     let a = c7 in
-    l .inv .2 false (all-no (held (a .args .n) (a .args .c) (take (a .args .k) (a .args .members .now))) _ _ (both-step placeAt 4 10 (l .left) (l .places .now) (l .floats .now) (some (c2 .loop-test .taken))) (sym (c1 .held .ensures) ∙ not-true _ (c .if1 .taken)))
+    l .inv .2 false (all-no (held (a .args .n) (a .args .c) (take (a .args .k) (a .args .members .now))) _ _ (both-step placeAt placeNumsWide placeRealsWide (l .left) (l .places .now) (l .floats .now) (some (c2 .loop-test .taken))) (sym (c1 .held .ensures) ∙ not-true _ (c .if1 .taken)))
 
 sub-places : tie.Need-sub-places Inv-loop μ-loop
 sub-places c = search needs
@@ -70,10 +72,10 @@ loop-again c =
     let l = c5 .loop in
     let a = c9 in
     let z = some (c4 .loop-test .taken) in (
-      rest-long (l .left) 4 (l .places .now) z (l .inv .0),
-      rest-long (l .left) 10 (l .floats .now) z (l .inv .1),
+      rest-long (l .left) placeNumsWide (l .places .now) z (l .inv .0),
+      rest-long (l .left) placeRealsWide (l .floats .now) z (l .inv .1),
       λ r e. l .inv .2 r (all-more (held (a .args .n) (a .args .c) (take (a .args .k) (a .args .members .now))) _ _
-          (both-step placeAt 4 10 (l .left) (l .places .now) (l .floats .now) z) (sym (c3 .held .ensures) ∙ not-false _ (c2 .if1 .left)) e),
+          (both-step placeAt placeNumsWide placeRealsWide (l .left) (l .places .now) (l .floats .now) z) (sym (c3 .held .ensures) ∙ not-false _ (c2 .if1 .left)) e),
     )
 
 returns-2 : tie.Need-returns-2 Inv-loop μ-loop
@@ -82,7 +84,7 @@ returns-2 c =
     let c5 = c1 .before .before .before .before in
     let l = c1 .loop in
     let a = c5 in
-    l .inv .2 true (all-none (held (a .args .n) (a .args .c) (take (a .args .k) (a .args .members .now))) (both-none placeAt 4 10 (l .left) (l .places .now) (l .floats .now) (omega arith)))
+    l .inv .2 true (all-none (held (a .args .n) (a .args .c) (take (a .args .k) (a .args .members .now))) (both-none placeAt placeNumsWide placeRealsWide (l .left) (l .places .now) (l .floats .now) (omega arith)))
 
 pub all-held-spec : {M : Type 1} → statement M
 all-held-spec =

@@ -1,8 +1,10 @@
+-- `places::queues_ok` meets its contract, by what holds at each turn of its loop. Assumes nothing.
 use mathlib.Core.Path.{_≡_, sym, ap, _∙_}
 use mathlib.Core.Bool.{Bool, true, false}
 use borrow.Author.Tests.{not-true, not-false}
 use Prim.Native.Nat.{ℕ, _+_, _*_, _≤_, _<_, _-_}
 use lib.ListN.{length}
+use Rattle.layout.specs.Widths.{memberRoom, queueWide, eventsWide}
 use Rattle.model.specs.State.{Row, liveAt}
 use Rattle.model.specs.Check.{walk, queueOk}
 use Rattle.tables.specs.Decode.{rowsOf, queueAt, queuesOf}
@@ -17,8 +19,8 @@ use Rattle.checks.proofs.places.queues_ok.Statement.{statement}
 use Rattle.checks.proofs.places.queues_ok.Tie as tie
 
 abbrev Inv-loop : tie.InvT-loop
-Inv-loop queue events room m members n c t w v rows₀ floats₀ left₀ at₀ rows floats left at = Rowed room (room * 4 + 1) left rows × (left * (room * 10) ≤ length floats) × (at + left ≡ n)
-    × ((r : Bool) → r ≡ walk (λ i q. queueOk t room n i (liveAt (rowsOf 32 n members) i) q) at (queuesOf room left rows floats) → r ≡ walk (λ i q. queueOk t room n i (liveAt (rowsOf 32 n members) i) q) c (queuesOf room m queue events))
+Inv-loop queue events room m members n c t w v rows₀ floats₀ left₀ at₀ rows floats left at = Rowed room (queueWide room) left rows × (left * eventsWide room ≤ length floats) × (at + left ≡ n)
+    × ((r : Bool) → r ≡ walk (λ i q. queueOk t room n i (liveAt (rowsOf memberRoom n members) i) q) at (queuesOf room left rows floats) → r ≡ walk (λ i q. queueOk t room n i (liveAt (rowsOf memberRoom n members) i) q) c (queuesOf room m queue events))
 
 abbrev μ-loop : tie.MeasureT-loop
 μ-loop queue events room m members n c t w v rows₀ floats₀ left₀ at₀ rows floats left at = left
@@ -67,7 +69,7 @@ queue-ok-requires c κs =
     let h = c1 .loop-test .taken in
     let g : l .at < a .args .n = (let s = l .inv .2 in omega (arith, h)) in
     let f = rowed-first (l .inv .0) (some h) in
-    let d = less-rows (l .left) (room * 10) (length (l .floats .now)) (some h) (l .inv .1) in
+    let d = less-rows (l .left) (eventsWide room) (length (l .floats .now)) (some h) (l .inv .1) in
     let k = rowed-in (a .pre .3) (l .at) g in
     (f .0, f .1, d .0, first-at (a .pre .3) (l .at) g)
 
@@ -83,12 +85,12 @@ returns c =
     let h = c3 .loop-test .taken in
     let g : l .at < a .args .n = (let s = l .inv .2 in omega (arith, h)) in
     let f = rowed-first (l .inv .0) (some h) in
-    let d = less-rows (l .left) (room * 10) (length (l .floats .now)) (some h) (l .inv .1) in
+    let d = less-rows (l .left) (eventsWide room) (length (l .floats .now)) (some h) (l .inv .1) in
     let k = rowed-in (a .pre .3) (l .at) g in
-    l .inv .3 false (walk-no (λ i r. queueOk (a .args .t) room (a .args .n) i (liveAt (rowsOf 32 (a .args .n) (a .args .members .now)) i) r) (l .at) _ _
-    (both-step (queueAt room) (room * 4 + 1) (room * 10) (l .left) (l .rows .now) (l .floats .now) (some h))
+    l .inv .3 false (walk-no (λ i r. queueOk (a .args .t) room (a .args .n) i (liveAt (rowsOf memberRoom (a .args .n) (a .args .members .now)) i) r) (l .at) _ _
+    (both-step (queueAt room) (queueWide room) (eventsWide room) (l .left) (l .rows .now) (l .floats .now) (some h))
     (ap (λ (r : Row ℕ). queueOk (a .args .t) room (a .args .n) (l .at) (r .live) (queueAt room (l .rows .now) (l .floats .now)))
-    (row-in 32 (a .args .n) (a .args .members .now) (l .at) g) ∙ sym (c1 .queue-ok .ensures) ∙ not-true _ (c .if1 .taken)))
+    (row-in memberRoom (a .args .n) (a .args .members .now) (l .at) g) ∙ sym (c1 .queue-ok .ensures) ∙ not-true _ (c .if1 .taken)))
 
 mul-rows : tie.Need-mul-rows Inv-loop μ-loop
 mul-rows c = search needs
@@ -104,7 +106,7 @@ sub-rows c =
     let h = c3 .loop-test .taken in
     let g : l .at < a .args .n = (let s = l .inv .2 in omega (arith, h)) in
     let f = rowed-first (l .inv .0) (some h) in
-    let d = less-rows (l .left) (room * 10) (length (l .floats .now)) (some h) (l .inv .1) in
+    let d = less-rows (l .left) (eventsWide room) (length (l .floats .now)) (some h) (l .inv .1) in
     let k = rowed-in (a .pre .3) (l .at) g in
     omega (arith, a .pre .2)
 
@@ -119,7 +121,7 @@ part-rows-start c =
     let h = c3 .loop-test .taken in
     let g : l .at < a .args .n = (let s = l .inv .2 in omega (arith, h)) in
     let f = rowed-first (l .inv .0) (some h) in
-    let d = less-rows (l .left) (room * 10) (length (l .floats .now)) (some h) (l .inv .1) in
+    let d = less-rows (l .left) (eventsWide room) (length (l .floats .now)) (some h) (l .inv .1) in
     let k = rowed-in (a .pre .3) (l .at) g in
     omega (arith, a .pre .2)
 
@@ -140,7 +142,7 @@ sub-floats c =
     let h = c4 .loop-test .taken in
     let g : l .at < a .args .n = (let s = l .inv .2 in omega (arith, h)) in
     let f = rowed-first (l .inv .0) (some h) in
-    let d = less-rows (l .left) (room * 10) (length (l .floats .now)) (some h) (l .inv .1) in
+    let d = less-rows (l .left) (eventsWide room) (length (l .floats .now)) (some h) (l .inv .1) in
     let k = rowed-in (a .pre .3) (l .at) g in
     omega (arith, a .pre .2)
 
@@ -155,7 +157,7 @@ part-floats-start c =
     let h = c4 .loop-test .taken in
     let g : l .at < a .args .n = (let s = l .inv .2 in omega (arith, h)) in
     let f = rowed-first (l .inv .0) (some h) in
-    let d = less-rows (l .left) (room * 10) (length (l .floats .now)) (some h) (l .inv .1) in
+    let d = less-rows (l .left) (eventsWide room) (length (l .floats .now)) (some h) (l .inv .1) in
     let k = rowed-in (a .pre .3) (l .at) g in
     omega (arith, a .pre .2)
 
@@ -184,15 +186,15 @@ loop-again c =
     let h = c5 .loop-test .taken in
     let g : l .at < a .args .n = (let s = l .inv .2 in omega (arith, h)) in
     let f = rowed-first (l .inv .0) (some h) in
-    let d = less-rows (l .left) (room * 10) (length (l .floats .now)) (some h) (l .inv .1) in
+    let d = less-rows (l .left) (eventsWide room) (length (l .floats .now)) (some h) (l .inv .1) in
     let k = rowed-in (a .pre .3) (l .at) g in (
       rowed-rest (l .inv .0) (some h),
-      rest-long (l .left) (room * 10) (l .floats .now) (some h) (l .inv .1),
+      rest-long (l .left) (eventsWide room) (l .floats .now) (some h) (l .inv .1),
       (let s = l .inv .2 in omega (arith, h)),
-      λ r e. l .inv .3 r (walk-more (λ i r. queueOk (a .args .t) room (a .args .n) i (liveAt (rowsOf 32 (a .args .n) (a .args .members .now)) i) r) (l .at) _ _
-          (both-step (queueAt room) (room * 4 + 1) (room * 10) (l .left) (l .rows .now) (l .floats .now) (some h))
+      λ r e. l .inv .3 r (walk-more (λ i r. queueOk (a .args .t) room (a .args .n) i (liveAt (rowsOf memberRoom (a .args .n) (a .args .members .now)) i) r) (l .at) _ _
+          (both-step (queueAt room) (queueWide room) (eventsWide room) (l .left) (l .rows .now) (l .floats .now) (some h))
           (ap (λ (r : Row ℕ). queueOk (a .args .t) room (a .args .n) (l .at) (r .live) (queueAt room (l .rows .now) (l .floats .now)))
-          (row-in 32 (a .args .n) (a .args .members .now) (l .at) g) ∙ sym (c3 .queue-ok .ensures) ∙ not-false _ (c2 .if1 .left)) e),
+          (row-in memberRoom (a .args .n) (a .args .members .now) (l .at) g) ∙ sym (c3 .queue-ok .ensures) ∙ not-false _ (c2 .if1 .left)) e),
     )
 
 returns-2 : tie.Need-returns-2 Inv-loop μ-loop
@@ -202,7 +204,7 @@ returns-2 c =
     let l = c1 .loop in
     let a = c5 in
     let room = a .args .room in
-    l .inv .3 true (walk-none (λ i r. queueOk (a .args .t) room (a .args .n) i (liveAt (rowsOf 32 (a .args .n) (a .args .members .now)) i) r) (l .at) (both-none (queueAt room) (room * 4 + 1) (room * 10) (l .left) (l .rows .now) (l .floats .now) (omega arith)))
+    l .inv .3 true (walk-none (λ i r. queueOk (a .args .t) room (a .args .n) i (liveAt (rowsOf memberRoom (a .args .n) (a .args .members .now)) i) r) (l .at) (both-none (queueAt room) (queueWide room) (eventsWide room) (l .left) (l .rows .now) (l .floats .now) (omega arith)))
 
 pub queues-ok-spec : {M : Type 1} → statement M
 queues-ok-spec =

@@ -1,3 +1,4 @@
+-- `rows::back` meets its contract, by what holds at each turn of its loop. Assumes nothing.
 use mathlib.Core.Path.{_≡_, sym, ap, _∙_}
 use mathlib.Core.Bool.{Bool, true, false}
 use borrow.Author.Tests.{not-true, not-false}

@@ -1,3 +1,4 @@
+-- `rows::below` meets its contract, by what holds at each turn of its loop. Assumes nothing.
 use mathlib.Core.Path.{_≡_}
 use mathlib.Core.Bool.{Bool, true, false}
 use borrow.Author.Tests.{le-ltb, lt-ltb}

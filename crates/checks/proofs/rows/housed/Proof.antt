@@ -1,3 +1,4 @@
+-- `rows::housed` meets its contract, by what holds at each turn of its loop. Assumes nothing.
 use mathlib.Core.Path.{_≡_}
 use mathlib.Core.Bool.{Bool, true, false}
 use Prim.Native.Nat.{_+_, _-_}

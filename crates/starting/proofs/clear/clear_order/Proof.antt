@@ -4,6 +4,7 @@ use mathlib.Core.Path.{refl, ap, _∙_}
 use mathlib.Core.List.{[]}
 use lib.ListN.{length, replicate}
 use borrow.Rule.Slice.PartMut.{putMid}
+use Rattle.layout.specs.Widths.{orderWide}
 use Rattle.tables.specs.Layout.{orderBytes}
 use Rattle.starting.proofs.Zeros.{start-long}
 use Rattle.tables.proofs.Over.{over-put}
@@ -42,8 +43,8 @@ returns c =
     let a = b .args in
     let is = s .store .ensures ∙ ap orderBytes (n .new .ensures) in
     let zeros = replicate {A = ℕ} (length (a .order .now)) 0 in
-    ap (λ m. putMid 0 (512 - 0) m (s .store .last .0)) (cb .clear-bytes .ensures)
-    ∙ over-put [] (s .store .last .0) zeros 0 512 refl (ap length is ∙ start-long (a .cells) (b .pre .1))
+    ap (λ m. putMid 0 (orderWide - 0) m (s .store .last .0)) (cb .clear-bytes .ensures)
+    ∙ over-put [] (s .store .last .0) zeros 0 orderWide refl (ap length is ∙ start-long (a .cells) (b .pre .1))
     ∙ ap (λ m. over m zeros) is
 
 pub clear-order-spec : {M : Type 1} → statement M

@@ -4,6 +4,7 @@ use mathlib.Core.Path.{sym, ap, _∙_}
 use lib.ListN.{length}
 use borrow.Rule.Slice.PartMut.{midOf}
 use borrow.Author.Tests.{not-true, not-false}
+use Rattle.layout.specs.Widths.{inputWide}
 use Rattle.starting.proofs.InputLaws.{bad-none, bad-first, bad-later, bad-most}
 use Rattle.checks.proofs.Cut.{less-rows, rest-long}
 use Rattle.model.specs.Sizes.{grainOk}
@@ -43,7 +44,7 @@ first-bad-read-input-requires : (t : ℕ) → first-bad-lts.Need-read-input-requ
 first-bad-read-input-requires t c κs =
     let b : first-bad-lts.Start (Rd t) (first-bad-at t) first-bad.Post = search in
     let a = b .args in
-    less-rows (a .n) 5 (length (a .inputs .now)) (c .if1 .left) (b .pre .1) .0
+    less-rows (a .n) inputWide (length (a .inputs .now)) (c .if1 .left) (b .pre .1) .0
 
 first-bad-grain-ok-requires : (t : ℕ) → first-bad-lts.Need-grain-ok-requires (Rd t) (first-bad-at t) first-bad.Post
 first-bad-grain-ok-requires t c κs = search needs
@@ -62,7 +63,7 @@ first-bad-sub-first-bad t c =
     let else1 : first-bad-lts.Else1 (Rd t) (first-bad-at t) first-bad.Post = search in
     let b : first-bad-lts.Start (Rd t) (first-bad-at t) first-bad.Post = search in
     let a = b .args in
-    let h = less-rows (a .n) 5 (length (a .inputs .now)) (else1 .if1 .left) (b .pre .1) .0 in
+    let h = less-rows (a .n) inputWide (length (a .inputs .now)) (else1 .if1 .left) (b .pre .1) .0 in
     omega arith
 
 first-bad-part-first-bad-start : (t : ℕ) → first-bad-lts.Need-part-first-bad-start (Rd t) (first-bad-at t) first-bad.Post
@@ -70,7 +71,7 @@ first-bad-part-first-bad-start t c =
     let else1 : first-bad-lts.Else1 (Rd t) (first-bad-at t) first-bad.Post = search in
     let b : first-bad-lts.Start (Rd t) (first-bad-at t) first-bad.Post = search in
     let a = b .args in
-    let h = less-rows (a .n) 5 (length (a .inputs .now)) (else1 .if1 .left) (b .pre .1) .0 in
+    let h = less-rows (a .n) inputWide (length (a .inputs .now)) (else1 .if1 .left) (b .pre .1) .0 in
     omega arith
 
 first-bad-part-first-bad-end : (t : ℕ) → first-bad-lts.Need-part-first-bad-end (Rd t) (first-bad-at t) first-bad.Post
@@ -78,7 +79,7 @@ first-bad-part-first-bad-end t c =
     let else1 : first-bad-lts.Else1 (Rd t) (first-bad-at t) first-bad.Post = search in
     let b : first-bad-lts.Start (Rd t) (first-bad-at t) first-bad.Post = search in
     let a = b .args in
-    let h = less-rows (a .n) 5 (length (a .inputs .now)) (else1 .if1 .left) (b .pre .1) .0 in
+    let h = less-rows (a .n) inputWide (length (a .inputs .now)) (else1 .if1 .left) (b .pre .1) .0 in
     omega arith
 
 first-bad-sub-first-bad-2 : (t : ℕ) → first-bad-lts.Need-sub-first-bad-2 (Rd t) (first-bad-at t) first-bad.Post
@@ -93,14 +94,14 @@ first-bad-first-bad-requires t c κs =
     let else1 : first-bad-lts.Else1 (Rd t) (first-bad-at t) first-bad.Post = search in
     let b : first-bad-lts.Start (Rd t) (first-bad-at t) first-bad.Post = search in
     let a = b .args in
-    (omega (arith, b .pre .0, else1 .if1 .left), rest-long (a .n) 5 (a .inputs .now) (else1 .if1 .left) (b .pre .1))
+    (omega (arith, b .pre .0, else1 .if1 .left), rest-long (a .n) inputWide (a .inputs .now) (else1 .if1 .left) (b .pre .1))
 
 first-bad-add-result : (t : ℕ) → first-bad-lts.Need-add-result (Rd t) (first-bad-at t) first-bad.Post
 first-bad-add-result t c =
     let b : first-bad-lts.Start (Rd t) (first-bad-at t) first-bad.Post = search in
     let a = b .args in
     let e = c .first-bad .ensures in
-    let m = bad-most (a .domain) (a .n - 1) (midOf 5 (length (a .inputs .now) - 5) (a .inputs .now)) in
+    let m = bad-most (a .domain) (a .n - 1) (midOf inputWide (length (a .inputs .now) - inputWide) (a .inputs .now)) in
     omega (arith, e, m)
 
 first-bad-returns-3 : (t : ℕ) → first-bad-lts.Need-returns-3 (Rd t) (first-bad-at t) first-bad.Post

@@ -1,3 +1,4 @@
+-- `execute::again_both` meets its contract. Assumes nothing.
 use Rattle.step.proofs.Does.{after, does-stop, does-on}
 use Rattle.model.specs.Doing.{again}
 use mathlib.Core.Path.{_∙_}

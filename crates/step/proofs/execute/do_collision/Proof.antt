@@ -1,3 +1,4 @@
+-- `execute::do_collision` meets its contract. Assumes nothing.
 use Rattle.step.proofs.Executions.{stores-do, forgets-held, collision-first, collision-second, collision-third}
 use Rattle.step.proofs.Does.{after}
 use mathlib.Core.Path.{_∙_}

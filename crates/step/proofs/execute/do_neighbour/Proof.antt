@@ -1,3 +1,4 @@
+-- `execute::do_neighbour` meets its contract. Assumes nothing.
 use Rattle.step.proofs.Executions.{land-does, enter-does, neighbour-first, neighbour-second, neighbour-third}
 use Rattle.step.proofs.Does.{after}
 use mathlib.Core.Path.{_∙_}

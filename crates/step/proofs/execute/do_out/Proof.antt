@@ -1,3 +1,4 @@
+-- `execute::do_out` meets its contract. Assumes nothing.
 use Rattle.step.proofs.Executions.{land-pair, cancel-pair, leave-does, without-pair, out-first, out-second, out-third}
 use Rattle.step.proofs.Does.{after}
 use Rattle.step.proofs.execute.do_out.Statement.{statement}

@@ -1,3 +1,4 @@
+-- `execute::do_sync` meets its contract. Assumes nothing.
 use Rattle.acts.proofs.Touch.{all-step-only}
 use Rattle.step.proofs.Executions.{sync-stop, sync-on}
 use Rattle.step.proofs.Leaves.{grains-seen}

@@ -1,3 +1,4 @@
+-- `execute::do_wall` meets its contract. Assumes nothing.
 use Rattle.step.proofs.Executions.{store-does, forget-held, wall-first, wall-second, wall-third}
 use Rattle.step.proofs.Does.{after}
 use mathlib.Core.Path.{_∙_}

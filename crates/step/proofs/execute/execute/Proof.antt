@@ -1,3 +1,4 @@
+-- `execute::execute` meets its contract. Assumes nothing.
 use Rattle.step.proofs.Executions.{as-collision, as-neighbour, as-out, as-wall, as-sync}
 use Rattle.step.specs.World.{Apt}
 use Rattle.model.specs.declared.Event.{Event}

@@ -1,3 +1,4 @@
+-- `execute::forget` meets its contract. Assumes nothing.
 use native.Mathlib.Omega.{arith}
 use Rattle.step.proofs.Executions.{cancels-do}
 use Rattle.step.proofs.Scheduling.{forget-does}

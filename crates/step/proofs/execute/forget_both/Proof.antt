@@ -1,3 +1,4 @@
+-- `execute::forget_both` meets its contract. Assumes nothing.
 use Rattle.step.proofs.Does.{after, does-stop, does-on}
 use Rattle.model.specs.Doing.{forget}
 use mathlib.Core.Path.{_∙_}

@@ -1,3 +1,4 @@
+-- `execute::land` meets its contract. Assumes nothing.
 use Rattle.step.proofs.Executions.{landed-told}
 use Rattle.tables.proofs.GrainLaws.{grain-fits}
 use borrow.Author.Needs.{needs}

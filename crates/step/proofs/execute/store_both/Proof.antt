@@ -1,3 +1,4 @@
+-- `execute::store_both` meets its contract. Assumes nothing.
 use Rattle.acts.specs.Tell.{InGrains}
 use Rattle.step.proofs.Does.{does-stop, does-on}
 use Rattle.model.specs.Acts.{store}

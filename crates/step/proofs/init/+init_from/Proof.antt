@@ -1,3 +1,4 @@
+-- `init::init_from` meets its contract, by recursion: its measure falls. Assumes nothing.
 use Rattle.step.proofs.Does.{range-none, range-stop, range-on, after, below-it}
 use Rattle.model.specs.Doing.{initCell}
 use Prim.Native.Nat.{_-_, ℕ, _<_}

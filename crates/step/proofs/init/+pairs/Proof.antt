@@ -1,3 +1,4 @@
+-- `init::pairs` meets its contract, by recursion: its measure falls. Assumes nothing.
 use mathlib.Core.Path.{_∙_}
 use Rattle.acts.proofs.InTurn.{all-tail, tail-less}
 use Rattle.step.proofs.Starting.{pairs-none, pairs-stop, pairs-on}

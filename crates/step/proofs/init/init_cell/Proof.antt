@@ -1,3 +1,4 @@
+-- `init::init_cell` meets its contract. Assumes nothing.
 use mathlib.Core.Path.{_∙_}
 use Rattle.step.proofs.Starting.{sync-held, pairs-held, bounds-held, init-first, init-second, init-third}
 use Rattle.cell.proofs.Laws.{index-cell}

@@ -1,3 +1,4 @@
+-- `init::init_events` meets its contract. Assumes nothing.
 use Rattle.step.proofs.Does.{range-all}
 use Rattle.model.specs.Doing.{initCell}
 use native.Mathlib.Omega.{arith}

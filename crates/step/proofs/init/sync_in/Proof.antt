@@ -1,3 +1,4 @@
+-- `init::sync_in` meets its contract. Assumes nothing.
 use Rattle.step.proofs.Starting.{sync-none, sync-some}
 use Rattle.model.specs.Events.{placeOf}
 use mathlib.Core.Path.{ap, _∙_}

@@ -1,3 +1,4 @@
+-- `schedule::schedule_each` meets its contract, by recursion: its measure falls. Assumes nothing.
 use mathlib.Core.Path.{_∙_}
 use Rattle.acts.proofs.InTurn.{all-tail, tail-less}
 use Rattle.step.proofs.Does.{list-none, list-stop, list-on, after}

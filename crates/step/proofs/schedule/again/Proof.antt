@@ -1,3 +1,4 @@
+-- `schedule::again` meets its contract. Assumes nothing.
 use native.Mathlib.Omega.{arith}
 use Rattle.step.proofs.Scheduling.{again-does}
 use Rattle.step.proofs.Leaves.{homes-below}

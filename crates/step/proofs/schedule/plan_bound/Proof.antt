@@ -1,3 +1,4 @@
+-- `schedule::plan_bound` meets its contract. Assumes nothing.
 use Rattle.model.specs.Reports.{planTold}
 use Rattle.model.specs.Rows.{finder}
 use mathlib.Core.Path.{sym, ap, _∙_}

@@ -1,3 +1,4 @@
+-- `schedule::schedule_bound` meets its contract. Assumes nothing.
 use Rattle.step.proofs.Scheduling.{bound-does, both-stop, both-on}
 use Rattle.step.proofs.Does.{after}
 use Rattle.model.specs.Rows.{finder}

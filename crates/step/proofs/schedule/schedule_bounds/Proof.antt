@@ -1,3 +1,4 @@
+-- `schedule::schedule_bounds` meets its contract. Assumes nothing.
 use Rattle.step.proofs.Scheduling.{bounds-first, bounds-second, bounds-third}
 use Rattle.step.proofs.Does.{after}
 use mathlib.Core.Path.{_∙_}

@@ -1,3 +1,4 @@
+-- `schedule::schedule_collision` meets its contract. Assumes nothing.
 use Rattle.step.proofs.Scheduling.{unless-out, unless-in, collide-does}
 use Rattle.tables.proofs.GrainLaws.{grain-fits}
 use Rattle.model.specs.Doing.{scheduleCollision}

@@ -1,3 +1,4 @@
+-- `schedule::schedule_events` meets its contract. Assumes nothing.
 use native.Mathlib.Omega.{arith}
 use Rattle.cell.proofs.Laws.{index-cell}
 use Rattle.step.proofs.Scheduling.{others-held, stepped-held, events-stop, events-on, made-cell}

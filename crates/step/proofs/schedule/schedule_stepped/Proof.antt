@@ -1,3 +1,4 @@
+-- `schedule::schedule_stepped` meets its contract. Assumes nothing.
 use Rattle.step.proofs.Does.{after, does-stop, does-on}
 use Rattle.model.specs.Doing.{boundaries}
 use mathlib.Core.Path.{_∙_}

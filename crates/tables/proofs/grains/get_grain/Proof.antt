@@ -1,3 +1,4 @@
+-- `grains::get_grain` meets its contract. Assumes nothing.
 use Rattle.tables.proofs.GrainLaws.{grain-read}
 use Rattle.model.specs.State.{zeroG}
 use lib.ListN.{getD}

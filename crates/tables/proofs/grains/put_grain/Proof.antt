@@ -1,3 +1,4 @@
+-- `grains::put_grain` meets its contract. Assumes nothing.
 use Rattle.tables.proofs.GrainLaws.{grain-written}
 use borrow.Author.Needs.{needs}
 use Rattle.tables.proofs.grains.put_grain.Statement.{statement}

@@ -1,3 +1,4 @@
+-- `grains::read_grain` meets its contract. Assumes nothing.
 use borrow.Author.Needs.{needs}
 use Rattle.tables.proofs.grains.read_grain.Statement.{statement}
 use Rattle.tables.proofs.grains.read_grain.Tie as tie

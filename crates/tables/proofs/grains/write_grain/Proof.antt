@@ -1,3 +1,4 @@
+-- `grains::write_grain` meets its contract. Assumes nothing.
 use Rattle.tables.specs.Layout.{grainReals}
 use Rattle.chunks.proofs.Laws.{sets-all}
 use denote.Ref.{now}

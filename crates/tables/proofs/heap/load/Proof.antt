@@ -1,3 +1,4 @@
+-- `heap::load` meets its contract. Assumes nothing.
 use native.Mathlib.Omega.{arith}
 use borrow.Author.Needs.{needs}
 use Rattle.tables.proofs.heap.load.Statement.{statement}

@@ -1,3 +1,4 @@
+-- `heap::put_bytes` meets its contract, by what holds at each turn of its loop. Assumes nothing.
 use Rattle.tables.proofs.HeapLaws.{copied-more, copied-all}
 use lib.ListN.{length, take, length-set}
 use mathlib.Core.Path.{_≡_}

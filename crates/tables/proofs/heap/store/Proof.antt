@@ -1,3 +1,4 @@
+-- `heap::store` meets its contract. Assumes nothing.
 use Rattle.tables.proofs.HeapLaws.{stored-as}
 use lib.ListN.{length}
 use mathlib.Core.Path.{_≡_}

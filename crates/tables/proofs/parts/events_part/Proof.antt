@@ -1,3 +1,4 @@
+-- `parts::events_part` meets its contract. Assumes nothing.
 use Rattle.layout.specs.Widths.{eventsWide}
 use Rattle.tables.proofs.PartLaws.{end-most}
 use native.Mathlib.Omega.{arith}

@@ -1,3 +1,4 @@
+-- `parts::home_part` meets its contract. Assumes nothing.
 use borrow.Author.Needs.{needs}
 use Rattle.tables.proofs.parts.home_part.Statement.{statement}
 use Rattle.tables.proofs.parts.home_part.Tie as tie

@@ -1,3 +1,4 @@
+-- `parts::member_part` meets its contract. Assumes nothing.
 use borrow.Author.Needs.{needs}
 use Rattle.tables.proofs.parts.member_part.Statement.{statement}
 use Rattle.tables.proofs.parts.member_part.Tie as tie

@@ -1,3 +1,4 @@
+-- `parts::queue_part` meets its contract. Assumes nothing.
 use Rattle.layout.specs.Widths.{queueWide}
 use Rattle.tables.proofs.PartLaws.{end-most}
 use native.Mathlib.Omega.{arith}

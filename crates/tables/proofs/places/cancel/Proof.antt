@@ -1,3 +1,4 @@
+-- `places::cancel` meets its contract. Assumes nothing.
 use Rattle.tables.proofs.Runs.{cancel-ends}
 use borrow.Author.Needs.{needs}
 use Rattle.tables.proofs.places.cancel.Statement.{statement}

@@ -1,3 +1,4 @@
+-- `places::fine_place` meets its contract. Assumes nothing.
 use Rattle.tables.proofs.Runs.{fine-is}
 use Rattle.halting.proofs.Bools.{both, neither}
 use mathlib.Core.Path.{refl, sym, _∙_}

@@ -1,3 +1,4 @@
+-- `places::get_head` meets its contract. Assumes nothing.
 use borrow.Author.Needs.{needs}
 use Rattle.tables.proofs.places.get_head.Statement.{statement}
 use Rattle.tables.proofs.places.get_head.Tie as tie

@@ -1,3 +1,4 @@
+-- `places::get_place` meets its contract. Assumes nothing.
 use mathlib.Core.List.{[]}
 use lib.ListN.{getD}
 use Rattle.model.specs.Events.{zeroP}

@@ -1,3 +1,4 @@
+-- `places::insert` meets its contract. Assumes nothing.
 use mathlib.Core.List.{_∷_}
 use Rattle.tables.proofs.Runs.{insert-ends}
 use borrow.Author.Needs.{needs}

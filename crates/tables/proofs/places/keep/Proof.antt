@@ -1,3 +1,4 @@
+-- `places::keep` meets its contract, by what holds at each turn of its loop. Assumes nothing.
 use mathlib.Core.List.{List, _++_}
 use Rattle.model.specs.declared.Place.{Place}
 use Rattle.tables.specs.Holds.{Run}

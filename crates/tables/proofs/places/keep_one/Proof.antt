@@ -1,3 +1,4 @@
+-- `places::keep_one` meets its contract. Assumes nothing.
 use Rattle.tables.proofs.Runs.{keeping-gone, keeping-kept}
 use native.Mathlib.Omega.{arith}
 use borrow.Author.Needs.{needs}

@@ -1,3 +1,4 @@
+-- `places::names_grain` meets its contract. Assumes nothing.
 use mathlib.Core.Path.{sym}
 use Rattle.tables.proofs.Runs.{names-neither, names-second, names-first}
 use borrow.Author.Needs.{needs}

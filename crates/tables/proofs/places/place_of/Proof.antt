@@ -1,3 +1,4 @@
+-- `places::place_of` meets its contract. Assumes nothing.
 use mathlib.Core.Path.{sym, ap}
 use Rattle.model.specs.Events.{placeOfEvent}
 use borrow.Author.Needs.{needs}

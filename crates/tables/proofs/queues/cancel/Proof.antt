@@ -1,3 +1,4 @@
+-- `queues::cancel` meets its contract. Assumes nothing.
 use Rattle.tables.proofs.QueueLaws.{count-there, count-back, all-asks, row-without}
 use native.Mathlib.Omega.{arith}
 use borrow.Author.Needs.{needs}

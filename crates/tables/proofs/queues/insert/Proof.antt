@@ -1,3 +1,4 @@
+-- `queues::insert` meets its contract. Assumes nothing.
 use Rattle.tables.proofs.QueueLaws.{count-there, count-back, more-asks, room-left, row-placed}
 use native.Mathlib.Omega.{arith}
 use borrow.Author.Needs.{needs}

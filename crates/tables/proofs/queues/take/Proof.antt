@@ -1,3 +1,4 @@
+-- `queues::take` meets its contract. Assumes nothing.
 use Rattle.tables.proofs.QueueLaws.{count-there, count-back, more-asks, some-held, row-headless}
 use native.Mathlib.Omega.{arith}
 use borrow.Author.Needs.{needs}

@@ -1,3 +1,4 @@
+-- `rows::pull` meets its contract, by recursion: its measure falls. Assumes nothing.
 use Rattle.tables.proofs.RowLaws.{pull-none, pull-more}
 use lib.ListN.{length-set, length-take, length-drop}
 use mathlib.Core.Path.{_∙_}

@@ -1,3 +1,4 @@
+-- `rows::remove` meets its contract, by recursion: its measure falls. Assumes nothing.
 use Rattle.tables.proofs.RowLaws.{has-some, has-rest, remove-here, remove-more}
 use lib.ListN.{length-take, length-drop}
 use native.Mathlib.Omega.{arith}

@@ -1,3 +1,4 @@
+-- `rows::add_to` meets its contract. Assumes nothing.
 use lib.ListN.{length-set}
 use Rattle.tables.proofs.RowLaws.{row-more, row-added}
 use native.Mathlib.Omega.{arith}

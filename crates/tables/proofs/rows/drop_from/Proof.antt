@@ -1,3 +1,4 @@
+-- `rows::drop_from` meets its contract. Assumes nothing.
 use borrow.Rule.Slice.PartMut.{same-len-mid}
 use lib.ListN.{length}
 use Prim.Native.Nat.{_-_}

@@ -1,3 +1,4 @@
+-- `rows::lists` meets its contract. Assumes nothing.
 use Rattle.tables.proofs.RowLaws.{row-fits, row-live}
 use mathlib.Core.Path.{ap, _∙_}
 use Rattle.model.specs.State.{has}

@@ -1,3 +1,4 @@
+-- `rows::live_of` meets its contract. Assumes nothing.
 use Rattle.tables.proofs.PartLaws.{live-in, live-lent}
 use native.Mathlib.Omega.{arith}
 use Rattle.tables.proofs.rows.live_of.Statement.{statement}

@@ -3,8 +3,8 @@ use Prim.Native.Nat.{ℕ}
 use mathlib.Core.Path.{sym, ap}
 use Rattle.model.specs.Events.{eventOf}
 use Rattle.model.proofs.Places.{event-rest}
-use Rattle.event.proofs.event_of.Statement.{statement}
-use Rattle.event.proofs.event_of.Tie as tie
+use Rattle.tables.proofs.places.event_of.Statement.{statement}
+use Rattle.tables.proofs.places.event_of.Tie as tie
 
 returns : tie.Need-returns
 returns c = sym (ap (λ (k : ℕ). eventOf k (c .before .before .before .before .before .args .s)) (c .match .keys1))
