@@ -1,6 +1,6 @@
 -- The head time of a cell, read in the tables and in the state that they are read as. Assumes nothing.
 use mathlib.Core.Path.{_≡_, refl, sym, ap, _∙_}
-use Prim.Native.Nat.{ℕ, zero, suc, _+_, _*_, _≤_, _<_}
+use Prim.Native.Nat.{ℕ, zero, suc, _*_, _≤_, _<_}
 use native.Mathlib.Nat.{suc-ne-zero, not-suc-le-zero, suc-mul, mul-le-mul-right, add-zero}
 use native.Mathlib.Omega.{arith}
 use mathlib.Core.List.{List}

@@ -1,6 +1,6 @@
 -- What the inner functions ask of the tables that they are lent: a passed check 2, and counts within their room. Nobody needs it to know what the check is (Check).
 -- Assumes nothing: these are definitions.
-use Prim.Native.Nat.{ℕ, _+_, _*_, _≤_}
+use Prim.Native.Nat.{ℕ, _*_, _≤_}
 use mathlib.Core.Path.{_≡_}
 use mathlib.Core.List.{List}
 use mathlib.Core.Bool.{true}

@@ -21,7 +21,7 @@ use Rattle.model.specs.declared.Plan.the-variants.{Due}
 use Rattle.model.specs.declared.Event.{Event}
 use Rattle.model.specs.declared.Event.the-variants.{InterParticleCollision, MoveToNeighbour, MoveOutOfCell, WallReflection, Synchronisation}
 use Rattle.model.specs.Grid.{cells}
-use Rattle.model.specs.Stepping.{grainOf, stepped}
+use Rattle.model.specs.Stepping.{grainOf, landed, atZero, stepped}
 use Rattle.model.specs.Collision.{collision}
 use Rattle.model.specs.FromPToC.{cellsOfGrain}
 use Rattle.model.specs.State.{Row, none, State, zeroG, grain, home, listed, has, pushed, requeued}
@@ -30,7 +30,7 @@ use Rattle.model.specs.Start.{clear}
 use Rattle.model.specs.declared.Bound.{Bound}
 use Rattle.model.specs.declared.Bound.the-variants.{ToNeighbour, OutOfCell, Wall}
 use Rattle.model.specs.Rows.{Rule, pair, bound, sync, finder, moving, trying, cancelling, entering, perform, Acts, ended, act, only, before, _⨟_}
-use Rattle.model.specs.Rows.{ofEach, inTurn, stepping, colliding, finding, bounding, scheduling, reschedules, forgets, actsOf, goes, pairing, firstSync, initiates, startActs, others, landed}
+use Rattle.model.specs.Rows.{ofEach, inTurn, stepping, colliding, finding, bounding, scheduling, reschedules, forgets, actsOf, goes, pairing, firstSync, initiates, startActs, others}
 use Rattle.model.specs.History.{AtClock, Honest}
 use Rattle.model.proofs.Sound.{Sound, Named}
 use Rattle.model.proofs.Cases.{store-case, put-case, enter-case}
@@ -229,7 +229,7 @@ module _ (s : State) (all : (g : ℕ) → AtClock s g) where
   goes-honest : s .clock ≡ fzero → (gs : List Particle) → length gs ≤ length (s .grains) → (i : ℕ) → i < length gs → Carries s (goes gs i)
   goes-honest t gs few i I u k =
       let p = getD gs i zeroG in
-      then-honest _ _ u (Carried s) (Carried s) (tt, λ z. carried-on s u _ k (store-carried u i (grainOf (p .pos) (p .vel) fzero (p .val)) (sym (k .clock ∙ t))))
+      then-honest _ _ u (Carried s) (Carried s) (tt, λ z. carried-on s u _ k (store-carried u i (atZero p) (sym (k .clock ∙ t))))
       (λ v k. each-honest (Carried s) (λ c. only (entering i c)) (cellsOfGrain (v .box) p) (λ c w h k. (tt, λ z. carried-on s w _ k (enter-carried w i c (let e = k .few in omega (arith, e))))) v k)
 
 clear-at : (b : Domain) (room n g : ℕ) → AtClock (clear b room n) g

@@ -14,7 +14,7 @@ use Rattle.model.specs.declared.Plan.{Plan}
 use Rattle.model.specs.declared.Plan.the-variants.{Nothing, Due, Refused}
 use Rattle.halting.specs.Out.{Out, next, then, each, eachOf}
 use Rattle.order.specs.Numbers.{fzero}
-use Rattle.model.specs.Stepping.{grainOf}
+use Rattle.model.specs.Stepping.{atZero}
 use Rattle.model.specs.Collision.{collision}
 use Rattle.model.specs.Moves.{toNeighbour, outOfCell}
 use Rattle.model.specs.Walls.{wall}
@@ -152,20 +152,20 @@ module _ (b : Domain) (room : ℕ) (gs : List Particle) (box : boxOk b ≡ true)
   goesIn-fair : Accepted → (i : ℕ) (u : State) → i < length gs → Goes (bare b room gs) u → home u i ≡ [] → Fair ((goesIn gs i u) .num)
   unfolding goesIn has
   goesIn-fair placed i u I g none′ =
-      then-fair (store i (grainOf (given gs i .pos) (given gs i .vel) fzero (given gs i .val)) u) _ (store-fair i (grainOf (given gs i .pos) (given gs i .vel) fzero (given gs i .val)) u)
+      then-fair (store i (atZero (given gs i)) u) _ (store-fair i (atZero (given gs i)) u)
       (λ z.
-      let w = (store i (grainOf (given gs i .pos) (given gs i .vel) fzero (given gs i .val)) u) .st in
+      let w = (store i (atZero (given gs i)) u) .st in
       let k = goes-on (bare b room gs) u w g (keeps-goes u w (stored b room gs box i u g I)) in
       let e : w .box ≡ b = k .near .box ∙ clear-box b room gs box in
-      let h : home w i ≡ [] = ap (λ (r : List (Row ℕ)). liveAt r i) (store-homes i (grainOf (given gs i .pos) (given gs i .vel) fzero (given gs i .val)) u) ∙ none′ in
+      let h : home w i ≡ [] = ap (λ (r : List (Row ℕ)). liveAt r i) (store-homes i (atZero (given gs i)) u) ∙ none′ in
       entries-fair i I (cellsOfGrain (w .box) (given gs i)) w k (subst (λ (d : Domain). Once (cellsOfGrain d (given gs i))) (sym e) (placed i I .once))
       (λ c t. placed i I .below c (subst (λ (d : Domain). has c (cellsOfGrain d (given gs i)) ≡ true) e t)) (λ c t. ap (has c) h))
 
   goesIn-other : (i : ℕ) (u : State) (j : ℕ) → (j ≡ i → ⊥) → home ((goesIn gs i u) .st) j ≡ home u j
   unfolding goesIn
   goesIn-other i u j d =
-      then-sound (λ v. home v j ≡ home u j) (store i (grainOf (given gs i .pos) (given gs i .vel) fzero (given gs i .val)) u) _
-      (ap (λ (r : List (Row ℕ)). liveAt r j) (store-homes i (grainOf (given gs i .pos) (given gs i .vel) fzero (given gs i .val)) u))
+      then-sound (λ v. home v j ≡ home u j) (store i (atZero (given gs i)) u) _
+      (ap (λ (r : List (Row ℕ)). liveAt r j) (store-homes i (atZero (given gs i)) u))
       (λ v e. of-sound (λ w. home w j ≡ home u j) (λ c. enter i c) (cellsOfGrain (v .box) (given gs i)) (λ c w h k. enter-other i c w j d ∙ k) v e)
 
   all-fair : Accepted → (m i : ℕ) (u : State) → i + m ≤ length gs → Goes (bare b room gs) u → ((j : ℕ) → i ≤ j → home u j ≡ []) → Fair ((each (goesIn gs) m i u) .num)

@@ -20,7 +20,7 @@ use Rattle.model.specs.declared.Particle.{Particle}
 use Rattle.model.specs.declared.Event.{Event}
 use Rattle.model.specs.declared.Event.the-variants.{InterParticleCollision, MoveToNeighbour, MoveOutOfCell, WallReflection, Synchronisation}
 use Rattle.model.specs.Grid.{cells}
-use Rattle.model.specs.Stepping.{grainOf}
+use Rattle.model.specs.Stepping.{grainOf, landed}
 use Rattle.model.specs.Events.{names, eventOf}
 use Rattle.model.specs.State.{State, Row, liveAt, grain, listed, queue, has, requeued}
 use Rattle.model.specs.Acts.{store, cancelled, enter, gone, first, taken}
@@ -30,7 +30,7 @@ use Rattle.model.specs.Start.{begin}
 use Rattle.model.specs.Standing.{Once, syncs, one-if}
 use Rattle.model.proofs.Sound.{Sound, Held, Named, Stands}
 use Rattle.model.specs.Reached.{Reached}
-use Rattle.model.specs.Rows.{about, Rule, pair, bound, sync, Act, moving, turning, trying, cancelling, entering, leaving, Acts, doing, only, _⨟_, inTurn, stepping, scheduling, reschedules, syncing, actsOf, initiates, landed}
+use Rattle.model.specs.Rows.{about, Rule, pair, bound, sync, Act, moving, turning, trying, cancelling, entering, leaving, Acts, doing, only, _⨟_, inTurn, stepping, scheduling, reschedules, syncing, actsOf, initiates}
 use Rattle.model.specs.History.{did, took, History, rowDone, Dated, namedBy, datedPlaces, keepDated, dated, stepDone, startDone, history}
 use Rattle.model.specs.Missing.{Owes, Owed, NothingElse}
 use Rattle.model.specs.Doing.{execution}

@@ -14,7 +14,7 @@ use Rattle.model.specs.declared.Place.{Place}
 use Rattle.model.specs.declared.Plan.the-variants.{Nothing, Due, Refused}
 use Rattle.halting.specs.Out.{Out, out, next, then, each, eachOf}
 use Rattle.order.specs.Numbers.{fzero}
-use Rattle.model.specs.Stepping.{grainOf, newPos}
+use Rattle.model.specs.Stepping.{grainOf, landed, newPos}
 use Rattle.model.specs.Collision.{collision}
 use Rattle.model.specs.Grid.{cells}
 use Rattle.model.specs.FromPToC.{cellsOfGrain}
@@ -27,7 +27,7 @@ use Rattle.model.specs.Start.{clear, begin}
 use Rattle.model.specs.declared.Bound.{Bound}
 use Rattle.model.specs.declared.Bound.the-variants.{ToNeighbour, OutOfCell, Wall}
 use Rattle.model.specs.Rows.{pair, finder, Act, moving, turning, trying, cancelling, entering, leaving, perform, Acts, ended, act, doing, only, before, _⨟_}
-use Rattle.model.specs.Rows.{ofEach, inTurn, others, landed, stepping, colliding, finding, bounding, scheduling, reschedules, forgets, syncing, actsOf, goes, pairing, firstSync, initiates, startActs}
+use Rattle.model.specs.Rows.{ofEach, inTurn, others, stepping, colliding, finding, bounding, scheduling, reschedules, forgets, syncing, actsOf, goes, pairing, firstSync, initiates, startActs}
 use Rattle.model.proofs.Cases.{store-case, insert-case, enter-case, leave-case}
 
 -- these acts, one after another, were done and led from s to u

@@ -19,8 +19,8 @@ use Rattle.model.specs.Collision.{collision}
 use Rattle.model.specs.Moves.{toNeighbour, outOfCell}
 use Rattle.model.specs.Walls.{wall}
 use Rattle.model.specs.Doing.{stepGrain, scheduleCollision, scheduleBy, boundaries, scheduleWith, scheduleEvents, again, forget, doCollision, doNeighbour, doOut, doWall}
-use Rattle.model.specs.Rows.{others, Finder, landed}
-use Rattle.model.specs.Stepping.{stepped}
+use Rattle.model.specs.Rows.{others, Finder}
+use Rattle.model.specs.Stepping.{stepped, landed}
 use Rattle.model.proofs.Sound.{Sound}
 use Rattle.halting.proofs.Bools.{clash, or-case}
 use Rattle.model.proofs.Plans.{AptPlan, collision-apt, toNeighbour-apt, outOfCell-apt, wall-apt}

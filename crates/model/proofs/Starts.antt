@@ -20,7 +20,7 @@ use Rattle.model.specs.FromPToC.{cellsOfGrain}
 use Rattle.model.specs.State.{State, zeroG, grain, home, listed, queue, has, marked}
 use Rattle.model.specs.Acts.{store, insert, enter}
 use Rattle.model.specs.Doing.{scheduleCollision, boundaries, syncAt, goesIn, pairs, initCell, beginning}
-use Rattle.model.specs.Stepping.{grainOf}
+use Rattle.model.specs.Stepping.{atZero}
 use Rattle.model.specs.Sizes.{boxOk, countsOk, grainOk, firstBad}
 use Rattle.model.specs.Start.{Begun, clear, begin, refused, started, startedAt, start}
 use Rattle.model.specs.Standing.{Once, syncs}
@@ -77,15 +77,15 @@ module _ (b : Domain) (room : ℕ) (gs : List Particle) (box : boxOk b ≡ true)
       goes-on u w _ k (enter-goes w i c (k .sound) (rw l I) (rw e (C c h))))
       u (record { sound = g .sound; near = near-refl u })
 
-  pub stored : (i : ℕ) (u : State) → Goes (bare b room gs) u → i < length gs → Keeps u ((store i (grainOf (given gs i .pos) (given gs i .vel) fzero (given gs i .val)) u) .st)
+  pub stored : (i : ℕ) (u : State) → Goes (bare b room gs) u → i < length gs → Keeps u ((store i (atZero (given gs i)) u) .st)
   stored i u g I =
       let l : length (u .grains) ≡ length gs = g .near .few ∙ clear-few in
-      store-keeps u i (grainOf (given gs i .pos) (given gs i .vel) fzero (given gs i .val)) (g .sound) (rw l I) (rw (g .near .clock ∙ clear-clock) zero-le)
+      store-keeps u i (atZero (given gs i)) (g .sound) (rw l I) (rw (g .near .clock ∙ clear-clock) zero-le)
 
   pub goesIn-goes : (i : ℕ) (u : State) → i < length gs → Goes (bare b room gs) u → Goes (bare b room gs) ((goesIn gs i u) .st)
   unfolding goesIn
   goesIn-goes i u I g =
-      then-sound (Goes (bare b room gs)) (store i (grainOf (given gs i .pos) (given gs i .vel) fzero (given gs i .val)) u) _ (goes-on (bare b room gs) u _ g (keeps-goes u _ (stored i u g I)))
+      then-sound (Goes (bare b room gs)) (store i (atZero (given gs i)) u) _ (goes-on (bare b room gs) u _ g (keeps-goes u _ (stored i u g I)))
       (λ w k. goes-on (bare b room gs) w _ k (entries i w k I (cellsOfGrain (w .box) (given gs i)) (λ c h. cells-under b (given gs i) box c (subst (λ (d : Domain). has c (cellsOfGrain d (given gs i)) ≡ true) (k .near .box ∙ clear-box) h))))
 
   -- a grain that went in has a cell, where from_p_to_c gives one
@@ -117,7 +117,7 @@ module _ (b : Domain) (room : ℕ) (gs : List Particle) (box : boxOk b ≡ true)
   goesIn-some : Reaches → (i : ℕ) (u : State) → i < length gs → Goes (bare b room gs) u → (goesIn gs i u) .num ≡ 0 → 1 ≤ length (home ((goesIn gs i u) .st) i)
   unfolding goesIn
   goesIn-some some i u I g =
-      then-keeps (Goes (bare b room gs)) (λ v. 1 ≤ length (home v i)) (store i (grainOf (given gs i .pos) (given gs i .vel) fzero (given gs i .val)) u) _
+      then-keeps (Goes (bare b room gs)) (λ v. 1 ≤ length (home v i)) (store i (atZero (given gs i)) u) _
       (λ z. goes-on (bare b room gs) u _ g (keeps-goes u _ (stored i u g I)))
       (λ w k. let e : w .box ≡ b = k .near .box ∙ clear-box in
       entered-some i w k I (cellsOfGrain (w .box) (given gs i)) (λ c h. cells-under b (given gs i) box c (subst (λ (d : Domain). has c (cellsOfGrain d (given gs i)) ≡ true) e h)) (rw e (some i I)))
@@ -130,7 +130,7 @@ module _ (b : Domain) (room : ℕ) (gs : List Particle) (box : boxOk b ≡ true)
   goesIn-near : (i : ℕ) (u : State) → i < length gs → Goes (bare b room gs) u → Near u ((goesIn gs i u) .st)
   unfolding goesIn
   goesIn-near i u I g =
-      then-both (λ v. Near u v) (λ v. Goes u v) (store i (grainOf (given gs i .pos) (given gs i .vel) fzero (given gs i .val)) u) _ ((stored i u g I) .frame .near) (λ z. keeps-goes u _ (stored i u g I))
+      then-both (λ v. Near u v) (λ v. Goes u v) (store i (atZero (given gs i)) u) _ ((stored i u g I) .frame .near) (λ z. keeps-goes u _ (stored i u g I))
       (λ w n k. near-trans u w _ n ((entries i w (goes-on (bare b room gs) u w g k) I (cellsOfGrain (w .box) (given gs i))
       (λ c h. cells-under b (given gs i) box c (subst (λ (d : Domain). has c (cellsOfGrain d (given gs i)) ≡ true) (k .near .box ∙ g .near .box ∙ clear-box) h))) .near))
 

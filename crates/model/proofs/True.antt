@@ -20,13 +20,14 @@ use Rattle.model.specs.declared.Particle.{Particle}
 use Rattle.model.specs.declared.Pending.{Pending}
 use Rattle.model.specs.declared.Plan.the-variants.{Nothing, Due, Refused}
 use Rattle.model.specs.Events.{placeOf}
+use Rattle.model.specs.Stepping.{landed}
 use Rattle.model.specs.State.{State, zeroG, grain, requeued}
 use Rattle.model.specs.Acts.{first, taken, store, cancelled}
 use Rattle.model.specs.Execute.{headEvent, step}
 use Rattle.model.specs.Grid.{cells}
 use Rattle.model.specs.Start.{clear, begin}
 use Rattle.model.specs.Reached.{Reached}
-use Rattle.model.specs.Rows.{Rule, Act, moving, turning, trying, cancelling, entering, leaving, perform, Acts, ended, act, doing, actsOf, startActs, landed}
+use Rattle.model.specs.Rows.{Rule, Act, moving, turning, trying, cancelling, entering, leaving, perform, Acts, ended, act, doing, actsOf, startActs}
 use Rattle.model.specs.History.{Deed, did, took, History, onto, rowDone, stepDone, startDone, history, Dated, dated-at, insertDated, keepDated, change, dated, namedBy, lastOf, given, Honest, Led}
 use Rattle.model.proofs.Sound.{Stands}
 use Rattle.model.proofs.Performs.{act-same}

@@ -14,10 +14,10 @@ use Rattle.model.specs.declared.Particle.{Particle}
 use Rattle.model.specs.declared.Event.{Event}
 use Rattle.model.specs.declared.Event.the-variants.{InterParticleCollision, MoveToNeighbour, MoveOutOfCell, WallReflection, Synchronisation}
 use Rattle.model.specs.State.{State, zeroG, grain, home, listed, requeued}
-use Rattle.model.specs.Stepping.{grainOf}
+use Rattle.model.specs.Stepping.{grainOf, landed}
 use Rattle.model.specs.Acts.{cancelled, taken}
 use Rattle.model.specs.Execute.{finish, execute, headEvent, event, step}
-use Rattle.model.specs.Rows.{Act, moving, turning, trying, cancelling, entering, leaving, perform, Acts, ended, act, doing, only, _⨟_, stepping, colliding, finding, bounding, scheduling, reschedules, forgets, actsOf, pairing, firstSync, initiates, landed}
+use Rattle.model.specs.Rows.{Act, moving, turning, trying, cancelling, entering, leaving, perform, Acts, ended, act, doing, only, _⨟_, stepping, colliding, finding, bounding, scheduling, reschedules, forgets, actsOf, pairing, firstSync, initiates}
 use Rattle.model.specs.History.{did, turns}
 use Rattle.model.proofs.Cases.{store-case, put-case, enter-case, leave-case}
 use Rattle.model.proofs.Lists.{set-case}

@@ -20,10 +20,10 @@ use Rattle.model.specs.declared.Event.the-variants.{InterParticleCollisi
 use Rattle.model.specs.declared.Place.{Place}
 use Rattle.model.specs.Events.{eventOf, names, headPlace}
 use Rattle.model.specs.State.{State, Row, liveAt, grain, home, listed, queue, has, requeued}
-use Rattle.model.specs.Stepping.{grainOf}
+use Rattle.model.specs.Stepping.{grainOf, landed}
 use Rattle.model.specs.declared.Bound.{Bound}
 use Rattle.model.specs.declared.Bound.the-variants.{ToNeighbour, OutOfCell, Wall}
-use Rattle.model.specs.Rows.{Rule, pair, bound, sync, about, moving, cancelling, entering, leaving, Acts, doing, only, _⨟_, ofEach, inTurn, stepping, colliding, bounding, scheduling, reschedules, forgets, actsOf, pairing, firstSync, initiates, landed}
+use Rattle.model.specs.Rows.{Rule, pair, bound, sync, about, moving, cancelling, entering, leaving, Acts, doing, only, _⨟_, ofEach, inTurn, stepping, colliding, bounding, scheduling, reschedules, forgets, actsOf, pairing, firstSync, initiates}
 use Rattle.model.specs.History.{did, took, History, rowDone, Dated, datedPlaces, dated, stepDone, startDone, history}
 use Rattle.model.specs.Missing.{sameRule, Entry, Concerns, NoneMissing}
 use Rattle.model.proofs.Cases.{enter-case, leave-case}

@@ -13,7 +13,7 @@ use Rattle.model.specs.declared.Place.{Place}
 use Rattle.model.specs.declared.Event.{Event}
 use Rattle.model.specs.declared.Event.the-variants.{InterParticleCollision, MoveToNeighbour, MoveOutOfCell, WallReflection, Synchronisation}
 use Rattle.model.specs.Grid.{cells}
-use Rattle.model.specs.Stepping.{grainOf, stepped}
+use Rattle.model.specs.Stepping.{grainOf, stepped, landed, atZero}
 use Rattle.model.specs.FromPToC.{cellsOfGrain}
 use Rattle.model.specs.Collision.{collision}
 use Rattle.model.specs.Moves.{toNeighbour, outOfCell}
@@ -21,7 +21,7 @@ use Rattle.model.specs.Walls.{wall}
 use Rattle.model.specs.Events.{placeOf}
 use Rattle.model.specs.State.{State, zeroG, grain, home, listed}
 use Rattle.model.specs.Acts.{store, insert, put, cancel, enter, leave}
-use Rattle.model.specs.Rows.{Finder, landed, others}
+use Rattle.model.specs.Rows.{Finder, others}
 use Rattle.model.specs.Start.{clear}
 
 -- ---- schedule_events
@@ -91,7 +91,7 @@ execution rate Synchronisation s = doSync rate s
 -- ---- a start
 -- a grain's numbers, its time 0, and its entries
 unfoldable pub goesIn : List Particle → ℕ → State → Out State
-goesIn gs i s = let p = getD gs i zeroG in then (store i (grainOf (p .pos) (p .vel) fzero (p .val)) s) (λ u. eachOf (λ c. enter i c) (cellsOfGrain (u .box) p) u)
+goesIn gs i s = let p = getD gs i zeroG in then (store i (atZero p) s) (λ u. eachOf (λ c. enter i c) (cellsOfGrain (u .box) p) u)
 
 -- init_events in one cell
 unfoldable pub pairs : ℕ → List ℕ → State → Out State

@@ -16,7 +16,7 @@ use Rattle.model.specs.declared.Plan.{Plan}
 use Rattle.model.specs.declared.Plan.the-variants.{Due}
 use Rattle.model.specs.declared.Event.{Event}
 use Rattle.model.specs.declared.Event.the-variants.{InterParticleCollision, MoveToNeighbour, MoveOutOfCell, WallReflection, Synchronisation}
-use Rattle.model.specs.Stepping.{grainOf, newPos}
+use Rattle.model.specs.Stepping.{grainOf, newPos, landed, atZero}
 use Rattle.model.specs.Collision.{collision}
 use Rattle.model.specs.Moves.{toNeighbour, outOfCell}
 use Rattle.model.specs.Walls.{wall}
@@ -52,9 +52,6 @@ pub data Act : Type 0 where
   turning : ℕ → Particle → Act
   trying : ℕ → Rule → Plan → Act
   cancelling entering leaving : ℕ → ℕ → Act
-
-abbrev pub landed : MyVec → Float → Particle → Particle
-landed x t p = grainOf x (p .vel) t (p .val)
 
 abbrev pub perform : Act → State → Out State
 perform (moving g x t) s = store g (landed x t (grain s g)) s
@@ -146,7 +143,7 @@ actsOf rate Synchronisation s = (inTurn stepping (length (s .grains)) 0 ⨟ only
 -- ---- the acts of a start, in 01's order
 -- a grain's numbers, then its entries
 abbrev pub goes : List Particle → ℕ → State → Acts
-goes gs i = let p = getD gs i zeroG in only (turning i (grainOf (p .pos) (p .vel) fzero (p .val))) ⨟ (λ u. ofEach (λ c. only (entering i c)) (cellsOfGrain (u .box) p) u)
+goes gs i = let p = getD gs i zeroG in only (turning i (atZero p)) ⨟ (λ u. ofEach (λ c. only (entering i c)) (cellsOfGrain (u .box) p) u)
 
 -- each with those after it
 unfoldable pub pairing : ℕ → List ℕ → State → Acts

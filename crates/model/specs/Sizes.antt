@@ -3,7 +3,6 @@ use Prim.Native.Nat.{ℕ, suc}
 use mathlib.Core.List.{List, [], _∷_}
 use mathlib.Core.Bool.{Bool, _&&_, cond}
 use lib.Dec.{leb}
-use lib.ListN.{length}
 use lib.Ieee.{Float, binary64, sub, neg, le}
 use Rattle.order.specs.Numbers.{fzero}
 use Rattle.myvec.specs.Vec.{along}

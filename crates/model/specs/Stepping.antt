@@ -14,6 +14,14 @@ use Rattle.model.specs.Grid.{lengthOf}
 abbrev pub grainOf : MyVec → MyVec → Float → Float → Particle
 grainOf x v t w = record { pos = x; vel = v; time = t; val = w }
 
+-- a grain at another place and time: what else it has stays
+abbrev pub landed : MyVec → Float → Particle → Particle
+landed x t p = grainOf x (p .vel) t (p .val)
+
+-- a grain as a start stores it, at time 0
+abbrev pub atZero : Particle → Particle
+atZero p = landed (p .pos) fzero p
+
 -- below 0 adds length once, above length subtracts it once, walls or not
 abbrev pub wrapped : Float → Float → Float
 wrapped l x = cond (lt x fzero) (add binary64 x l) (cond (lt l x) (sub binary64 x l) x)
@@ -24,7 +32,7 @@ newPos b x v dt = let y = vadd x (vscale v dt) in vec (wrapped (lengthOf 0 b) (y
 
 -- dt is the time stepped to less the grain's own, whose time is then exactly the time stepped to
 abbrev pub stepped : Domain → Float → Particle → Particle
-stepped b t p = grainOf (newPos b (p .pos) (p .vel) (sub binary64 t (p .time))) (p .vel) t (p .val)
+stepped b t p = landed (newPos b (p .pos) (p .vel) (sub binary64 t (p .time))) t p
 
 -- an event's time is the clock plus its dt
 abbrev pub due : Float → Float → Event → Plan

@@ -2,7 +2,7 @@
 ghost use mathlib.Core.Path.{_≡_};
 ghost use Rattle.model.specs.Constants.{radiusOf};
 ghost use Rattle.model.specs.Grid.{boxOf};
-ghost use Rattle.model.specs.Stepping.{grainOf};
+ghost use Rattle.model.specs.Stepping.{grainOf, landed};
 use myvec::MyVec;
 
 // The box: its lengths, and in which directions it is periodic.
@@ -47,6 +47,19 @@ impl Particle {
             vel,
             time,
             val,
+        }
+    }
+
+    // The same grain at another place and time.
+    pub fn landed(self, pos: MyVec, time: f64) -> Self
+        ensures { λ r. ⌜ r ≡ landed pos time self ⌝ }
+    {
+        let vel = self.vel;
+        Self {
+            pos,
+            vel,
+            time,
+            val: self.val,
         }
     }
 

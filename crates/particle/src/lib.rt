@@ -46,12 +46,7 @@ pub fn stepped(domain: Domain, time: f64, p: Particle) -> Particle
 {
     let pos = p.pos;
     let vel = p.vel;
-    Particle::new(
-        get_new_pos(domain, pos, vel, time - p.time),
-        vel,
-        time,
-        p.val,
-    )
+    p.landed(get_new_pos(domain, pos, vel, time - p.time), time)
 }
 
 // ---- what may be stored

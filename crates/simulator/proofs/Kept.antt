@@ -8,13 +8,14 @@ use Rattle.model.specs.declared.Event.{Event}
 use Rattle.model.specs.declared.Place.{Place}
 use Rattle.model.specs.declared.Plan.the-variants.{Nothing, Due, Refused}
 use Rattle.model.specs.Events.{placeOf}
+use Rattle.model.specs.Stepping.{landed}
 use Rattle.model.specs.State.{State, grain, requeued}
 use Rattle.model.specs.Acts.{insert, cancelled, taken}
 use Rattle.model.specs.Execute.{Stepped, done, synchronised, halted, finish, headEvent, event, step}
 use Rattle.model.specs.Run.{Ran, onward, runFrom}
 use Rattle.model.specs.Check.{runAll}
 use Rattle.model.proofs.Cases.{store-case, insert-case, enter-case, leave-case}
-use Rattle.model.specs.Rows.{Act, moving, turning, trying, cancelling, entering, leaving, perform, landed}
+use Rattle.model.specs.Rows.{Act, moving, turning, trying, cancelling, entering, leaving, perform}
 use Rattle.model.proofs.Performs.{Does, execute-acted}
 use Rattle.model.proofs.Refusals.{run-case}
 

@@ -7,14 +7,13 @@ use lib.Dec.{eqb}
 use lib.ListN.{getD}
 use lib.Ieee.{Float}
 use borrow.Author.Tests.{eq-eqb}
-use Rattle.order.specs.Numbers.{fzero}
 use Rattle.halting.specs.Every.{All}
 use Rattle.halting.specs.Out.{Out, then, eachOf}
 use Rattle.model.specs.declared.Domain.{Domain}
 use Rattle.model.specs.declared.Particle.{Particle}
 use Rattle.model.specs.Constants.{radiusOf}
 use Rattle.model.specs.Grid.{lengthOf, across, cells}
-use Rattle.model.specs.Stepping.{grainOf}
+use Rattle.model.specs.Stepping.{atZero}
 use Rattle.model.specs.FromPToC.{cellsOfGrain}
 use Rattle.model.specs.State.{State, zeroG, has}
 use Rattle.model.specs.Acts.{store, enter}
@@ -77,10 +76,10 @@ going-on G u U = record { held = (u, U); ranged = G .ranged; laid = G .laid; cel
 
 -- ---- the grain's numbers stored, refused or done, and its cells entered
 module _ (gs : List Particle) (i : ℕ) (p : Particle) where
-  goes-is : p ≡ getD gs i zeroG → grainOf (p .pos) (p .vel) fzero (p .val) ≡ p → (s : State) → goesIn gs i s ≡ then (store i p s) (λ u. eachOf (enter i) (cellsOfGrain (u .box) p) u)
+  goes-is : p ≡ getD gs i zeroG → atZero p ≡ p → (s : State) → goesIn gs i s ≡ then (store i p s) (λ u. eachOf (enter i) (cellsOfGrain (u .box) p) u)
   unfolding goesIn
   goes-is e timed s =
-      ap (λ (q : Particle). then (store i (grainOf (q .pos) (q .vel) fzero (q .val)) s) (λ u. eachOf (enter i) (cellsOfGrain (u .box) q) u)) (sym e)
+      ap (λ (q : Particle). then (store i (atZero q) s) (λ u. eachOf (enter i) (cellsOfGrain (u .box) q) u)) (sym e)
       ∙ ap (λ (q : Particle). then (store i q s) (λ u. eachOf (enter i) (cellsOfGrain (u .box) p) u)) timed
 
   stored : {z : Sizes} {b : Domain} {l : List ℕ} {t t′ : List Float} {r : ℕ} → ((s : State) → InGrains z t s → GrainsTold z t′ r (store i p s)) → (s : State) → InBoth z b l t s → BothTold z b l t′ r (store i p s)
@@ -110,7 +109,7 @@ module _ (gs : List Particle) (i : ℕ) (p : Particle) where
         },
       )
 
-  module _ {z : Sizes} {b : Domain} {l : List ℕ} {t t′ : List Float} (e : p ≡ getD gs i zeroG) (timed : grainOf (p .pos) (p .vel) fzero (p .val) ≡ p) where
+  module _ {z : Sizes} {b : Domain} {l : List ℕ} {t t′ : List Float} (e : p ≡ getD gs i zeroG) (timed : atZero p ≡ p) where
     pub goes-stop : {r : ℕ} → ((s : State) → InGrains z t s → GrainsTold z t′ r (store i p s)) → (r ≡ 0 → ⊥) → (s : State) → InBoth z b l t s → BothTold z b l t′ r (goesIn gs i s)
     goes-stop {r} f u s S =
         subst (λ (o : Out State). BothTold z b l t′ r o) (sym (goes-is e timed s))

@@ -8,11 +8,10 @@ use lib.ListN.{length, getD}
 use lib.Ieee.{Float}
 use borrow.Rule.Slice.PartMut.{midOf}
 use Rattle.layout.specs.Widths.{inputWide}
-use Rattle.order.specs.Numbers.{fzero}
 use Rattle.model.specs.declared.Domain.{Domain}
 use Rattle.model.specs.declared.Particle.{Particle}
 use Rattle.model.specs.Sizes.{grainOk, firstBad}
-use Rattle.model.specs.Stepping.{grainOf}
+use Rattle.model.specs.Stepping.{atZero}
 use Rattle.model.specs.State.{zeroG}
 use Rattle.chunks.proofs.Laws.{tail-is}
 use Rattle.checks.proofs.Cut.{cut-none, cut-step, cut-at, cut-long}
@@ -22,8 +21,8 @@ pub input-read : (n : ℕ) (l : List Float) (i : ℕ) → i < n → inputAt (mid
 input-read n l i h = ap inputAt (tail-is (i * inputWide) l) ∙ sym (cut-at inputAt inputWide n l i zeroG h)
 
 -- its time is 0
-pub input-timed : (n : ℕ) (l : List Float) (i : ℕ) (p : Particle) → i < n → p ≡ getD (inputsOf n l) i zeroG → grainOf (p .pos) (p .vel) fzero (p .val) ≡ p
-input-timed n l i p h e = subst (λ (q : Particle). grainOf (q .pos) (q .vel) fzero (q .val) ≡ q) (sym (e ∙ cut-at inputAt inputWide n l i zeroG h)) refl
+pub input-timed : (n : ℕ) (l : List Float) (i : ℕ) (p : Particle) → i < n → p ≡ getD (inputsOf n l) i zeroG → atZero p ≡ p
+input-timed n l i p h e = subst (λ (q : Particle). atZero q ≡ q) (sym (e ∙ cut-at inputAt inputWide n l i zeroG h)) refl
 
 module _ (b : Domain) where
   first-step : (p : Particle) (ps : List Particle) → grainOk b p ≡ true → 1 + firstBad b ps ≡ firstBad b (p ∷ ps)

@@ -3,11 +3,10 @@ use Prim.Native.Nat.{ℕ}
 use mathlib.Core.Path.{_≡_, refl, sym, ap, _∙_, subst}
 use mathlib.Core.List.{List}
 use lib.ListN.{getD}
-use Rattle.order.specs.Numbers.{fzero}
 use Rattle.halting.specs.Out.{each, eachOf}
 use Rattle.model.specs.declared.Particle.{Particle}
 use Rattle.model.specs.State.{State, zeroG, withGrains, withLists}
-use Rattle.model.specs.Stepping.{grainOf}
+use Rattle.model.specs.Stepping.{atZero}
 use Rattle.model.specs.FromPToC.{cellsOfGrain}
 use Rattle.model.specs.Acts.{store, enter}
 use Rattle.model.specs.Doing.{goesIn}
@@ -33,8 +32,8 @@ pub goesIn-only : (gs : List Particle) (i : ℕ) (s : State) → OnlyIn s ((goes
 unfolding goesIn
 goesIn-only gs i s =
     let p = getD gs i zeroG in
-    touch-then OnlyIn in-none in-both s (store i (grainOf (p .pos) (p .vel) fzero (p .val)) s) (λ u. eachOf (λ c. enter i c) (cellsOfGrain (u .box) p) u)
-    (grains-in s _ (store-only i (grainOf (p .pos) (p .vel) fzero (p .val)) s))
+    touch-then OnlyIn in-none in-both s (store i (atZero p) s) (λ u. eachOf (λ c. enter i c) (cellsOfGrain (u .box) p) u)
+    (grains-in s _ (store-only i (atZero p) s))
     (λ u. touch-of OnlyIn in-none in-both (λ c. enter i c) (λ c w. lists-in w _ (enter-only i c w)) (cellsOfGrain (u .box) p) u)
 
 pub all-only : (gs : List Particle) (m i : ℕ) (s : State) → OnlyIn s ((each (goesIn gs) m i s) .st)

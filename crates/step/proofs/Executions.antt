@@ -10,11 +10,10 @@ use Rattle.model.specs.declared.Particle.{Particle}
 use Rattle.model.specs.declared.Place.{Place}
 use Rattle.model.specs.declared.Event.{Event}
 use Rattle.model.specs.declared.Event.the-variants.{InterParticleCollision, MoveToNeighbour, MoveOutOfCell, WallReflection, Synchronisation}
-use Rattle.model.specs.Stepping.{grainOf}
+use Rattle.model.specs.Stepping.{grainOf, landed}
 use Rattle.model.specs.State.{State, home, listed, grain, zeroG}
 use Rattle.model.specs.Acts.{store, insert, cancel, enter, leave}
 use Rattle.model.specs.Doing.{stepGrain, scheduleEvents, again, forget, syncAt, doCollision, doNeighbour, doOut, doWall, doSync, execution}
-use Rattle.model.specs.Rows.{landed}
 use Rattle.tables.specs.declared.Sizes.{Sizes}
 use Rattle.tables.specs.Holds.{Grained, Queued, Told}
 use Rattle.acts.specs.Tell.{At, InLists, ListsTold, InGrains, GrainsTold, Pair}
@@ -42,7 +41,7 @@ forget-only : (p : ℕ) (s : State) → OnlyQueues s ((forget p s) .st)
 unfolding forget
 forget-only p s = each-cancel-only p (home s p) s
 
-pub landed-told : {z : Sizes} {g g₁ : List Float} {r : ℕ} (p : ℕ) (x : MyVec) (t : Float) {a b : Particle} → b ≡ grainOf x (a .vel) t (a .val) → ((z : Sizes) (gs : List Particle) → Grained z g gs → a ≡ getD gs p zeroG)
+pub landed-told : {z : Sizes} {g g₁ : List Float} {r : ℕ} (p : ℕ) (x : MyVec) (t : Float) {a b : Particle} → b ≡ landed x t a → ((z : Sizes) (gs : List Particle) → Grained z g gs → a ≡ getD gs p zeroG)
     → ((s : State) → InGrains z g s → GrainsTold z g₁ r (store p b s)) → (s : State) → InGrains z g s → s .clock ≡ t → GrainsTold z g₁ r (store p (landed x (s .clock) (grain s p)) s)
 landed-told {z} {g₁ = g₁} {r = r} p x t {a} {b} e f k s h c =
     let m : a ≡ grain s p = f z (s .grains) h in

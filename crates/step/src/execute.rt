@@ -2,10 +2,10 @@
 ghost use mathlib.Core.Path.{_≡_};
 ghost use Prim.Native.Nat.{_<_};
 ghost use Rattle.halting.specs.Out.{then};
+ghost use Rattle.model.specs.Stepping.{landed};
 ghost use Rattle.model.specs.State.{State, grain};
 ghost use Rattle.model.specs.Acts.{store as storeAct};
 ghost use Rattle.model.specs.Doing.{again as againIn, forget as forgetIn, doCollision, doNeighbour, doOut, doWall, doSync, execution as executeIn};
-ghost use Rattle.model.specs.Rows.{landed};
 ghost use Rattle.tables.specs.Holds.{Ranged};
 ghost use Rattle.acts.specs.Tell.{Pair, Grains, InGrains, GrainsTold};
 ghost use Rattle.step.specs.World.{Placed, Listing, Seen, Held, Some, Does, Apt};
@@ -160,7 +160,7 @@ fn land(grains: &mut [f64], z: Sizes, clock: f64, p: usize, pos: MyVec) -> u64
         → GrainsTold z (now (grains .exit)) r (storeAct p (landed pos (s .clock) (grain s p)) s)) ⌝ }
 {
     let a = tables::grains::get_grain(grains, p);
-    acts::store::store(grains, z, p, Particle::new(pos, a.vel, clock, a.val))
+    acts::store::store(grains, z, p, a.landed(pos, clock))
 }
 
 // The grain lands in a cell more, and its events there are scheduled.

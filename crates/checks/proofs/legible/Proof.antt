@@ -3,7 +3,7 @@ use mathlib.Core.Path.{sym, ap, _∙_}
 use borrow.Author.Tests.{not-true, not-false}
 use Rattle.layout.specs.Widths.{listsHeadWide, homeRoom, memberRoom, homeWide, membersWide, homeFrom}
 use Rattle.chunks.proofs.Laws.{tail-is}
-use Prim.Native.Nat.{_+_, _*_}
+use Prim.Native.Nat.{_+_}
 use Rattle.checks.specs.Check.{countsWithin}
 use borrow.Author.Needs.{needs}
 use Rattle.checks.proofs.legible.Statement.{statement}

@@ -6,11 +6,11 @@ use Rattle.particle.proofs.stepped.Tie as tie
 get-new-pos-requires : tie.Need-get-new-pos-requires
 get-new-pos-requires c κs = search needs
 
-new-requires : tie.Need-new-requires
-new-requires c κs = search needs
+landed-requires : tie.Need-landed-requires
+landed-requires c κs = search needs
 
 returns : tie.Need-returns
 returns c = cc
 
 pub stepped-spec : {M : Type 1} → statement M
-stepped-spec = tie.close (tie.spec get-new-pos-requires new-requires returns)
+stepped-spec = tie.close (tie.spec get-new-pos-requires landed-requires returns)

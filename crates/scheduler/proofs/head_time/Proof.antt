@@ -8,7 +8,6 @@ use Rattle.scheduler.specs.Inside.{headIn}
 use Rattle.order.specs.Numbers.{f64Max}
 use Rattle.layout.specs.Widths.{queueFrom, eventsFrom}
 use Rattle.scheduler.proofs.Laws.{getD-any}
-use native.Mathlib.Omega.{arith}
 use borrow.Author.Needs.{needs}
 use Rattle.scheduler.proofs.head_time.Statement.{statement}
 use Rattle.scheduler.proofs.head_time.Tie as tie

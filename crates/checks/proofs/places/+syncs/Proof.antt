@@ -1,5 +1,5 @@
 -- `places::syncs` meets its contract. Assumes nothing.
-use mathlib.Core.Path.{_≡_, sym, ap, _∙_}
+use mathlib.Core.Path.{_≡_, sym, _∙_}
 use Rattle.checks.proofs.Cut.{less-rows, both-none, both-step, both-long}
 use Rattle.checks.proofs.OnePlace.{syncs-none, syncs-step, syncs-most, one-most}
 use Rattle.layout.specs.Widths.{placeNumsWide, placeRealsWide}

@@ -1,7 +1,6 @@
 -- `start`: refused by 1, 2 or 4, or accepted. Assumes nothing.
 use Prim.Native.Nat.{_≤_}
 use mathlib.Core.Path.{sym, _∙_, subst}
-use lib.ListN.{length}
 use borrow.Author.Tests.{not-true, not-false}
 use Rattle.model.specs.Check.{Fits}
 use Rattle.model.proofs.Grid.{cells-max}

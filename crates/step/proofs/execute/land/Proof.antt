@@ -12,8 +12,8 @@ get-grain-requires c κs =
     let o = b .pre .0 in
     grain-fits (o .1) (b .pre .1) (a .p) (b .pre .2)
 
-new-requires : tie.Need-new-requires
-new-requires c κs = search needs
+landed-requires : tie.Need-landed-requires
+landed-requires c κs = search needs
 
 store-requires : tie.Need-store-requires
 store-requires c κs =
@@ -26,11 +26,11 @@ same-length c = search
 returns : tie.Need-returns
 returns c =
     let s : tie.After-store = search in
-    let n : tie.After-new = search in
+    let n : tie.After-landed = search in
     let gg : tie.After-get-grain = search in
     let b : tie.Start = search in
     let a = b .args in
-    landed-told (a .p) (a .pos) (a .clock) (n .new .ensures) (gg .get-grain .ensures) (s .store .ensures)
+    landed-told (a .p) (a .pos) (a .clock) (n .landed .ensures) (gg .get-grain .ensures) (s .store .ensures)
 
 pub land-spec : {M : Type 1} → statement M
-land-spec = tie.close (tie.spec get-grain-requires new-requires store-requires same-length returns)
+land-spec = tie.close (tie.spec get-grain-requires landed-requires store-requires same-length returns)
