@@ -47,7 +47,7 @@ example-formed = record {
     l0-word = lit< tt;
     l1-word = lit< tt;
     rate-word = lit< tt;
-    grain-words = (record { x-word = lit< tt; y-word = lit< tt; vx-word = lit< tt; vy-word = lit< tt; val-word = lit< tt }, tt);
+    grain-words = ((lit< tt, (lit< tt, (lit< tt, (lit< tt, (lit< tt, tt))))), tt);
   };
   countable = lit< tt;
 }

@@ -26,6 +26,7 @@ use Rattle.model.proofs.Whole.{runs, sound-sized, rated-later}
 use Rattle.model.proofs.Refusals.{run-refused-3}
 use Rattle.model.proofs.Halts.{run-halts, start-halts}
 use Rattle.listing_text.specs.declared.writer.Answer.the-variants.{TooLarge, Refused, Spent}
+use Rattle.listing_text.specs.Columns.{mostKept}
 use Rattle.listing_text.specs.Grammar.{Input}
 use Rattle.listing_text.specs.Answers.{listingOf, answerOf}
 use Rattle.listing_text.specs.Size.{longLength}
@@ -99,7 +100,7 @@ begun-same r g k h e = ap numberOf e
     numberOf (refused n m) = n
     numberOf (started s) = 0
 
-module _ (b : Domain) (F : Fits b) (gs : List Particle) (few : length gs ≤ 32) (rate : Float) where
+module _ (b : Domain) (F : Fits b) (gs : List Particle) (few : length gs ≤ mostKept) (rate : Float) where
   counts : countsOk room (length gs) ≡ true
   counts = rw (le-leb (length gs) 256 (omega (arith, few)))
 
@@ -130,12 +131,12 @@ module _ (b : Domain) (F : Fits b) (gs : List Particle) (few : length gs ≤ 32)
 
 pub answers-are : (i : Input) → Reply (answerTo i)
 unfolding answerTo
-answers-are i = by (ltb 32 (length (i .grains))) refl (longLength (float (i .l0)) || longLength (float (i .l1)))
+answers-are i = by (ltb mostKept (length (i .grains))) refl (longLength (float (i .l0)) || longLength (float (i .l1)))
   where
-    by : (x : Bool) → ltb 32 (length (i .grains)) ≡ x → (y : Bool) → Reply (cond (x || y) (answerOf TooLarge) (afterStart (float (i .rate)) (start (boxFrom i) room (map grainFrom (i .grains)))))
+    by : (x : Bool) → ltb mostKept (length (i .grains)) ≡ x → (y : Bool) → Reply (cond (x || y) (answerOf TooLarge) (afterStart (float (i .rate)) (start (boxFrom i) room (map grainFrom (i .grains)))))
     by true e y = large refl
     by false e true = large refl
     by false e false =
         let m = length-map (i .grains) grainFrom in
-        let f = ltb-false 32 (length (i .grains)) e in
+        let f = ltb-false mostKept (length (i .grains)) e in
         started-reply (boxFrom i) (record { first = ofBits-fits binary64 (i .l0); second = ofBits-fits binary64 (i .l1) }) (map grainFrom (i .grains)) (omega (arith, m, f)) (float (i .rate)) (start (boxFrom i) room (map grainFrom (i .grains))) refl

@@ -7,19 +7,20 @@ use lib.Dec.{ltb}
 use lib.ListN.{getD, drop, replicate}
 use lib.Ieee.{Float, binary64, toBits}
 use borrow.Author.Tests.{ltb-false}
-use Rattle.order.specs.Numbers.{fzero}
 use Rattle.chunks.specs.Flat.{flat}
 use Rattle.model.specs.declared.Domain.{Domain}
 use Rattle.model.specs.declared.Report.{Report}
 use Rattle.model.specs.declared.Report.the-variants.{Synchronised, Spent, Refused}
 use Rattle.model.specs.declared.Started.{Started}
-use Rattle.tables.specs.Decode.{Tables, tables, grainsOf, grainsPart}
+use Rattle.tables.specs.Decode.{Tables, grainsOf, grainsPart}
 use Rattle.running.specs.Ran.{RanTables, toldTables}
 use Rattle.simulator.specs.Start.{with, startAll}
 use Rattle.simulator.specs.Run.{runTables}
 use Rattle.listing_text.specs.declared.writer.Answer.the-variants as answer
 use Rattle.text.specs.Put.{Put}
-use Rattle.listing_text.specs.Rows.{fiveOf, rowsListing}
+use Rattle.listing_text.specs.Columns.{columns, mostKept, kept as keptNumbers}
+use Rattle.listing_text.specs.Grammar.{columnsOf}
+use Rattle.listing_text.specs.Rows.{rowsListing}
 use Rattle.listing_text.specs.Size.{longLength, tooLarge}
 use Rattle.listing_text.specs.Answers.{answerOf}
 use Rattle.text.proofs.Putting.{put-as}
@@ -51,15 +52,14 @@ told-back (Spent c n) t = refl
 told-back (Refused k c n) t = refl
 
 pub serve-ends : (o : Report) (b : Domain) (n : ℕ) (rate : Float) (inputs : List Float) (u : Tables) (v s : List ℕ)
-    → toldTables o u ≡ simulated b n rate inputs (tables (replicate 591 0) (replicate 195 fzero) (replicate 2313 0) (replicate 5760 fzero) (replicate 512 0))
-    → v ≡ flat fiveOf (map shownGrain (grainsOf n (grainsPart (u .grains)))) ++ drop (n * 5) s
-    → (o ≡ reportOf (simulated b n rate inputs blank)) × (v ≡ flat fiveOf (map shownGrain (grainsOf n (grainsPart ((simulated b n rate inputs blank) .after .grains)))) ++ drop (n * 5) s)
-unfolding blank
+    → toldTables o u ≡ simulated b n rate inputs blank
+    → v ≡ flat columnsOf (map shownGrain (grainsOf n (grainsPart (u .grains)))) ++ drop (n * columns) s
+    → (o ≡ reportOf (simulated b n rate inputs blank)) × (v ≡ flat columnsOf (map shownGrain (grainsOf n (grainsPart ((simulated b n rate inputs blank) .after .grains)))) ++ drop (n * columns) s)
 serve-ends o b n rate inputs u v s e h =
-    (sym (told-back o u) ∙ ap reportOf e, h ∙ ap (λ (x : RanTables). flat fiveOf (map shownGrain (grainsOf n (grainsPart (x .after .grains)))) ++ drop (n * 5) s) e)
+    (sym (told-back o u) ∙ ap reportOf e, h ∙ ap (λ (x : RanTables). flat columnsOf (map shownGrain (grainsOf n (grainsPart (x .after .grains)))) ++ drop (n * columns) s) e)
 
 pub served-put : (b : Domain) (rate : Float) (grains : List ℕ) (n : ℕ) (inputs : List Float) (o : Report) (v s u : List ℕ) (k : ℕ) → inputs ≡ map float grains
-    → (o ≡ reportOf (simulated b n rate inputs blank)) × (v ≡ flat fiveOf (map shownGrain (grainsOf n (grainsPart ((simulated b n rate inputs blank) .after .grains)))) ++ drop (n * 5) (replicate 160 0))
+    → (o ≡ reportOf (simulated b n rate inputs blank)) × (v ≡ flat columnsOf (map shownGrain (grainsOf n (grainsPart ((simulated b n rate inputs blank) .after .grains)))) ++ drop (n * columns) (replicate keptNumbers 0))
     → Put 0 (spelt o n v) s u k → Put 0 (served b rate grains n) s u k
 unfolding served
 served-put b rate grains n inputs o v s u k ei e p = put-as ((λ i. spelt (e .0 i) n (e .1 i)) ∙ (λ i. spelling (simulated b n rate (ei i) blank) n)) p
@@ -71,8 +71,8 @@ unfolding judged
 judged-put numbers grains n x y b s u k eb e h p =
     put-as (ap (λ (z : Bool). cond z (answerOf answer.TooLarge) (served (boxRead numbers) (float (getD numbers 4 0)) grains n)) (sym h ∙ e ∙ ap (λ (w : Domain). tooLarge n (w .lengths .x) (w .lengths .y)) eb)) p
 
-pub few : (n : ℕ) (a b : Float) (x : Bool) → x ≡ tooLarge n a b → x ≡ false → n ≤ 32
-few n a b x e h = ltb-false 32 n (by (ltb 32 n) (sym e ∙ h))
+pub few : (n : ℕ) (a b : Float) (x : Bool) → x ≡ tooLarge n a b → x ≡ false → n ≤ mostKept
+few n a b x e h = ltb-false mostKept n (by (ltb mostKept n) (sym e ∙ h))
   where
     by : (y : Bool) → (y || (longLength a || longLength b)) ≡ false → y ≡ false
     by true z = z

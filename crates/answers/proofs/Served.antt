@@ -22,6 +22,7 @@ use Rattle.model.specs.Run.{How, synchronised, spent, refused as refusedBy, Ran
 use Rattle.model.specs.Check.{Fits, runAll}
 use Rattle.model.specs.Reached.{after}
 use Rattle.model.proofs.Reached.{Well, runAll-well, reached-well}
+use Rattle.layout.specs.Widths.{inputWide}
 use Rattle.tables.specs.declared.Sizes.{Sizes}
 use Rattle.tables.specs.Decode.{Tables, grainsOf, grainsPart}
 use Rattle.tables.specs.Lengths.{listsNeed, grainsNeed, queueNeed, eventsNeed}
@@ -38,13 +39,15 @@ use Rattle.simulator.proofs.Ran.{sizes-same, run-over}
 use Rattle.simulator.proofs.Landed.{start-kept}
 use Rattle.listing_text.specs.declared.writer.Answer.the-variants.{Malformed, TooLarge, Refused}
 use Rattle.listing_text.specs.declared.reader.Reader.{Reader}
-use Rattle.listing_text.specs.Rows.{fiveOf, grainsFrom}
+use Rattle.listing_text.specs.Columns.{columns, mostKept, kept as keptNumbers}
+use Rattle.listing_text.specs.Grammar.{columnsOf}
+use Rattle.listing_text.specs.Rows.{grainsFrom}
 use Rattle.listing_text.specs.Reading.{closedOf, fineOf}
 use Rattle.listing_text.specs.Answers.{listingOf, answerOf}
 use Rattle.listing_text.specs.Size.{longLength, tooLarge}
 use Rattle.answers.specs.Answer.{float, shownGrain, grainFrom, room, budget, byHow, listing, toNext, unlessHalted, afterStart, answerTo}
 use Rattle.answers.specs.Read.{inputFrom, inputOf, answered}
-use Rattle.answers.specs.Runs.{startedReport, goOn, simulated, blank, spelt, boxRead, rows, spelling, served, judged}
+use Rattle.answers.specs.Runs.{startedReport, goOn, simulated, lentCells, lentSizes, blank, spelt, boxRead, rows, spelling, served, judged}
 use Rattle.answers.specs.Runs as runs
 use Rattle.answers.proofs.RowLaws.{inputs-are, shown-back}
 use Rattle.answers.proofs.NineCells.{nine-cells}
@@ -53,17 +56,17 @@ abbrev ground : Tables
 ground = cleared blank
 
 -- ---- the tables are long enough
-module _ (b : Domain) (n : ℕ) (few : n ≤ 32) (nine : cells b ≡ 9) where
-  lists-enough : listsNeed (sizesFor b n room) ≤ 591
+module _ (b : Domain) (n : ℕ) (few : n ≤ mostKept) (nine : cells b ≡ lentCells) where
+  lists-enough : listsNeed (sizesFor b n room) ≤ listsNeed lentSizes
   lists-enough = omega (arith, few, nine)
 
-  grains-enough : grainsNeed (sizesFor b n room) ≤ 195
+  grains-enough : grainsNeed (sizesFor b n room) ≤ grainsNeed lentSizes
   grains-enough = omega (arith, few)
 
-  queue-enough : queueNeed (sizesFor b n room) ≤ 2313
+  queue-enough : queueNeed (sizesFor b n room) ≤ queueNeed lentSizes
   queue-enough = omega (arith, nine)
 
-  events-enough : eventsNeed (sizesFor b n room) ≤ 5760
+  events-enough : eventsNeed (sizesFor b n room) ≤ eventsNeed lentSizes
   events-enough = omega (arith, nine)
 
   long-ground : Long (sizesFor b n room) ground
@@ -76,21 +79,21 @@ module _ (b : Domain) (n : ℕ) (few : n ≤ 32) (nine : cells b ≡ 9) where
     order = omega arith;
   }
 
-  fits-blank : (inputs : List Float) → n * 5 ≤ length inputs
+  fits-blank : (inputs : List Float) → n * inputWide ≤ length inputs
       → fits (sizesFor b n room) (length inputs) (length (blank .lists)) (length (blank .grains)) (length (blank .queue)) (length (blank .events)) (length (blank .order)) ≡ true
   unfolding fits blank
   fits-blank inputs h =
       rw (
         le-leb n 256 (omega (arith, few)),
-        le-leb (n * 5) (length inputs) h,
-        le-leb (listsNeed (sizesFor b n room)) 591 lists-enough,
-        le-leb (grainsNeed (sizesFor b n room)) 195 grains-enough,
-        le-leb (queueNeed (sizesFor b n room)) 2313 queue-enough,
-        le-leb (eventsNeed (sizesFor b n room)) 5760 events-enough,
+        le-leb (n * inputWide) (length inputs) h,
+        le-leb (listsNeed (sizesFor b n room)) (listsNeed lentSizes) lists-enough,
+        le-leb (grainsNeed (sizesFor b n room)) (grainsNeed lentSizes) grains-enough,
+        le-leb (queueNeed (sizesFor b n room)) (queueNeed lentSizes) queue-enough,
+        le-leb (eventsNeed (sizesFor b n room)) (eventsNeed lentSizes) events-enough,
       )
 
 -- ---- two runs behind a start
-module _ (b : Domain) (F : Fits b) (n : ℕ) (few : n ≤ 32) (nine : cells b ≡ 9) (inputs : List Float) (rate : Float) (s : State) (e : start b room (inputsOf n inputs) ≡ started s) where
+module _ (b : Domain) (F : Fits b) (n : ℕ) (few : n ≤ mostKept) (nine : cells b ≡ lentCells) (inputs : List Float) (rate : Float) (s : State) (e : start b room (inputsOf n inputs) ≡ started s) where
   well : Well s
   well = reached-well s (record { box = b; fits = F; room = room; grains = inputsOf n inputs; begun = s; accepted = e; calls = []; there = unfold after in refl })
 
@@ -145,11 +148,11 @@ module _ (b : Domain) (F : Fits b) (n : ℕ) (few : n ≤ 32) (nine : cells b �
 
   shown-read : grainsFrom (rows n (encoded v ground)) 0 n ≡ map shownGrain (v .grains)
   shown-read =
-      ap (λ (ps : List Particle). grainsFrom (flat fiveOf (map shownGrain ps) ++ drop (n * 5) (replicate {A = ℕ} 160 0)) 0 n) grains-read
+      ap (λ (ps : List Particle). grainsFrom (flat columnsOf (map shownGrain ps) ++ drop (n * columns) (replicate {A = ℕ} keptNumbers 0)) 0 n) grains-read
       ∙ shown-back (map shownGrain (v .grains)) n (length-map (v .grains) shownGrain ∙ many) few
 
   listing-is : (h : How) → spelt (runs.reportBy h (second .clock) (second .count)) n (rows n (encoded v ground)) ≡ byHow h (listingOf (toBits binary64 (second .clock)) (map shownGrain (v .grains)))
-  listing-is synchronised = ap (λ (x : Bool). cond x [] (listingOf (toBits binary64 (second .clock)) (grainsFrom (rows n (encoded v ground)) 0 n))) (le-ltb 32 n few) ∙ ap (listingOf (toBits binary64 (second .clock))) shown-read
+  listing-is synchronised = ap (λ (x : Bool). cond x [] (listingOf (toBits binary64 (second .clock)) (grainsFrom (rows n (encoded v ground)) 0 n))) (le-ltb mostKept n few) ∙ ap (listingOf (toBits binary64 (second .clock))) shown-read
   listing-is spent = refl
   listing-is (refusedBy r) = refl
 
@@ -162,11 +165,11 @@ module _ (b : Domain) (F : Fits b) (n : ℕ) (few : n ≤ 32) (nine : cells b �
   runs-are = ap (λ (x : RanTables). spelling (goOn rate x) n) (run-over s ground (well .sound) long-s rate budget) ∙ next-is (first .how) (first .clock) (first .count)
 
 -- ---- a start
-module _ (b : Domain) (F : Fits b) (n : ℕ) (few : n ≤ 32) (inputs : List Float) (rate : Float) where
+module _ (b : Domain) (F : Fits b) (n : ℕ) (few : n ≤ mostKept) (inputs : List Float) (rate : Float) where
   abbrev bothRuns : StartedWith → RanTables
   bothRuns w = goOn rate (goOn rate (startedReport w))
 
-  begun-is : cells b ≡ 9 → (x : Begun) → start b room (inputsOf n inputs) ≡ x → spelling (bothRuns (startedOver x blank)) n ≡ afterStart rate x
+  begun-is : cells b ≡ lentCells → (x : Begun) → start b room (inputsOf n inputs) ≡ x → spelling (bothRuns (startedOver x blank)) n ≡ afterStart rate x
   begun-is nine (refused r g) e = by (eqb r 4) refl
     where
       by : (y : Bool) → eqb r 4 ≡ y → spelling (bothRuns (with (cond y (start-answer.BadGrain g) (start-answer.Refused r)) blank)) n ≡ answerOf (Refused r)
@@ -178,7 +181,7 @@ module _ (b : Domain) (F : Fits b) (n : ℕ) (few : n ≤ 32) (inputs : List Flo
       by zero = runs-are b F n few nine inputs rate s e
       by (suc r) = refl
 
-  open-start : boxOk b ≡ true → cells b ≡ 9 → n * 5 ≤ length inputs → startAll b n room inputs blank ≡ startedOver (start b room (inputsOf n inputs)) blank
+  open-start : boxOk b ≡ true → cells b ≡ lentCells → n * inputWide ≤ length inputs → startAll b n room inputs blank ≡ startedOver (start b room (inputsOf n inputs)) blank
   unfolding startAll
   open-start h nine k = rw (h, fits-blank b n few nine inputs k)
 
@@ -190,7 +193,7 @@ module _ (b : Domain) (F : Fits b) (n : ℕ) (few : n ≤ 32) (inputs : List Flo
   unfolding start
   shut-start h = rw h
 
-  served-is : n * 5 ≤ length inputs → longLength (lengthOf 0 b) ≡ false → longLength (lengthOf 1 b) ≡ false → spelling (simulated b n rate inputs blank) n ≡ afterStart rate (start b room (inputsOf n inputs))
+  served-is : n * inputWide ≤ length inputs → longLength (lengthOf 0 b) ≡ false → longLength (lengthOf 1 b) ≡ false → spelling (simulated b n rate inputs blank) n ≡ afterStart rate (start b room (inputsOf n inputs))
   unfolding simulated
   served-is k p q = by (boxOk b) refl
     where
@@ -209,18 +212,18 @@ split false false true h = absurd (subst T h tt)
 split false true z h = absurd (subst T h tt)
 split true y z h = absurd (subst T h tt)
 
-module _ (numbers grains : List ℕ) (n : ℕ) (long : length grains ≡ 160) where
+module _ (numbers grains : List ℕ) (n : ℕ) (long : length grains ≡ keptNumbers) where
   abbrev rate : Float
   rate = float (getD numbers 4 0)
 
   box-fits : Fits (boxRead numbers)
   box-fits = record { first = ofBits-fits binary64 (getD numbers 0 0); second = ofBits-fits binary64 (getD numbers 1 0) }
 
-  small-is : ltb 32 n ≡ false → longLength (float (getD numbers 0 0)) ≡ false → longLength (float (getD numbers 1 0)) ≡ false → served (boxRead numbers) rate grains n ≡ afterStart rate (start (boxRead numbers) room (map grainFrom (grainsFrom grains 0 n)))
+  small-is : ltb mostKept n ≡ false → longLength (float (getD numbers 0 0)) ≡ false → longLength (float (getD numbers 1 0)) ≡ false → served (boxRead numbers) rate grains n ≡ afterStart rate (start (boxRead numbers) room (map grainFrom (grainsFrom grains 0 n)))
   unfolding served
   small-is h p q =
-      let few = ltb-false 32 n h in
-      let k : n * 5 ≤ length (map float grains) = let m = length-map grains float in omega (arith, m, long, few) in
+      let few = ltb-false mostKept n h in
+      let k : n * inputWide ≤ length (map float grains) = let m = length-map grains float in omega (arith, m, long, few) in
       served-is (boxRead numbers) box-fits n few (map float grains) rate k p q ∙ ap (λ (gs : List Particle). afterStart rate (start (boxRead numbers) room gs)) (inputs-are n grains (omega (arith, long, few)))
 
   pub judged-is : judged numbers grains n ≡ answerTo (inputFrom numbers grains n)
@@ -234,10 +237,10 @@ module _ (numbers grains : List ℕ) (n : ℕ) (long : length grains ≡ 160) wh
           → cond (tooLarge n (float (getD numbers 0 0)) (float (getD numbers 1 0))) (answerOf TooLarge) (served (boxRead numbers) rate grains n)
           ≡ cond (tooLarge n (float (getD numbers 0 0)) (float (getD numbers 1 0))) (answerOf TooLarge) (afterStart rate (start (boxRead numbers) room (map grainFrom (grainsFrom grains 0 n))))
       by true e = rw e
-      by false e = let k = split (ltb 32 n) (longLength (float (getD numbers 0 0))) (longLength (float (getD numbers 1 0))) e in rw e (small-is (k .0) (k .1) (k .2))
+      by false e = let k = split (ltb mostKept n) (longLength (float (getD numbers 0 0))) (longLength (float (getD numbers 1 0))) e in rw e (small-is (k .0) (k .1) (k .2))
 
 -- ---- the whole answer
-pub fine-is : (r w : Reader) (x : Bool) → w ≡ closedOf r → x ≡ fineOf w → x ≡ true → length (w .grains) ≡ 160 → judged (w .text .numbers) (w .grains) (w .text .n) ≡ answered r
+pub fine-is : (r w : Reader) (x : Bool) → w ≡ closedOf r → x ≡ fineOf w → x ≡ true → length (w .grains) ≡ keptNumbers → judged (w .text .numbers) (w .grains) (w .text .n) ≡ answered r
 unfolding answered
 fine-is r w x e f h k =
     judged-is (w .text .numbers) (w .grains) (w .text .n) k

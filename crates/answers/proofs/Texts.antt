@@ -13,6 +13,7 @@ use Rattle.text.specs.Numerals.{Word}
 use Rattle.text.specs.Lines.{bitOf}
 use Rattle.listing_text.specs.declared.reader.Reader.{Reader}
 use Rattle.listing_text.specs.Grammar.{Grain, Input, Text, Words}
+use Rattle.listing_text.specs.Columns.{mostKept}
 use Rattle.listing_text.specs.Held.{readerOf}
 use Rattle.listing_text.specs.Rows.{grainRows, grainsFrom}
 use Rattle.listing_text.specs.Reading.{startOf, feedAll, closedOf, fineOf}
@@ -30,26 +31,26 @@ flag-back : (b : Bool) → isSet (bitOf b) ≡ b
 flag-back true = refl
 flag-back false = refl
 
--- the input that was read, but for grains past the 32nd
+-- the input that was read, but for grains past those that are kept
 abbrev again : Input → Input
-again i = record { l0 = i .l0; l1 = i .l1; p0 = i .p0; p1 = i .p1; rate = i .rate; grains = grainsFrom (grainRows 32 (i .grains)) 0 (length (i .grains)) }
+again i = record { l0 = i .l0; l1 = i .l1; p0 = i .p0; p1 = i .p1; rate = i .rate; grains = grainsFrom (grainRows mostKept (i .grains)) 0 (length (i .grains)) }
 
 read-again : (i : Input) → inputOf (readerOf i) ≡ again i
-read-again i = λ t. record { l0 = i .l0; l1 = i .l1; p0 = flag-back (i .p0) t; p1 = flag-back (i .p1) t; rate = i .rate; grains = grainsFrom (grainRows 32 (i .grains)) 0 (length (i .grains)) }
+read-again i = λ t. record { l0 = i .l0; l1 = i .l1; p0 = flag-back (i .p0) t; p1 = flag-back (i .p1) t; rate = i .rate; grains = grainsFrom (grainRows mostKept (i .grains)) 0 (length (i .grains)) }
 
 -- with more of them both are too large
-large : (i : Input) → 32 < length (i .grains) → answerTo i ≡ answerOf TooLarge
+large : (i : Input) → mostKept < length (i .grains) → answerTo i ≡ answerOf TooLarge
 unfolding answerTo
-large i h = ap (λ (x : Bool). cond (x || (longLength (float (i .l0)) || longLength (float (i .l1)))) (answerOf TooLarge) (afterStart (float (i .rate)) (start (boxFrom i) room (map grainFrom (i .grains))))) (lt-ltb 32 (length (i .grains)) h)
+large i h = ap (λ (x : Bool). cond (x || (longLength (float (i .l0)) || longLength (float (i .l1)))) (answerOf TooLarge) (afterStart (float (i .rate)) (start (boxFrom i) room (map grainFrom (i .grains))))) (lt-ltb mostKept (length (i .grains)) h)
 
 answer-again : (i : Input) → answerTo (again i) ≡ answerTo i
-answer-again i = by (ltb 32 (length (i .grains))) refl
+answer-again i = by (ltb mostKept (length (i .grains))) refl
   where
-    by : (x : Bool) → ltb 32 (length (i .grains)) ≡ x → answerTo (again i) ≡ answerTo i
+    by : (x : Bool) → ltb mostKept (length (i .grains)) ≡ x → answerTo (again i) ≡ answerTo i
     by true e =
-        let h = ltb-true 32 (length (i .grains)) e in
-        large (again i) (subst (λ (n : ℕ). 32 < n) (sym (counted (length (i .grains)) 0 (grainRows 32 (i .grains)))) h) ∙ sym (large i h)
-    by false e = ap (λ (gs : List Grain). answerTo (record { l0 = i .l0; l1 = i .l1; p0 = i .p0; p1 = i .p1; rate = i .rate; grains = gs })) (rows-back 32 (i .grains) (ltb-false 32 (length (i .grains)) e))
+        let h = ltb-true mostKept (length (i .grains)) e in
+        large (again i) (subst (λ (n : ℕ). mostKept < n) (sym (counted (length (i .grains)) 0 (grainRows mostKept (i .grains)))) h) ∙ sym (large i h)
+    by false e = ap (λ (gs : List Grain). answerTo (record { l0 = i .l0; l1 = i .l1; p0 = i .p0; p1 = i .p1; rate = i .rate; grains = gs })) (rows-back mostKept (i .grains) (ltb-false mostKept (length (i .grains)) e))
 
 -- ---- a text of the form, with fewer than 2 ^ 64 grains
 pub answer-text : (s : List ℕ) (i : Input) → Words i → Word (length (i .grains)) → Text s i → answer s ≡ answerTo i

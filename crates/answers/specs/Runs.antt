@@ -14,12 +14,16 @@ use Rattle.model.specs.declared.Report.{Report}
 use Rattle.model.specs.declared.Report.the-variants.{Synchronised, Spent, Refused}
 use Rattle.model.specs.Grid.{boxOf}
 use Rattle.model.specs.Run.{How, synchronised, spent, refused}
+use Rattle.tables.specs.declared.Sizes.{Sizes}
+use Rattle.tables.specs.Lengths.{listsNeed, grainsNeed, queueNeed, eventsNeed, orderNeed}
 use Rattle.tables.specs.Decode.{Tables, tables, isSet, grainsOf, grainsPart}
 use Rattle.simulator.specs.Start.{StartedWith, startAll}
 use Rattle.running.specs.Ran.{RanTables, toldTables}
 use Rattle.simulator.specs.Run.{runTables}
 use Rattle.listing_text.specs.declared.writer.Answer.the-variants as answer
-use Rattle.listing_text.specs.Rows.{fiveOf, rowsListing}
+use Rattle.listing_text.specs.Columns.{columns, mostKept, kept}
+use Rattle.listing_text.specs.Grammar.{columnsOf}
+use Rattle.listing_text.specs.Rows.{rowsListing}
 use Rattle.listing_text.specs.Answers.{answerOf}
 use Rattle.listing_text.specs.Size.{tooLarge}
 use Rattle.answers.specs.Answer.{float, shownGrain, room, budget}
@@ -47,9 +51,21 @@ goOn rate r = ranAgain (r .how) rate r
 unfoldable pub simulated : Domain → ℕ → Float → List Float → Tables → RanTables
 simulated b n rate inputs t = goOn rate (goOn rate (startedReport (startAll b n room inputs t)))
 
--- tables for nine cells, 32 grains and 64 events a cell
+-- the tables that the code lends: for the grains that are kept, nine cells, and a cell's events
+abbrev pub lentCells : ℕ
+lentCells = 9
+
+abbrev pub lentSizes : Sizes
+lentSizes = record { grains = mostKept; cells = lentCells; room = room }
+
 unfoldable pub blank : Tables
-blank = tables (replicate 591 0) (replicate 195 fzero) (replicate 2313 0) (replicate 5760 fzero) (replicate 512 0)
+blank =
+    tables
+    (replicate (listsNeed lentSizes) 0)
+    (replicate (grainsNeed lentSizes) fzero)
+    (replicate (queueNeed lentSizes) 0)
+    (replicate (eventsNeed lentSizes) fzero)
+    (replicate orderNeed 0)
 
 -- ---- what is written
 abbrev pub spelt : Report → ℕ → List ℕ → List ℕ
@@ -70,7 +86,7 @@ boxRead l = boxOf (vec (float (getD l 0 0)) (float (getD l 1 0))) (isSet (getD l
 
 -- the grains' numbers in the tables afterwards, as bits, and zeros beyond
 abbrev pub rows : ℕ → Tables → List ℕ
-rows n t = flat fiveOf (map shownGrain (grainsOf n (grainsPart (t .grains)))) ++ drop (n * 5) (replicate 160 0)
+rows n t = flat columnsOf (map shownGrain (grainsOf n (grainsPart (t .grains)))) ++ drop (n * columns) (replicate kept 0)
 
 abbrev pub spelling : RanTables → ℕ → List ℕ
 spelling r n = spelt (reportOf r) n (rows n (r .after))

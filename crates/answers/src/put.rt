@@ -2,11 +2,13 @@
 ghost use mathlib.Core.Path.{_≡_};
 ghost use Prim.Native.Nat.{_≤_};
 ghost use Rattle.text.specs.Put.{Put};
+ghost use Rattle.listing_text.specs.Columns.{mostKept};
 ghost use Rattle.answers.specs.Read.{OfAnswer, answered};
 ghost use Rattle.answers.specs.Runs.{boxRead, spelt, served, judged};
 use crate::rows;
 use crate::runs;
 use listing_text::Answer;
+use listing_text::KEPT;
 use listing_text::Reader;
 use listing_text::put_answer;
 use listing_text::put_listing;
@@ -14,11 +16,12 @@ use listing_text::too_large;
 use model::Domain;
 use model::Report;
 use myvec::MyVec;
+use text::NUMBERS;
 use text::bits_of_float;
 use text::float_of_bits;
 
 // The box that was read.
-fn box_of(numbers: &[u64; 10]) -> Domain
+fn box_of(numbers: &[u64; NUMBERS]) -> Domain
     ensures { λ r. ⌜ r ≡ boxRead (now (numbers .entry)) ⌝ }
 {
     let lengths = MyVec::new(float_of_bits(numbers[0]), float_of_bits(numbers[1]));
@@ -26,7 +29,7 @@ fn box_of(numbers: &[u64; 10]) -> Domain
 }
 
 // The listing of n grains, or the line that says why there is none.
-fn put_report(out: &mut [u8; 4096], report: Report, bits: &[u64; 160], n: usize) -> usize
+fn put_report(out: &mut [u8; 4096], report: Report, bits: &[u64; KEPT], n: usize) -> usize
     ensures { λ r. ⌜ Put 0 (spelt report n (now (bits .entry))) (now (out .entry)) (now (out .exit)) r ⌝ }
 {
     match report {
@@ -53,21 +56,21 @@ fn put_served(
     out: &mut [u8; 4096],
     domain: Domain,
     rate: f64,
-    grains: &[u64; 160],
+    grains: &[u64; KEPT],
     n: usize,
 ) -> usize
-    requires { ⌜ n ≤ 32 ⌝ }
+    requires { ⌜ n ≤ mostKept ⌝ }
     ensures { λ r. ⌜ Put 0 (served domain rate (now (grains .entry)) n) (now (out .entry)) (now (out .exit)) r ⌝ }
 {
-    let mut inputs = [0f64; 160];
+    let mut inputs = [0f64; KEPT];
     rows::floats(grains, &mut inputs);
-    let mut bits = [0u64; 160];
+    let mut bits = [0u64; KEPT];
     let report = runs::serve(domain, n, rate, &inputs, &mut bits);
     put_report(out, report, &bits, n)
 }
 
 // The answer to a text of the form, of the numbers that were read.
-fn put_judged(out: &mut [u8; 4096], numbers: &[u64; 10], grains: &[u64; 160], n: u64) -> usize
+fn put_judged(out: &mut [u8; 4096], numbers: &[u64; NUMBERS], grains: &[u64; KEPT], n: u64) -> usize
     ensures { λ r. ⌜ Put 0 (judged (now (numbers .entry)) (now (grains .entry)) n) (now (out .entry)) (now (out .exit)) r ⌝ }
 {
     let domain = box_of(numbers);

@@ -4,9 +4,15 @@ ghost use mathlib.Core.List.{_++_, map};
 ghost use Prim.Native.Nat.{_+_, _*_, _≤_};
 ghost use lib.ListN.{length, drop};
 ghost use Rattle.chunks.specs.Flat.{flat};
+ghost use Rattle.layout.specs.Widths.{grainsHeadWide, grainWide};
 ghost use Rattle.tables.specs.Decode.{grainAt, grainsOf, grainsPart};
-ghost use Rattle.listing_text.specs.Rows.{fiveOf};
+ghost use Rattle.listing_text.specs.Columns.{columns};
+ghost use Rattle.listing_text.specs.Grammar.{columnsOf};
 ghost use Rattle.answers.specs.Answer.{float, shownGrain};
+use layout::GRAIN;
+use layout::GRAINS_HEAD;
+use listing_text::COLUMNS;
+use tables::grains::read_grain;
 use text::bits_of_float;
 use text::float_of_bits;
 
@@ -22,34 +28,35 @@ pub(crate) fn floats(bits: &[u64], out: &mut [f64])
     }
 }
 
-// The five numbers of a table's first grain, as bits: its time is left out.
+// The numbers of a table's first grain, as bits: its time is left out.
 fn show_one(grains: &[f64], bits: &mut [u64])
-    requires { ⌜ (6 ≤ length (now grains)) × (5 ≤ length (now bits)) ⌝ }
-    ensures { λ _. ⌜ now (bits .exit) ≡ fiveOf (shownGrain (grainAt (now (grains .entry)))) ++ drop 5 (now (bits .entry)) ⌝ }
+    requires { ⌜ (grainWide ≤ length (now grains)) × (columns ≤ length (now bits)) ⌝ }
+    ensures { λ _. ⌜ now (bits .exit) ≡ columnsOf (shownGrain (grainAt (now (grains .entry)))) ++ drop columns (now (bits .entry)) ⌝ }
 {
-    bits[0] = bits_of_float(grains[0]);
-    bits[1] = bits_of_float(grains[1]);
-    bits[2] = bits_of_float(grains[2]);
-    bits[3] = bits_of_float(grains[3]);
-    bits[4] = bits_of_float(grains[5]);
+    let p = read_grain(&grains[0..GRAIN]);
+    bits[0] = bits_of_float(p.pos.x);
+    bits[1] = bits_of_float(p.pos.y);
+    bits[2] = bits_of_float(p.vel.x);
+    bits[3] = bits_of_float(p.vel.y);
+    bits[4] = bits_of_float(p.val);
 }
 
 // Those of the first n grains.
 fn show_rows(grains: &[f64], n: usize, bits: &mut [u64])
-    requires { ⌜ (n * 6 ≤ length (now grains)) × (n * 5 ≤ length (now bits)) ⌝ }
-    ensures { λ _. ⌜ now (bits .exit) ≡ flat fiveOf (map shownGrain (grainsOf n (now (grains .entry)))) ++ drop (n * 5) (now (bits .entry)) ⌝ }
+    requires { ⌜ (n * grainWide ≤ length (now grains)) × (n * columns ≤ length (now bits)) ⌝ }
+    ensures { λ _. ⌜ now (bits .exit) ≡ flat columnsOf (map shownGrain (grainsOf n (now (grains .entry)))) ++ drop (n * columns) (now (bits .entry)) ⌝ }
 {
     if n == 0 {
         return;
     }
-    show_rows(&grains[6..], n - 1, &mut bits[5..]);
+    show_rows(&grains[GRAIN..], n - 1, &mut bits[COLUMNS..]);
     show_one(grains, bits);
 }
 
 // The same of a table with its header.
 pub(crate) fn show(grains: &[f64], n: usize, bits: &mut [u64])
-    requires { ⌜ (3 + n * 6 ≤ length (now grains)) × (n * 5 ≤ length (now bits)) ⌝ }
-    ensures { λ _. ⌜ now (bits .exit) ≡ flat fiveOf (map shownGrain (grainsOf n (grainsPart (now (grains .entry))))) ++ drop (n * 5) (now (bits .entry)) ⌝ }
+    requires { ⌜ (grainsHeadWide + n * grainWide ≤ length (now grains)) × (n * columns ≤ length (now bits)) ⌝ }
+    ensures { λ _. ⌜ now (bits .exit) ≡ flat columnsOf (map shownGrain (grainsOf n (grainsPart (now (grains .entry))))) ++ drop (n * columns) (now (bits .entry)) ⌝ }
 {
-    show_rows(&grains[3..], n, bits);
+    show_rows(&grains[GRAINS_HEAD..], n, bits);
 }

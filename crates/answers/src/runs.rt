@@ -7,17 +7,32 @@ ghost use Rattle.order.specs.Numbers.{fzero};
 ghost use Rattle.chunks.specs.Flat.{flat};
 ghost use Rattle.tables.specs.Decode.{tables, grainsOf, grainsPart};
 ghost use Rattle.running.specs.Ran.{toldTables};
-ghost use Rattle.listing_text.specs.Rows.{fiveOf};
+ghost use Rattle.listing_text.specs.Columns.{columns, mostKept};
+ghost use Rattle.listing_text.specs.Grammar.{columnsOf};
 ghost use Rattle.answers.specs.Answer.{shownGrain};
 ghost use Rattle.answers.specs.Runs.{byAnswer, goOn, simulated, reportOf, blank};
 use crate::rows;
+use listing_text::KEPT;
+use listing_text::MOST;
 use model::Domain;
 use model::Report;
 use model::Started;
 
-// The events that a cell holds, and those that a run may do.
-const ROOM: u64 = 64;
+// The cells that are served, and the events that a cell holds.
+const CELLS: usize = 9;
 
+const ROOM: usize = 64;
+
+// How long the tables of those cells are, for as many grains as are kept.
+const LISTS: usize = layout::LISTS_HEAD + MOST * layout::HOME + CELLS * layout::MEMBERS;
+
+const GRAINS: usize = layout::GRAINS_HEAD + MOST * layout::GRAIN;
+
+const QUEUE: usize = CELLS * (ROOM * layout::PLACE_NUMS + layout::PLACES);
+
+const EVENTS: usize = CELLS * (ROOM * layout::PLACE_REALS);
+
+// The events that a run may do.
 const BUDGET: u32 = 65536;
 
 // A start's answer, as a run's report. One that is accepted stands where a run can begin, at the clock 0.
@@ -100,7 +115,7 @@ fn simulate(
     let started = begun(simulator::start::start(
         domain,
         count,
-        ROOM,
+        ROOM as u64,
         inputs,
         lists,
         grains,
@@ -112,23 +127,23 @@ fn simulate(
     go_on(first, lists, grains, queue, events, order, rate)
 }
 
-// The same on tables of nine cells, 32 grains and room for 64 events, and the grains' numbers as bits.
+// The same on tables of those lengths, and the grains' numbers as bits.
 pub(crate) fn serve(
     domain: Domain,
     n: usize,
     rate: f64,
-    inputs: &[f64; 160],
-    bits: &mut [u64; 160],
+    inputs: &[f64; KEPT],
+    bits: &mut [u64; KEPT],
 ) -> Report
-    requires { ⌜ n ≤ 32 ⌝ }
+    requires { ⌜ n ≤ mostKept ⌝ }
     ensures { λ r. ⌜ r ≡ reportOf (simulated domain n rate (now (inputs .entry)) blank) ⌝ }
-    ensures { λ r. ⌜ now (bits .exit) ≡ flat fiveOf (map shownGrain (grainsOf n (grainsPart ((simulated domain n rate (now (inputs .entry)) blank) .after .grains)))) ++ drop (n * 5) (now (bits .entry)) ⌝ }
+    ensures { λ r. ⌜ now (bits .exit) ≡ flat columnsOf (map shownGrain (grainsOf n (grainsPart ((simulated domain n rate (now (inputs .entry)) blank) .after .grains)))) ++ drop (n * columns) (now (bits .entry)) ⌝ }
 {
-    let mut lists = [0u64; 591];
-    let mut grains = [0f64; 195];
-    let mut queue = [0u64; 2313];
-    let mut events = [0f64; 5760];
-    let mut order = [0u8; 512];
+    let mut lists = [0u64; LISTS];
+    let mut grains = [0f64; GRAINS];
+    let mut queue = [0u64; QUEUE];
+    let mut events = [0f64; EVENTS];
+    let mut order = [0u8; layout::ORDER];
     let report = simulate(
         domain,
         n as u64,

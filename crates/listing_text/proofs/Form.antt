@@ -1,15 +1,17 @@
 -- The form of the listing's plan, and the input that its values stand for: texts that the plan shows are those of the grammar (`text-is`). Assumes nothing.
 use mathlib.Core.Path.{_≡_, refl, sym, ap, _∙_}
 use mathlib.Core.List.{List, [], _∷_, _++_, map, append-assoc}
-use Prim.Native.Nat.{ℕ, suc}
+use Prim.Native.Nat.{ℕ, zero, suc}
 use lib.Dec.{lit<}
 use lib.ListN.{length, length-map}
 use Rattle.text.specs.Bytes.{bytes}
 use Rattle.text.specs.Numerals.{hex, decimal, Word}
 use Rattle.text.specs.Lines.{line, flagField}
 use Rattle.text.specs.Plan.{shown, Values, countRead, Form, spelledRows, spelledText}
-use Rattle.listing_text.specs.Grammar.{Grain, Input, GrainWords, AllWords, Words, boxLine, grainLine, grainLines, textOf}
-use Rattle.listing_text.specs.Reading.{headPieces, linePieces, plan, lineAt}
+use Rattle.listing_text.specs.Columns.{columns, boxNumbers}
+use Rattle.listing_text.specs.Grammar.{Grain, Input, EachWord, AllWords, Words, columnsOf, columnNames, boxLine, grainLine, grainLines, textOf}
+use Rattle.listing_text.specs.Rows.{firstGrain}
+use Rattle.listing_text.specs.Reading.{headPieces, numberPieces, linePieces, plan, lineAt}
 
 pub plan-shows : plan ≡ shown headPieces ++ (shown linePieces ++ (10 ∷ []))
 unfolding plan
@@ -33,9 +35,25 @@ form = record {
   short = plan-short;
 }
 
+-- ---- the numbers of a line's values, and the values of numbers
+abbrev pub numbersIn : (j k : ℕ) → Values (numberPieces j k) → List ℕ
+numbersIn j zero w = []
+numbersIn j (suc zero) w = w .0 ∷ []
+numbersIn j (suc (suc k)) w = w .0 ∷ numbersIn (suc j) (suc k) (w .2)
+
+words-in : (j k : ℕ) (w : Values (numberPieces j k)) → EachWord (numbersIn j k w)
+words-in j zero w = tt
+words-in j (suc zero) w = (w .1, tt)
+words-in j (suc (suc k)) w = (w .1, words-in (suc j) (suc k) (w .2))
+
+abbrev pub valuesOf : (j : ℕ) (l : List ℕ) → EachWord l → Values (numberPieces j (length l))
+valuesOf j [] u = tt
+valuesOf j (v ∷ []) u = (v, u .0, tt)
+valuesOf j (v ∷ x ∷ l) u = (v, u .0, valuesOf (suc j) (x ∷ l) (u .1))
+
 -- ---- the input of values, and the values of an input
 abbrev pub grainOf : Values linePieces → Grain
-grainOf w = record { x = w .0; y = w .2 .0; vx = w .2 .2 .0; vy = w .2 .2 .2 .0; val = w .2 .2 .2 .2 .0 }
+grainOf w = firstGrain (numbersIn boxNumbers columns w)
 
 abbrev pub inputOf : Values headPieces → List (Values linePieces) → Input
 inputOf w ws = record {
@@ -47,22 +65,16 @@ inputOf w ws = record {
   grains = map grainOf ws;
 }
 
-row-words : (w : Values linePieces) → GrainWords (grainOf w)
-row-words w = record { x-word = w .1; y-word = w .2 .1; vx-word = w .2 .2 .1; vy-word = w .2 .2 .2 .1; val-word = w .2 .2 .2 .2 .1 }
-
 rows-words : (ws : List (Values linePieces)) → AllWords (map grainOf ws)
 rows-words [] = tt
-rows-words (w ∷ ws) = (row-words w, rows-words ws)
+rows-words (w ∷ ws) = (words-in boxNumbers columns w, rows-words ws)
 
 pub words-of : (w : Values headPieces) (ws : List (Values linePieces)) → Words (inputOf w ws)
 words-of w ws = record { l0-word = w .1; l1-word = w .2 .1; rate-word = w .2 .2 .1 .1 .1; grain-words = rows-words ws }
 
-abbrev pub rowFor : (g : Grain) → GrainWords g → Values linePieces
-rowFor g u = (g .x, u .x-word, (g .y, u .y-word, (g .vx, u .vx-word, (g .vy, u .vy-word, (g .val, u .val-word, tt)))))
-
 abbrev pub rowsFor : (gs : List Grain) → AllWords gs → List (Values linePieces)
 rowsFor [] u = []
-rowsFor (g ∷ gs) u = rowFor g (u .0) ∷ rowsFor gs (u .1)
+rowsFor (g ∷ gs) u = valuesOf boxNumbers (columnsOf g) (u .0) ∷ rowsFor gs (u .1)
 
 abbrev pub valuesFor : (i : Input) → Words i → Word (length (i .grains)) → Values headPieces
 valuesFor i u k = (i .l0, u .l0-word, (i .l1, u .l1-word, (i .p0, (i .p1, (i .rate, u .rate-word, (length (i .grains), k, tt))))))
@@ -84,8 +96,8 @@ lines-are [] = refl
 lines-are (w ∷ ws) = ap (λ (l : List ℕ). grainLine (grainOf w) ++ l) (lines-are ws)
 
 -- a line of six fields between its headers, and what follows
-pub head-text : (a b c d e f s : List ℕ) → (a ++ (44 ∷ (b ++ (44 ∷ (c ++ (44 ∷ (d ++ (44 ∷ (e ++ (44 ∷ (f ++ (13 ∷ bytes "\nx,y,vx,vy,val\r\n")))))))))))) ++ s
-    ≡ line (a ∷ b ∷ c ∷ d ∷ e ∷ f ∷ []) ++ (bytes "x,y,vx,vy,val\r\n" ++ s)
+pub head-text : (a b c d e f s : List ℕ) → (a ++ (44 ∷ (b ++ (44 ∷ (c ++ (44 ∷ (d ++ (44 ∷ (e ++ (44 ∷ (f ++ (13 ∷ 10 ∷ columnNames)))))))))))) ++ s
+    ≡ line (a ∷ b ∷ c ∷ d ∷ e ∷ f ∷ []) ++ (columnNames ++ s)
 head-text a b c d e f s = simp append-assoc
 
 pub text-is : (w : Values headPieces) (ws : List (Values linePieces)) → countRead headPieces w 0 ≡ length ws → spelledText form w ws ≡ textOf (inputOf w ws)
@@ -93,5 +105,5 @@ text-is w ws e =
     let i = inputOf w ws in
     ap (λ (l : List ℕ). bytes "l0,l1,p0,p1,rate,n\r\n" ++ l)
     (head-text (hex (i .l0)) (hex (i .l1)) (flagField (i .p0)) (flagField (i .p1)) (hex (i .rate)) (decimal (countRead headPieces w 0)) (spelledRows form ws)
-    ∙ ap (λ (n : ℕ). line (hex (i .l0) ∷ hex (i .l1) ∷ flagField (i .p0) ∷ flagField (i .p1) ∷ hex (i .rate) ∷ decimal n ∷ []) ++ (bytes "x,y,vx,vy,val\r\n" ++ spelledRows form ws)) (e ∙ sym (length-map ws grainOf))
-    ∙ ap (λ (l : List ℕ). boxLine i ++ (bytes "x,y,vx,vy,val\r\n" ++ l)) (lines-are ws))
+    ∙ ap (λ (n : ℕ). line (hex (i .l0) ∷ hex (i .l1) ∷ flagField (i .p0) ∷ flagField (i .p1) ∷ hex (i .rate) ∷ decimal n ∷ []) ++ (columnNames ++ spelledRows form ws)) (e ∙ sym (length-map ws grainOf))
+    ∙ ap (λ (l : List ℕ). boxLine i ++ (columnNames ++ l)) (lines-are ws))

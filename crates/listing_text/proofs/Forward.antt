@@ -16,6 +16,7 @@ use Rattle.text.proofs.Turns.{feed-parts, closed-ended, closed-same}
 use Rattle.text.proofs.Forward as text-laws
 use Rattle.text.proofs.Kept.{keptAll, keptRows, text-kept}
 use Rattle.listing_text.specs.declared.reader.Reader.{Reader}
+use Rattle.listing_text.specs.Columns.{mostKept, kept}
 use Rattle.listing_text.specs.Grammar.{Grain, Input, Words, textOf, Text}
 use Rattle.listing_text.specs.Rows.{noGrain, grainRows}
 use Rattle.listing_text.specs.Reading.{headPieces, linePieces, plan, lineAt, planPlace, startOf, rowKept, feedOf, feedAll, closedOf, fineOf}
@@ -37,38 +38,38 @@ numbers-last [] i g = refl
 numbers-last (w ∷ ws) i g = numbers-last ws i (grainOf w)
 
 -- the rows after one more line
-row-kept : (i : Input) (done : List Grain) (g : Grain) → rowKept (length done) (numbersOf i g) (grainRows 32 done) ≡ grainRows 32 (done ++ (g ∷ []))
-row-kept i done g = go (ltb (length done) 32) refl
+row-kept : (i : Input) (done : List Grain) (g : Grain) → rowKept (length done) (numbersOf i g) (grainRows mostKept done) ≡ grainRows mostKept (done ++ (g ∷ []))
+row-kept i done g = go (ltb (length done) mostKept) refl
   where
-    go : (t : Bool) → ltb (length done) 32 ≡ t → rowKept (length done) (numbersOf i g) (grainRows 32 done) ≡ grainRows 32 (done ++ (g ∷ []))
-    go true e = rw e (rows-more 32 done g (ltb-true (length done) 32 e))
-    go false e = rw e (rows-full 32 done g (ltb-false (length done) 32 e))
+    go : (t : Bool) → ltb (length done) mostKept ≡ t → rowKept (length done) (numbersOf i g) (grainRows mostKept done) ≡ grainRows mostKept (done ++ (g ∷ []))
+    go true e = rw e (rows-more mostKept done g (ltb-true (length done) mostKept e))
+    go false e = rw e (rows-full mostKept done g (ltb-false (length done) mostKept e))
 
-rows-kept : (ws : List (Values linePieces)) (i : Input) (done : List Grain) (g : Grain) → keptRows form rowKept ws (length done) (numbersOf i g) (grainRows 32 done) ≡ grainRows 32 (done ++ map grainOf ws)
-rows-kept [] i done g = ap (grainRows 32) (sym (append-nil done))
+rows-kept : (ws : List (Values linePieces)) (i : Input) (done : List Grain) (g : Grain) → keptRows form rowKept ws (length done) (numbersOf i g) (grainRows mostKept done) ≡ grainRows mostKept (done ++ map grainOf ws)
+rows-kept [] i done g = ap (grainRows mostKept) (sym (append-nil done))
 rows-kept (w ∷ ws) i done g =
     let h = grainOf w in
     let one : suc (length done) ≡ length (done ++ (h ∷ [])) = sym (add-one (length done)) ∙ sym (length-append done (h ∷ [])) in
     (λ t. keptRows form rowKept ws (one t) (numbersOf i h) (row-kept i done h t))
     ∙ rows-kept ws i (done ++ (h ∷ [])) h
-    ∙ ap (grainRows 32) (append-assoc done (h ∷ []) (map grainOf ws))
+    ∙ ap (grainRows mostKept) (append-assoc done (h ∷ []) (map grainOf ws))
 
 -- ---- the whole text
 -- the reader after values and rows
 abbrev held : Values headPieces → List (Values linePieces) → Reader
-held w ws = record { text = heldOf form w ws; grains = grainRows 32 (map grainOf ws) }
+held w ws = record { text = heldOf form w ws; grains = grainRows mostKept (map grainOf ws) }
 
 held-is : (w : Values headPieces) (ws : List (Values linePieces)) → held w ws ≡ readerOf (inputOf w ws)
 held-is w ws =
     let n : length ws ≡ length (map grainOf ws) = sym (length-map ws grainOf) in
-    λ t. record { text = record { at = lineAt; n = n t; seen = n t; numbers = numbers-last ws (inputOf w ws) noGrain t }; grains = grainRows 32 (map grainOf ws) }
+    λ t. record { text = record { at = lineAt; n = n t; seen = n t; numbers = numbers-last ws (inputOf w ws) noGrain t }; grains = grainRows mostKept (map grainOf ws) }
 
 spelled-held : (w : Values headPieces) (ws : List (Values linePieces)) → countRead headPieces w 0 ≡ length ws → feedAll startOf (spelledText form w ws) ≡ held w ws
 spelled-held w ws e =
     feed-is (spelledText form w ws) startOf
     ∙ (λ t. record {
       text = text-laws.text-read form w ws e t;
-      grains = (text-kept form rowKept w ws (replicate 160 0) e ∙ rows-kept ws (inputOf w ws) [] noGrain) t;
+      grains = (text-kept form rowKept w ws (replicate kept 0) e ∙ rows-kept ws (inputOf w ws) [] noGrain) t;
     })
 
 pub spelled-read : (s : List ℕ) (w : Values headPieces) (ws : List (Values linePieces)) → Spells form s w ws → closedOf (feedAll startOf s) ≡ readerOf (inputOf w ws)

@@ -2,7 +2,7 @@
 -- so a text of 2 ^ 64 grains or more is not accepted (`uncounted-refused`). Assumes nothing.
 use mathlib.Core.Path.{_≡_, refl, sym, ap, _∙_, subst}
 use mathlib.Core.Logic.{_⊎_, inl, inr}
-use mathlib.Core.List.{List, [], _∷_, _++_, append-assoc, append-nil, append-cancel-right}
+use mathlib.Core.List.{List, [], _∷_, _++_, map, append-assoc, append-nil, append-cancel-right}
 use mathlib.Core.Bool.{Bool, true, false}
 use Prim.Native.Nat.{ℕ, _+_, _/_, _%_, _^_, _≤_, _<_}
 use native.Mathlib.Omega.{arith}
@@ -10,9 +10,10 @@ use lib.Dec.{lit<}
 use lib.ListN.{length, getD, take, drop}
 use Rattle.text.specs.Bytes.{bytes}
 use Rattle.text.specs.Numerals.{glyph, hex, decimal}
-use Rattle.text.specs.Lines.{line, flagField}
+use Rattle.text.specs.Lines.{line, fieldWide, flagField}
 use Rattle.text.proofs.Single.{hex-same, glyph-big, flag-split, decimal-split}
-use Rattle.listing_text.specs.Grammar.{Grain, Input, GrainWords, AllWords, Words, boxLine, grainLine, grainLines, textOf, Text}
+use Rattle.listing_text.specs.Grammar.{Grain, Input, EachWord, AllWords, Words, columnsOf, columnNames, boxLine, grainLine, grainLines, textOf, Text}
+use Rattle.listing_text.specs.Rows.{firstGrain}
 use Rattle.listing_text.specs.Reading.{startOf, feedAll, closedOf, fineOf}
 use Rattle.listing_text.proofs.Backward.{accepted-text}
 
@@ -26,19 +27,20 @@ no-line s h t l e =
     let q : getD s 0 0 ≡ glyph (h .x / 16 ^ 15 % 16) = ap (λ (l : List ℕ). getD l 0 0) e in
     absurd (omega arith)
 
-grain-same : (g h : Grain) → g .x ≡ h .x → g .y ≡ h .y → g .vx ≡ h .vx → g .vy ≡ h .vy → g .val ≡ h .val → g ≡ h
-grain-same g h a b c d e = λ k. record { x = a k; y = b k; vx = c k; vy = d k; val = e k }
+-- a line of numbers, and what follows
+numbers-same : (a b s t : List ℕ) → length a ≡ length b → EachWord a → EachWord b → line (map hex a) ++ s ≡ line (map hex b) ++ t → (a ≡ b) × (s ≡ t)
+numbers-same [] [] s t l u w e = (refl, ap (drop 2) e)
+numbers-same [] (y ∷ b) s t l u w e = absurd (omega arith)
+numbers-same (x ∷ a) [] s t l u w e = absurd (omega arith)
+numbers-same (x ∷ []) (y ∷ []) s t l u w e = (ap (λ (v : ℕ). v ∷ []) (hex-same x y (u .0) (w .0) (ap (take 16) e)), ap (drop (fieldWide + 1)) e)
+numbers-same (x ∷ []) (y ∷ z ∷ b) s t l u w e = absurd (omega arith)
+numbers-same (x ∷ z ∷ a) (y ∷ []) s t l u w e = absurd (omega arith)
+numbers-same (x ∷ v ∷ a) (y ∷ z ∷ b) s t l u w e =
+    let (p, q) = numbers-same (v ∷ a) (z ∷ b) s t (omega arith) (u .1) (w .1) (ap (drop fieldWide) e) in
+    ((λ k. hex-same x y (u .0) (w .0) (ap (take 16) e) k ∷ p k), q)
 
-line-same : (g h : Grain) (s t : List ℕ) → GrainWords g → GrainWords h → grainLine g ++ s ≡ grainLine h ++ t → (g ≡ h) × (s ≡ t)
-line-same g h s t u w e = (
-  grain-same g h
-      (hex-same (g .x) (h .x) (u .x-word) (w .x-word) (ap (take 16) e))
-      (hex-same (g .y) (h .y) (u .y-word) (w .y-word) (ap (λ (l : List ℕ). take 16 (drop 17 l)) e))
-      (hex-same (g .vx) (h .vx) (u .vx-word) (w .vx-word) (ap (λ (l : List ℕ). take 16 (drop 34 l)) e))
-      (hex-same (g .vy) (h .vy) (u .vy-word) (w .vy-word) (ap (λ (l : List ℕ). take 16 (drop 51 l)) e))
-      (hex-same (g .val) (h .val) (u .val-word) (w .val-word) (ap (λ (l : List ℕ). take 16 (drop 68 l)) e)),
-  ap (drop 86) e,
-)
+line-same : (g h : Grain) (s t : List ℕ) → EachWord (columnsOf g) → EachWord (columnsOf h) → grainLine g ++ s ≡ grainLine h ++ t → (g ≡ h) × (s ≡ t)
+line-same g h s t u w e = let (p, q) = numbers-same (columnsOf g) (columnsOf h) s t refl u w e in (ap firstGrain p, q)
 
 lines-same : (gs hs : List Grain) (s t : List ℕ) → AllWords gs → AllWords hs → Stop s → Stop t → grainLines gs ++ s ≡ grainLines hs ++ t → (gs ≡ hs) × (s ≡ t)
 lines-same [] [] s t u w a b e = (refl, e)
@@ -59,20 +61,20 @@ fields i s = hex (i .l0) ++ (44 ∷ (hex (i .l1) ++ (44 ∷ (flagField (i .p0) +
 six-fields : (a b c d e f s : List ℕ) → line (a ∷ b ∷ c ∷ d ∷ e ∷ f ∷ []) ++ s ≡ a ++ (44 ∷ (b ++ (44 ∷ (c ++ (44 ∷ (d ++ (44 ∷ (e ++ (44 ∷ (f ++ (13 ∷ 10 ∷ s)))))))))))
 six-fields a b c d e f s = simp append-assoc
 
-text-fields : (i : Input) (s : List ℕ) → textOf i ++ s ≡ bytes "l0,l1,p0,p1,rate,n\r\n" ++ fields i (bytes "x,y,vx,vy,val\r\n" ++ (grainLines (i .grains) ++ s))
+text-fields : (i : Input) (s : List ℕ) → textOf i ++ s ≡ bytes "l0,l1,p0,p1,rate,n\r\n" ++ fields i (columnNames ++ (grainLines (i .grains) ++ s))
 text-fields i s =
     ap (λ (l : List ℕ). bytes "l0,l1,p0,p1,rate,n\r\n" ++ l)
-    (append-assoc (boxLine i) (bytes "x,y,vx,vy,val\r\n" ++ grainLines (i .grains)) s
-    ∙ six-fields (hex (i .l0)) (hex (i .l1)) (flagField (i .p0)) (flagField (i .p1)) (hex (i .rate)) (decimal (length (i .grains))) (bytes "x,y,vx,vy,val\r\n" ++ (grainLines (i .grains) ++ s)))
+    (append-assoc (boxLine i) (columnNames ++ grainLines (i .grains)) s
+    ∙ six-fields (hex (i .l0)) (hex (i .l1)) (flagField (i .p0)) (flagField (i .p1)) (hex (i .rate)) (decimal (length (i .grains))) (columnNames ++ (grainLines (i .grains) ++ s)))
 
-fields-same : (i j : Input) (s t : List ℕ) → Words i → Words j → Stop s → Stop t → fields i (bytes "x,y,vx,vy,val\r\n" ++ (grainLines (i .grains) ++ s)) ≡ fields j (bytes "x,y,vx,vy,val\r\n" ++ (grainLines (j .grains) ++ t)) → (i ≡ j) × (s ≡ t)
+fields-same : (i j : Input) (s t : List ℕ) → Words i → Words j → Stop s → Stop t → fields i (columnNames ++ (grainLines (i .grains) ++ s)) ≡ fields j (columnNames ++ (grainLines (j .grains) ++ t)) → (i ≡ j) × (s ≡ t)
 fields-same i j s t u w a b e =
-    let (p, q) = flag-split (i .p0) (j .p0) _ _ (ap (drop 34) e) in
+    let (p, q) = flag-split (i .p0) (j .p0) _ _ (ap (drop (fieldWide + fieldWide)) e) in
     let (p1, q1) = flag-split (i .p1) (j .p1) _ _ q in
-    let (g, r) = lines-same (i .grains) (j .grains) s t (u .grain-words) (w .grain-words) a b (ap (drop 16) (decimal-split (length (i .grains)) (length (j .grains)) _ _ (ap (drop 17) q1))) in (
+    let (g, r) = lines-same (i .grains) (j .grains) s t (u .grain-words) (w .grain-words) a b (ap (drop (1 + length columnNames)) (decimal-split (length (i .grains)) (length (j .grains)) _ _ (ap (drop fieldWide) q1))) in (
       input-same i j
           (hex-same (i .l0) (j .l0) (u .l0-word) (w .l0-word) (ap (take 16) e))
-          (hex-same (i .l1) (j .l1) (u .l1-word) (w .l1-word) (ap (λ (l : List ℕ). take 16 (drop 17 l)) e))
+          (hex-same (i .l1) (j .l1) (u .l1-word) (w .l1-word) (ap (λ (l : List ℕ). take 16 (drop fieldWide l)) e))
           p p1
           (hex-same (i .rate) (j .rate) (u .rate-word) (w .rate-word) (ap (take 16) q1))
           g,

@@ -1,7 +1,7 @@
 -- The text that the listing program reads. A float is known here by its bits. Assumes nothing.
 use mathlib.Core.Path.{_≡_}
 use mathlib.Core.Logic.{_⊎_}
-use mathlib.Core.List.{List, [], _∷_, _++_}
+use mathlib.Core.List.{List, [], _∷_, _++_, map}
 use mathlib.Core.Bool.{Bool}
 use Prim.Native.Nat.{ℕ}
 use lib.ListN.{length}
@@ -16,6 +16,13 @@ pub record Grain : Type 0 where
   pub vy : ℕ
   pub val : ℕ
 
+-- its numbers, in the order of the columns, and their names
+abbrev pub columnsOf : Grain → List ℕ
+columnsOf g = g .x ∷ g .y ∷ g .vx ∷ g .vy ∷ g .val ∷ []
+
+abbrev pub columnNames : List ℕ
+columnNames = bytes "x,y,vx,vy,val\r\n"
+
 pub record Input : Type 0 where
   pub l0 : ℕ
   pub l1 : ℕ
@@ -28,7 +35,7 @@ abbrev pub boxLine : Input → List ℕ
 boxLine i = line (hex (i .l0) ∷ hex (i .l1) ∷ flagField (i .p0) ∷ flagField (i .p1) ∷ hex (i .rate) ∷ decimal (length (i .grains)) ∷ [])
 
 abbrev pub grainLine : Grain → List ℕ
-grainLine g = line (hex (g .x) ∷ hex (g .y) ∷ hex (g .vx) ∷ hex (g .vy) ∷ hex (g .val) ∷ [])
+grainLine g = line (map hex (columnsOf g))
 
 abbrev pub grainLines : List Grain → List ℕ
 grainLines [] = []
@@ -36,23 +43,20 @@ grainLines (g ∷ gs) = grainLine g ++ grainLines gs
 
 -- the text of an input, its last line ended
 abbrev pub textOf : Input → List ℕ
-textOf i = bytes "l0,l1,p0,p1,rate,n\r\n" ++ (boxLine i ++ (bytes "x,y,vx,vy,val\r\n" ++ grainLines (i .grains)))
+textOf i = bytes "l0,l1,p0,p1,rate,n\r\n" ++ (boxLine i ++ (columnNames ++ grainLines (i .grains)))
 
 -- s is a text of the input: the CR LF of the last line may be missing
 abbrev pub Text : List ℕ → Input → Type 0
 Text s i = (s ≡ textOf i) ⊎ (s ++ bytes "\r\n" ≡ textOf i)
 
 -- all numbers are of 64 bits
-pub record GrainWords (g : Grain) : Type 0 where
-  pub x-word : Word (g .x)
-  pub y-word : Word (g .y)
-  pub vx-word : Word (g .vx)
-  pub vy-word : Word (g .vy)
-  pub val-word : Word (g .val)
+abbrev pub EachWord : List ℕ → Type 0
+EachWord [] = Unit {0}
+EachWord (v ∷ l) = Word v × EachWord l
 
 abbrev pub AllWords : List Grain → Type 0
 AllWords [] = Unit {0}
-AllWords (g ∷ gs) = GrainWords g × AllWords gs
+AllWords (g ∷ gs) = EachWord (columnsOf g) × AllWords gs
 
 pub record Words (i : Input) : Type 0 where
   pub l0-word : Word (i .l0)

@@ -1,8 +1,9 @@
--- What the listing program does not serve: more than 32 grains, or a box length from 12 to 48. Assumes nothing.
+-- What the listing program does not serve: more grains than are kept, or a box length from 12 to 48. Assumes nothing.
 use mathlib.Core.Bool.{Bool, _&&_, _||_}
 use Prim.Native.Nat.{ℕ}
 use lib.Dec.{ltb}
 use lib.Ieee.{Float, binary64, ofBits, le}
+use Rattle.listing_text.specs.Columns.{mostKept}
 
 abbrev pub twelve : Float
 twelve = ofBits binary64 0x4028_0000_0000_0000
@@ -15,4 +16,4 @@ abbrev pub longLength : Float → Bool
 longLength l = le twelve l && le l fortyEight
 
 abbrev pub tooLarge : ℕ → Float → Float → Bool
-tooLarge n l0 l1 = ltb 32 n || (longLength l0 || longLength l1)
+tooLarge n l0 l1 = ltb mostKept n || (longLength l0 || longLength l1)

@@ -1,8 +1,12 @@
 // The text of the listing program: what it reads, byte by byte, and the lines that it writes.
+mod columns;
 mod reader;
 mod size;
 mod writer;
 
+pub use columns::COLUMNS;
+pub use columns::KEPT;
+pub use columns::MOST;
 pub use reader::Reader;
 pub use reader::feed_all;
 pub use reader::start;

@@ -1,15 +1,20 @@
-// The listing's text, read byte by byte, and the rows of its first 32 grains.
+// The listing's text, read byte by byte, and the rows of its first grains.
 ghost use mathlib.Core.Path.{_≡_};
-ghost use Prim.Native.Nat.{_≤_};
+ghost use Prim.Native.Nat.{_+_, _≤_};
+ghost use Rattle.listing_text.specs.Columns.{columns, kept};
 ghost use Rattle.listing_text.specs.Reading.{startOf, keptOf, tookOf, feedOf, feedAll, closedOf, fineOf};
+use crate::columns::BOX;
+use crate::columns::COLUMNS;
+use crate::columns::KEPT;
+use crate::columns::MOST;
 
 // The plan's place where a grain's line begins.
 const LINE: usize = 93;
 
-// What was read by the plan, and five numbers for each of the first 32 grains.
+// What was read by the plan, and the numbers of the first grains.
 pub struct Reader {
     pub text: text::Reader,
-    pub grains: [u64; 160],
+    pub grains: [u64; KEPT],
 }
 
 // Nothing was read.
@@ -17,31 +22,29 @@ pub fn start() -> Reader
     ensures { λ r. ⌜ r ≡ startOf ⌝ }
 {
     let text = text::start();
-    let grains = [0u64; 160];
+    let grains = [0u64; KEPT];
     Reader { text, grains }
 }
 
 impl Reader {
-    // The line's five numbers are kept from i on.
+    // The line's numbers are kept from i on.
     fn keep(mut self, i: usize) -> Reader
-        requires { ⌜ i ≤ 155 ⌝ }
+        requires { ⌜ i + columns ≤ kept ⌝ }
         ensures { λ r. ⌜ r ≡ keptOf self i ⌝ }
     {
         let read = self.text;
-        let x = read.numbers[5];
-        let y = read.numbers[6];
-        let vx = read.numbers[7];
-        let vy = read.numbers[8];
-        let val = read.numbers[9];
-        self.grains[i] = x;
-        self.grains[i + 1] = y;
-        self.grains[i + 2] = vx;
-        self.grains[i + 3] = vy;
-        self.grains[i + 4] = val;
+        let numbers = read.numbers;
+        let mut grains = self.grains;
+        let mut k = 0;
+        while k < COLUMNS {
+            grains[i + k] = numbers[BOX + k];
+            k += 1;
+        }
+        self.grains = grains;
         self
     }
 
-    // The text was read on; at the end of a grain's line its numbers are kept, those of the first 32.
+    // The text was read on; at the end of a grain's line its numbers are kept, those of the first grains.
     fn took(mut self, text: text::Reader) -> Reader
         ensures { λ r. ⌜ r ≡ tookOf self text ⌝ }
     {
@@ -50,10 +53,10 @@ impl Reader {
         if text.seen <= seen {
             return self;
         }
-        if 32 <= seen {
+        if MOST as u64 <= seen {
             return self;
         }
-        self.keep(seen as usize * 5)
+        self.keep(seen as usize * COLUMNS)
     }
 
     // One byte more, by the plan of the text (`text::Reader`). The last line of the plan is a grain's.
@@ -61,7 +64,7 @@ impl Reader {
         ensures { λ r. ⌜ r ≡ feedOf self b ⌝ }
     {
         let plan =
-            b"l0,l1,p0,p1,rate,n\r\nAAAAAAAAAAAAAAAA,BBBBBBBBBBBBBBBB,M,N,EEEEEEEEEEEEEEEE,#+\nx,y,vx,vy,val\r\nFFFFFFFFFFFFFFFF,GGGGGGGGGGGGGGGG,HHHHHHHHHHHHHHHH,IIIIIIIIIIIIIIII,JJJJJJJJJJJJJJJJ\r\n";
+            b"l0,l1,p0,p1,rate,n\r\nAAAAAAAAAAAAAAAA,BBBBBBBBBBBBBBBB,P,Q,EEEEEEEEEEEEEEEE,#+\nx,y,vx,vy,val\r\nFFFFFFFFFFFFFFFF,GGGGGGGGGGGGGGGG,HHHHHHHHHHHHHHHH,IIIIIIIIIIIIIIII,JJJJJJJJJJJJJJJJ\r\n";
         let text = self.text;
         self.took(text.feed(plan, LINE, b))
     }

@@ -1,6 +1,7 @@
 // What the listing program does not serve.
 ghost use mathlib.Core.Path.{_≡_};
 ghost use Rattle.listing_text.specs.Size.{longLength, tooLarge};
+use crate::columns::MOST;
 
 // A length from 12 to 48. A NaN is none.
 fn long_length(l: f64) -> bool
@@ -12,11 +13,11 @@ fn long_length(l: f64) -> bool
     false
 }
 
-// More than 32 grains, or a length from 12 to 48, whatever the other one is.
+// More grains than are kept, or a length from 12 to 48, whatever the other one is.
 pub fn too_large(n: u64, l0: f64, l1: f64) -> bool
     ensures { λ r. ⌜ r ≡ tooLarge n l0 l1 ⌝ }
 {
-    if 32 < n {
+    if (MOST as u64) < n {
         return true;
     }
     if long_length(l0) {

@@ -1,14 +1,18 @@
 // The lines that the listing program writes, put into a buffer.
-ghost use mathlib.Core.List.{[], _∷_, _++_};
+ghost use mathlib.Core.List.{[], _∷_, map};
 ghost use Prim.Native.Nat.{_+_, _-_, _*_, _<_, _≤_};
-ghost use lib.ListN.{length, getD};
+ghost use lib.ListN.{length};
 ghost use Rattle.text.specs.Bytes.{bytes};
 ghost use Rattle.text.specs.Numerals.{hex, decimal};
-ghost use Rattle.text.specs.Lines.{line};
+ghost use Rattle.text.specs.Lines.{line, fieldWide};
 ghost use Rattle.text.specs.Put.{Put};
+ghost use Rattle.listing_text.specs.Columns.{columns, grainLineWide, listingLineWide};
 ghost use Rattle.listing_text.specs.Grammar.{grainLine};
 ghost use Rattle.listing_text.specs.Answers.{listingLine, listingLines, answerOf};
 ghost use Rattle.listing_text.specs.Rows.{rowGrain, grainsFrom, rowsListing};
+use crate::columns::COLUMNS;
+use crate::columns::KEPT;
+use crate::columns::MOST;
 use text::put_bytes;
 use text::put_decimal;
 use text::put_field;
@@ -21,31 +25,33 @@ pub enum Answer {
     Spent,
 }
 
-// Two numbers, those from j on, with a comma behind each.
-fn put_pair(out: &mut [u8], at: usize, numbers: &[u64], j: usize) -> usize
-    requires { ⌜ (at + 34 ≤ length (now out)) × (j + 2 ≤ length (now numbers)) ⌝ }
-    ensures { λ r. ⌜ Put at ((hex (getD (now (numbers .entry)) j 0) ++ (44 ∷ [])) ++ (hex (getD (now (numbers .entry)) (j + 1) 0) ++ (44 ∷ []))) (now (out .entry)) (now (out .exit)) r ⌝ }
+// A line of numbers.
+fn put_numbers(out: &mut [u8], at: usize, numbers: &[u64]) -> usize
+    requires { ⌜ (at + (length (now numbers) * fieldWide + 1) ≤ length (now out)) × (0 < length (now numbers)) ⌝ }
+    ensures { λ r. ⌜ Put at (line (map hex (now (numbers .entry)))) (now (out .entry)) (now (out .exit)) r ⌝ }
 {
-    let next = put_field(out, at, numbers[j], 44);
-    put_field(out, next, numbers[j + 1], 44)
+    if numbers.len() == 1 {
+        let end = put_field(out, at, numbers[0], 13);
+        out[end] = 10;
+        return end + 1;
+    }
+    let next = put_field(out, at, numbers[0], 44);
+    put_numbers(out, next, &numbers[1..])
 }
 
-// A grain's line of five numbers, those of row i.
+// A grain's line, of the numbers of row i.
 fn put_grain(out: &mut [u8], at: usize, numbers: &[u64], i: usize) -> usize
-    requires { ⌜ (at + 86 ≤ length (now out)) × (i * 5 + 5 ≤ length (now numbers)) ⌝ }
+    requires { ⌜ (at + grainLineWide ≤ length (now out)) × (i * columns + columns ≤ length (now numbers)) ⌝ }
     ensures { λ r. ⌜ Put at (grainLine (rowGrain (now (numbers .entry)) i)) (now (out .entry)) (now (out .exit)) r ⌝ }
 {
-    let j = i * 5;
-    let velocity = put_pair(out, at, numbers, j);
-    let value = put_pair(out, velocity, numbers, j + 2);
-    let end = put_field(out, value, numbers[j + 4], 13);
-    out[end] = 10;
-    end + 1
+    let from = i * COLUMNS;
+    let to = from + COLUMNS;
+    put_numbers(out, at, &numbers[from..to])
 }
 
 // The listing's line for row i.
 fn put_line(out: &mut [u8], at: usize, time: u64, numbers: &[u64], i: usize) -> usize
-    requires { ⌜ (at + 107 ≤ length (now out)) × (i * 5 + 5 ≤ length (now numbers)) × (i < 1000) ⌝ }
+    requires { ⌜ (at + listingLineWide ≤ length (now out)) × (i * columns + columns ≤ length (now numbers)) × (i < 1000) ⌝ }
     ensures { λ r. ⌜ Put at (listingLine time i (rowGrain (now (numbers .entry)) i)) (now (out .entry)) (now (out .exit)) r ⌝ }
 {
     let index = put_field(out, at, time, 44);
@@ -56,7 +62,7 @@ fn put_line(out: &mut [u8], at: usize, time: u64, numbers: &[u64], i: usize) -> 
 
 // The listing's lines from row i to row n - 1.
 fn put_lines(out: &mut [u8], at: usize, time: u64, numbers: &[u64], i: usize, n: usize) -> usize
-    requires { ⌜ (at + (n - i) * 107 ≤ length (now out)) × (n * 5 ≤ length (now numbers)) × (n ≤ 1000) ⌝ }
+    requires { ⌜ (at + (n - i) * listingLineWide ≤ length (now out)) × (n * columns ≤ length (now numbers)) × (n ≤ 1000) ⌝ }
     ensures { λ r. ⌜ Put at (listingLines time i (grainsFrom (now (numbers .entry)) i (n - i))) (now (out .entry)) (now (out .exit)) r ⌝ }
 {
     if n <= i {
@@ -66,11 +72,11 @@ fn put_lines(out: &mut [u8], at: usize, time: u64, numbers: &[u64], i: usize, n:
     put_lines(out, next, time, numbers, i + 1, n)
 }
 
-// The listing of the first n rows, with its header; nothing for more than 32 rows.
-pub fn put_listing(out: &mut [u8; 4096], time: u64, numbers: &[u64; 160], n: usize) -> usize
+// The listing of the first n rows, with its header; nothing for more rows than are kept.
+pub fn put_listing(out: &mut [u8; 4096], time: u64, numbers: &[u64; KEPT], n: usize) -> usize
     ensures { λ r. ⌜ Put 0 (rowsListing time n (now (numbers .entry))) (now (out .entry)) (now (out .exit)) r ⌝ }
 {
-    if 32 < n {
+    if MOST < n {
         return 0;
     }
     let header = b"time,index,x,y,vx,vy,val\r\n";

@@ -8,11 +8,11 @@ use layout::HEAP;
 use layout::ORDER;
 use scheduler::Scheduler;
 
-fn bytes(t: &[u8]) -> [u8; 256]
+fn bytes(t: &[u8]) -> [u8; HEAP]
     requires { ⌜ length (now t) ≡ heapWide ⌝ }
     ensures { λ r. ⌜ r ≡ now (t .entry) ⌝ }
 {
-    let mut a = [0u8; 256];
+    let mut a = [0u8; HEAP];
     let mut i = 0usize;
     while i < HEAP {
         a[i] = t[i];
@@ -21,7 +21,7 @@ fn bytes(t: &[u8]) -> [u8; 256]
     a
 }
 
-fn put_bytes(t: &mut [u8], a: [u8; 256])
+fn put_bytes(t: &mut [u8], a: [u8; HEAP])
     requires { ⌜ length (now t) ≡ heapWide ⌝ }
     ensures { λ _. ⌜ now (t .exit) ≡ a ⌝ }
 {

@@ -12,6 +12,7 @@ use lib.Ieee.Fits.{and-l, and-r}
 use lib.ListN.{length, drop, set, replicate, length-set}
 use lib.Seq.{drop-drop}
 use Rattle.text.specs.declared.reader.Reader.{Reader}
+use Rattle.text.specs.Letters.{numbersHeld, flagLetter}
 use Rattle.text.specs.Bytes.{bytes}
 use Rattle.text.specs.Numerals.{hex, decimal, Word}
 use Rattle.text.specs.Lines.{flagField, bitOf}
@@ -34,7 +35,7 @@ module _ (plan : List ℕ) (line : ℕ) (short : Word (length plan)) (within : l
   abbrev Parts : List Piece → Reader → ℕ → ℕ → List ℕ → List ℕ → Type 0
   Parts ps r end n g s = (w : Values ps) × (t : List ℕ) × (s ≡ spelled ps w ++ t) × Ends plan line (readerWith r end (countRead ps w n) (loaded ps w g)) t
 
-  pub pieces-end : (ps : List Piece) (r : Reader) (at n : ℕ) (g cs s : List ℕ) → T (fair ps) → length g ≡ 10
+  pub pieces-end : (ps : List Piece) (r : Reader) (at n : ℕ) (g cs s : List ℕ) → T (fair ps) → length g ≡ numbersHeld
       → drop at plan ≡ shown ps ++ cs → at + length (shown ps) < length plan → Where plan line r n ps (at + length (shown ps))
       → Ends plan line (readerWith r at n g) s → Parts ps r (at + length (shown ps)) n g s
   pieces-end [] r at n g cs s f N q h o e = (tt, s, refl, subst (λ (k : ℕ). Ends plan line (readerWith r k n g) s) (sym (add-zero at)) e)
@@ -51,15 +52,15 @@ module _ (plan : List ℕ) (line : ℕ) (short : Word (length plan)) (within : l
       let p : drop (at + 16) plan ≡ shown ps ++ cs = sym (drop-drop 16 at plan) ∙ ap (drop 16) q in
       let m : at + 16 + k ≡ at + length (shown (number j ∷ ps)) = omega arith in
       let (v, t, a, x, e1) = hex-ends plan line short within (readerWith r at n g) j (shown ps ++ cs) s J N q (omega (arith, m, h)) (elim o [ inl z ↦ inl (omega (arith, m, z)) | inr z ↦ inr (z .0) ]) e in
-      let (w, u, y, e2) = pieces-end ps r (at + 16) n (set g j v) cs t (and-r (ltb j 10) (fair ps) f) (length-set g j v ∙ N) p (omega (arith, m, h)) (elim o [ inl z ↦ inl (omega (arith, m, z)) | inr z ↦ inr z ]) e1 in
+      let (w, u, y, e2) = pieces-end ps r (at + 16) n (set g j v) cs t (and-r (ltb j numbersHeld) (fair ps) f) (length-set g j v ∙ N) p (omega (arith, m, h)) (elim o [ inl z ↦ inl (omega (arith, m, z)) | inr z ↦ inr z ]) e1 in
       ((v, a, w), u, joined (hex v) s t (spelled ps w) u x y, subst (λ (z : ℕ). Ends plan line (readerWith r z (countRead ps w n) (loaded ps w (set g j v))) u) m e2)
   pieces-end (flagged j ∷ ps) r at n g cs s f N q h o e =
       let k = length (shown ps) in
       let J = fair-number j (fair ps) f in
-      let p = here plan at (75 + j) (shown ps ++ cs) q in
+      let p = here plan at (flagLetter + j) (shown ps ++ cs) q in
       let m : suc at + k ≡ at + suc k = suc-add at k ∙ sym (add-suc at k) in
       let (b, t, x, e1) = flag-ends plan line short within (readerWith r at n g) j s J (p .0) (omega (arith, m, h)) (elim o [ inl z ↦ inl (omega (arith, m, z)) | inr z ↦ inr (z .0) ]) e in
-      let (w, u, y, e2) = pieces-end ps r (suc at) n (set g j (bitOf b)) cs t (and-r (ltb j 10) (fair ps) f) (length-set g j (bitOf b) ∙ N) (p .1) (omega (arith, m, h)) (elim o [ inl z ↦ inl (omega (arith, m, z)) | inr z ↦ inr z ]) e1 in
+      let (w, u, y, e2) = pieces-end ps r (suc at) n (set g j (bitOf b)) cs t (and-r (ltb j numbersHeld) (fair ps) f) (length-set g j (bitOf b) ∙ N) (p .1) (omega (arith, m, h)) (elim o [ inl z ↦ inl (omega (arith, m, z)) | inr z ↦ inr z ]) e1 in
       ((b, w), u, joined (flagField b) s t (spelled ps w) u x y, subst (λ (z : ℕ). Ends plan line (readerWith r z (countRead ps w n) (loaded ps w (set g j (bitOf b)))) u) m e2)
   pieces-end (count ∷ ps) r at n g cs s f N q h (inr z) e = absurd (z .1)
   pieces-end (count ∷ ps) r at n g cs s f N q h (inl z) e =
@@ -87,7 +88,7 @@ module _ {plan : List ℕ} {line : ℕ} (f : Form plan line) where
       (subst (λ (w : Reader). Ends plan line w s) (plain-turn plan line q b (f .end) (f .end-plain) (here plan (lastPlace f) (f .end) [] (p .0) .0) (omega (arith, l)) (inr o)) e)
       (λ (x : b ≡ f .end) (e : Ends plan line (steppedOf (last plan line) line q) s). (s, ap (λ (z : ℕ). z ∷ s) x, subst (λ (w : Reader). Ends plan line w s) (step-on plan line q l o) e))
 
-  line-ends : (n seen : ℕ) (g s : List ℕ) → length g ≡ 10 → seen < n → Ends plan line (before f n seen g) s
+  line-ends : (n seen : ℕ) (g s : List ℕ) → length g ≡ numbersHeld → seen < n → Ends plan line (before f n seen g) s
       → (w : Values (f .row)) × (t : List ℕ) × (s ≡ spelled (f .row) w ++ (f .end ∷ t)) × Ends plan line (before f n (suc seen) (loaded (f .row) w g)) t
   line-ends n seen g s N o e =
       let r = before f n seen g in
@@ -97,7 +98,7 @@ module _ {plan : List ℕ} {line : ℕ} (f : Form plan line) where
       let (u, y, e3) = line-over r n (loaded (f .row) w g) t o e2 in
       (w, u, x ∙ ap (λ (z : List ℕ). spelled (f .row) w ++ z) y, subst (λ (m : ℕ). Ends plan line (before f n m (loaded (f .row) w g)) u) (add-one seen) e3)
 
-  lines-end : (k n seen : ℕ) (g s : List ℕ) → length g ≡ 10 → seen + k ≡ n → Ends plan line (before f n seen g) s → (ws : List (Values (f .row))) × (k ≡ length ws) × (s ≡ spelledRows f ws)
+  lines-end : (k n seen : ℕ) (g s : List ℕ) → length g ≡ numbersHeld → seen + k ≡ n → Ends plan line (before f n seen g) s → (ws : List (Values (f .row))) × (k ≡ length ws) × (s ≡ spelledRows f ws)
   lines-end zero n seen g [] N h e = ([], refl, refl)
   lines-end zero n seen g (b ∷ s) N h e =
       stuck-ends plan line (f .short) within s (before f n seen g) (subst (λ (w : Reader). Ends plan line w s) (full-stuck plan line (before f n seen g) b within refl (le-of-eq (sym h ∙ add-zero seen))) e)
@@ -107,7 +108,7 @@ module _ {plan : List ℕ} {line : ℕ} (f : Form plan line) where
       (w ∷ ws, ap suc l, x ∙ ap (λ (z : List ℕ). spelled (f .row) w ++ (f .end ∷ z)) y)
 
   abbrev zeros : List ℕ
-  zeros = replicate 10 0
+  zeros = replicate numbersHeld 0
 
   text-joined : (s t : List ℕ) (w : Values (f .head)) (ws : List (Values (f .row))) → s ≡ spelled (f .head) w ++ t → t ≡ spelledRows f ws → s ≡ spelledText f w ws
   text-joined s t w ws p q = p ∙ ap (λ (z : List ℕ). spelled (f .head) w ++ z) q

@@ -2,10 +2,11 @@
 use mathlib.Core.Path.{_≡_, refl}
 use mathlib.Core.List.{List, [], _∷_}
 use mathlib.Core.Bool.{true, false}
-use Prim.Native.Nat.{ℕ}
+use Prim.Native.Nat.{ℕ, _-_}
 use lib.Dec.{lit<}
 use lib.ListN.{replicate}
 use Rattle.text.specs.declared.reader.Reader.{Reader}
+use Rattle.text.specs.Letters.{numbersHeld}
 use Rattle.text.specs.Bytes.{bytes}
 use Rattle.text.specs.Numerals.{decimal}
 use Rattle.text.specs.Reading.{startOf, steppedOf, hexedOf, flaggedOf, matchedOf, countedOf, firstOf, moreOf, wantedOf, feedOf, feedAll, closedOf, fineOf}
@@ -13,7 +14,7 @@ use Rattle.text.specs.Plan.{mark, number, flagged, count, marks, Form, s
 use Rattle.text.proofs.Backward.{Accepted, accepted-text}
 
 abbrev plan : List ℕ
-plan = bytes "v,n\r\nAAAAAAAAAAAAAAAA,#+\nL\r\n"
+plan = bytes "v,n\r\nAAAAAAAAAAAAAAAA,#+\nO\r\n"
 
 abbrev line : ℕ
 line = 25
@@ -43,7 +44,7 @@ example-spelled = refl
 read : List ℕ → Reader
 read s = closedOf plan line (feedAll plan line startOf s)
 
-example-read : read example ≡ record { at = line; n = 2; seen = 2; numbers = 7 ∷ 1 ∷ replicate 8 0 }
+example-read : read example ≡ record { at = line; n = 2; seen = 2; numbers = 7 ∷ 1 ∷ replicate (numbersHeld - 2) 0 }
 unfolding steppedOf hexedOf flaggedOf matchedOf countedOf firstOf moreOf wantedOf feedOf read
 example-read = refl
 

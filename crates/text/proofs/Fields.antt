@@ -11,6 +11,7 @@ use lib.ListN.{length, getD, drop, set, replicate, length-set}
 use lib.Seq.{getD-set-same, set-getD, set-set}
 use borrow.Author.Tests.{le-ltb, ne-eqb, eq-eqb}
 use Rattle.text.specs.declared.reader.Reader.{Reader}
+use Rattle.text.specs.Letters.{numbersHeld, hexLetter, flagLetter}
 use Rattle.text.specs.Numerals.{glyph, spell, hex, decimal, Word}
 use Rattle.text.specs.Lines.{flagField, bitOf}
 use Rattle.text.specs.Reading.{readerWith, shifted, numberedOf, flaggedOf, matchedOf, countedOf, firstOf, moreOf, feedOf, feedAll}
@@ -34,7 +35,7 @@ module _ (plan : List ℕ) (line : ℕ) where
 
   -- ---- hexadecimal digits
   digits-fed : (k i : ℕ) (r : Reader) (j v : ℕ) (cs rest : List ℕ) → i + k ≡ 16 → getD (r .numbers) j 0 % 16 ^ i ≡ v / 16 ^ k → (i ≡ 0) ⊎ Word (getD (r .numbers) j 0)
-      → j < 10 → length (r .numbers) ≡ 10 → drop (r .at) plan ≡ replicate k (65 + j) ++ cs → r .at + k < length plan → OpenTo r (r .at + k)
+      → j < numbersHeld → length (r .numbers) ≡ numbersHeld → drop (r .at) plan ≡ replicate k (hexLetter + j) ++ cs → r .at + k < length plan → OpenTo r (r .at + k)
       → feedAll plan line r (spell k v ++ rest) ≡ feedAll plan line (readerWith r (r .at + k) (r .n) (set (r .numbers) j v)) rest
   digits-fed zero i r j v cs rest e a (inl l) J N t h o = absurd (omega arith)
   digits-fed zero i r j v cs rest e a (inr l) J N t h o =
@@ -50,7 +51,7 @@ module _ (plan : List ℕ) (line : ℕ) where
       let g = set (r .numbers) j (shifted x d) in
       let r' = readerWith r (suc (r .at)) (r .n) g in
       let s : getD g j 0 ≡ shifted x d = getD-set-same (r .numbers) j (shifted x d) 0 (subst (λ (z : ℕ). j < z) (sym N) J) in
-      let p = here plan (r .at) (65 + j) (replicate k (65 + j) ++ cs) t in
+      let p = here plan (r .at) (hexLetter + j) (replicate k (hexLetter + j) ++ cs) t in
       let one : feedOf plan line r (glyph d) ≡ r' = hex-fed plan line r (glyph d) j d (sym (val-glyph d D)) J D (p .0) (omega (arith, add-suc (r .at) k)) (open-now r k o) in
       let b : x % 16 ^ i * 16 + d ≡ q = ap (λ (z : ℕ). z * 16 + d) (a ∙ ap (λ (z : ℕ). v / z) (pow-suc 16 k) ∙ sym (div-div-eq-div-mul v (16 ^ k) 16)) ∙ div-add-mod' q 16 in
       ap (λ (w : Reader). feedAll plan line w (spell k v ++ rest)) one
@@ -63,8 +64,8 @@ module _ (plan : List ℕ) (line : ℕ) where
       ∙ ap (λ (p : ℕ). feedAll plan line (readerWith r p (r .n) (set (r .numbers) j v)) rest) (suc-add (r .at) k ∙ sym (add-suc (r .at) k))
 
   -- sixteen digits: the number is in its place, whatever stood there
-  pub hex-field : (r : Reader) (j v : ℕ) (cs rest : List ℕ) → Word v → j < 10 → length (r .numbers) ≡ 10
-      → drop (r .at) plan ≡ replicate 16 (65 + j) ++ cs → r .at + 16 < length plan → OpenTo r (r .at + 16)
+  pub hex-field : (r : Reader) (j v : ℕ) (cs rest : List ℕ) → Word v → j < numbersHeld → length (r .numbers) ≡ numbersHeld
+      → drop (r .at) plan ≡ replicate 16 (hexLetter + j) ++ cs → r .at + 16 < length plan → OpenTo r (r .at + 16)
       → feedAll plan line r (hex v ++ rest) ≡ feedAll plan line (readerWith r (r .at + 16) (r .n) (set (r .numbers) j v)) rest
   hex-field r j v cs rest w J N t h o = digits-fed 16 0 r j v cs rest refl (first (getD (r .numbers) j 0) v w) (inl refl) J N t h o
     where
@@ -90,7 +91,7 @@ module _ (plan : List ℕ) (line : ℕ) where
   flag-is false rest = refl
   flag-is true rest = refl
 
-  pub flag-field : (r : Reader) (j : ℕ) (p : Bool) (rest : List ℕ) → j < 10 → getD plan (r .at) 0 ≡ 75 + j → suc (r .at) < length plan → Open plan line r (r .at)
+  pub flag-field : (r : Reader) (j : ℕ) (p : Bool) (rest : List ℕ) → j < numbersHeld → getD plan (r .at) 0 ≡ flagLetter + j → suc (r .at) < length plan → Open plan line r (r .at)
       → feedAll plan line r (flagField p ++ rest) ≡ feedAll plan line (readerWith r (suc (r .at)) (r .n) (set (r .numbers) j (bitOf p))) rest
   flag-field r j p rest J e h o =
       ap (feedAll plan line r) (flag-is p rest) ∙ ap (λ (w : Reader). feedAll plan line w rest) (flag-turn plan line r (48 + bitOf p) j J e (omega arith) o ∙ flagged-is r p j h)

@@ -10,6 +10,7 @@ use lib.Dec.{T, ltb, eqb}
 use lib.ListN.{length, getD, drop, set, replicate}
 use borrow.Author.Tests.{ne-eqb, ltb-true, ltb-false, eqb-true, eqb-false}
 use Rattle.text.specs.declared.reader.Reader.{Reader}
+use Rattle.text.specs.Letters.{numbersHeld, hexLetter, flagLetter}
 use Rattle.text.specs.Numerals.{glyph, hexVal, spell, hex, decimal, Word}
 use Rattle.text.specs.Lines.{flagField, bitOf}
 use Rattle.text.specs.Reading.{readerWith, stuckOf, steppedOf, shifted, numberedOf, hexedOf, flaggedOf, matchedOf, countedOf, firstOf, moreOf, feedAll, fineOf}
@@ -94,13 +95,13 @@ module _ (plan : List ℕ) (line : ℕ) (short : Word (length plan)) (within : l
       go true q = k (ltb-true (hexVal b) 16 q)
       go false q = stuck-ends s r (subst (λ (w : Reader). Ends plan line w s) (sym (hexed-bad (last plan line) line r b j (hexVal b) refl (ltb-false (hexVal b) 16 q))) e)
 
-  digits-end : (k a : ℕ) (r : Reader) (j : ℕ) (cs s : List ℕ) → j < 10 → drop (r .at) plan ≡ replicate k (65 + j) ++ cs → r .at + k < length plan → OpenTo plan line r (r .at + k) → Ends plan line r s
+  digits-end : (k a : ℕ) (r : Reader) (j : ℕ) (cs s : List ℕ) → j < numbersHeld → drop (r .at) plan ≡ replicate k (hexLetter + j) ++ cs → r .at + k < length plan → OpenTo plan line r (r .at + k) → Ends plan line r s
       → (v : ℕ) × (t : List ℕ) × (v / 16 ^ k ≡ a) × (s ≡ spell k v ++ t)
   digits-end zero a r j cs s J l h o e = (a, s, div-one a, refl)
   digits-end (suc k) a r j cs [] J l h o e = open-ends plan line r (open-now plan line r k o) e
   digits-end (suc k) a r j cs (b ∷ s) J l h o e =
       let d = hexVal b in
-      let p = here plan (r .at) (65 + j) (replicate k (65 + j) ++ cs) l in
+      let p = here plan (r .at) (hexLetter + j) (replicate k (hexLetter + j) ++ cs) l in
       let op = open-now plan line r k o in
       let m : suc (r .at) < length plan = omega (arith, add-suc (r .at) k, h) in
       let next : Reader = readerWith r (suc (r .at)) (r .n) (set (r .numbers) j (shifted (getD (r .numbers) j 0) d)) in
@@ -110,7 +111,7 @@ module _ (plan : List ℕ) (line : ℕ) (short : Word (length plan)) (within : l
       (v, t, digits-before k v a d D q, digits-joined k v a b s t D q x)
 
   -- a field of sixteen digits
-  pub hex-ends : (r : Reader) (j : ℕ) (cs s : List ℕ) → j < 10 → length (r .numbers) ≡ 10 → drop (r .at) plan ≡ replicate 16 (65 + j) ++ cs → r .at + 16 < length plan → OpenTo plan line r (r .at + 16) → Ends plan line r s
+  pub hex-ends : (r : Reader) (j : ℕ) (cs s : List ℕ) → j < numbersHeld → length (r .numbers) ≡ numbersHeld → drop (r .at) plan ≡ replicate 16 (hexLetter + j) ++ cs → r .at + 16 < length plan → OpenTo plan line r (r .at + 16) → Ends plan line r s
       → (v : ℕ) × (t : List ℕ) × Word v × (s ≡ hex v ++ t) × Ends plan line (readerWith r (r .at + 16) (r .n) (set (r .numbers) j v)) t
   hex-ends r j cs s J N l h o e =
       let (v, t, z, q) = digits-end 16 0 r j cs s J l h o e in
@@ -132,7 +133,7 @@ module _ (plan : List ℕ) (line : ℕ) (short : Word (length plan)) (within : l
       go false q true v e = k true (ap (λ (z : ℕ). z ∷ s) (eqb-true b 49 v)) (subst (λ (w : Reader). Ends plan line w s) (step-in plan line (numberedOf r j 1) h) e)
       go false q false v e = stuck-ends s r e
 
-  pub flag-ends : (r : Reader) (j : ℕ) (s : List ℕ) → j < 10 → getD plan (r .at) 0 ≡ 75 + j → suc (r .at) < length plan → Open plan line r (r .at) → Ends plan line r s
+  pub flag-ends : (r : Reader) (j : ℕ) (s : List ℕ) → j < numbersHeld → getD plan (r .at) 0 ≡ flagLetter + j → suc (r .at) < length plan → Open plan line r (r .at) → Ends plan line r s
       → (p : Bool) × (t : List ℕ) × (s ≡ flagField p ++ t) × Ends plan line (readerWith r (suc (r .at)) (r .n) (set (r .numbers) j (bitOf p))) t
   flag-ends r j [] J p h o e = open-ends plan line r o e
   flag-ends r j (b ∷ s) J p h o e =

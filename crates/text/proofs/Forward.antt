@@ -13,6 +13,7 @@ use lib.ListN.{length, drop, set, replicate, length-set, length-append}
 use lib.Seq.{drop-drop, drop-at}
 use borrow.Author.Tests.{eq-eqb, ltb-true}
 use Rattle.text.specs.declared.reader.Reader.{Reader}
+use Rattle.text.specs.Letters.{numbersHeld, flagLetter}
 use Rattle.text.specs.Bytes.{bytes}
 use Rattle.text.specs.Numerals.{decimal}
 use Rattle.text.specs.Lines.{flagField, bitOf}
@@ -26,10 +27,10 @@ holds : (b : Bool) → T b → b ≡ true
 holds true t = refl
 holds false t = absurd t
 
-pub fair-number : (j : ℕ) (b : Bool) → T (ltb j 10 && b) → j < 10
-fair-number j b t = ltb-true j 10 (holds (ltb j 10) (and-l (ltb j 10) b t))
+pub fair-number : (j : ℕ) (b : Bool) → T (ltb j numbersHeld && b) → j < numbersHeld
+fair-number j b t = ltb-true j numbersHeld (holds (ltb j numbersHeld) (and-l (ltb j numbersHeld) b t))
 
-pub loaded-length : (ps : List Piece) (w : Values ps) (g : List ℕ) → length g ≡ 10 → length (loaded ps w g) ≡ 10
+pub loaded-length : (ps : List Piece) (w : Values ps) (g : List ℕ) → length g ≡ numbersHeld → length (loaded ps w g) ≡ numbersHeld
 loaded-length [] w g N = N
 loaded-length (mark c ∷ ps) w g N = loaded-length ps w g N
 loaded-length (number j ∷ ps) w g N = loaded-length ps (w .2) (set g j (w .0)) (length-set g j (w .0) ∙ N)
@@ -50,7 +51,7 @@ module _ (plan : List ℕ) (line : ℕ) where
   abbrev pub Where : Reader → ℕ → List Piece → ℕ → Type 0
   Where r n ps end = (end ≤ line) ⊎ ((r .seen < n) × T (uncounted ps))
 
-  pub pieces-fed : (ps : List Piece) (w : Values ps) (r : Reader) (at n : ℕ) (g cs rest : List ℕ) → T (fair ps) → length g ≡ 10
+  pub pieces-fed : (ps : List Piece) (w : Values ps) (r : Reader) (at n : ℕ) (g cs rest : List ℕ) → T (fair ps) → length g ≡ numbersHeld
       → drop at plan ≡ shown ps ++ cs → at + length (shown ps) < length plan → Where r n ps (at + length (shown ps))
       → feedAll plan line (readerWith r at n g) (spelled ps w ++ rest) ≡ feedAll plan line (readerWith r (at + length (shown ps)) (countRead ps w n) (loaded ps w g)) rest
   pieces-fed [] w r at n g cs rest f N q h o = ap (λ (k : ℕ). feedAll plan line (readerWith r k n g) rest) (sym (add-zero at))
@@ -68,17 +69,17 @@ module _ (plan : List ℕ) (line : ℕ) where
       let p : drop (at + 16) plan ≡ shown ps ++ cs = sym (drop-drop 16 at plan) ∙ ap (drop 16) q in
       let e : at + 16 + k ≡ at + length (shown (number j ∷ ps)) = omega arith in
       hex-field plan line (readerWith r at n g) j v (shown ps ++ cs) (spelled ps (w .2) ++ rest) (w .1) J N q (omega (arith, e, h)) (elim o [ inl z ↦ inl (omega (arith, e, z)) | inr z ↦ inr (z .0) ])
-      ∙ pieces-fed ps (w .2) r (at + 16) n (set g j v) cs rest (and-r (ltb j 10) (fair ps) f) (length-set g j v ∙ N) p (omega (arith, e, h)) (elim o [ inl z ↦ inl (omega (arith, e, z)) | inr z ↦ inr z ])
+      ∙ pieces-fed ps (w .2) r (at + 16) n (set g j v) cs rest (and-r (ltb j numbersHeld) (fair ps) f) (length-set g j v ∙ N) p (omega (arith, e, h)) (elim o [ inl z ↦ inl (omega (arith, e, z)) | inr z ↦ inr z ])
       ∙ ap (λ (m : ℕ). feedAll plan line (readerWith r m (countRead ps (w .2) n) (loaded ps (w .2) (set g j v))) rest) e
   pieces-fed (flagged j ∷ ps) w r at n g cs rest f N q h o =
       let k = length (shown ps) in
       let v = bitOf (w .0) in
       let J = fair-number j (fair ps) f in
-      let p = here plan at (75 + j) (shown ps ++ cs) q in
+      let p = here plan at (flagLetter + j) (shown ps ++ cs) q in
       let e : suc at + k ≡ at + suc k = suc-add at k ∙ sym (add-suc at k) in
       ap (feedAll plan line (readerWith r at n g)) (append-assoc (flagField (w .0)) (spelled ps (w .1)) rest)
       ∙ flag-field plan line (readerWith r at n g) j (w .0) (spelled ps (w .1) ++ rest) J (p .0) (omega (arith, e, h)) (elim o [ inl z ↦ inl (omega (arith, e, z)) | inr z ↦ inr (z .0) ])
-      ∙ pieces-fed ps (w .1) r (suc at) n (set g j v) cs rest (and-r (ltb j 10) (fair ps) f) (length-set g j v ∙ N) (p .1) (omega (arith, e, h)) (elim o [ inl z ↦ inl (omega (arith, e, z)) | inr z ↦ inr z ])
+      ∙ pieces-fed ps (w .1) r (suc at) n (set g j v) cs rest (and-r (ltb j numbersHeld) (fair ps) f) (length-set g j v ∙ N) (p .1) (omega (arith, e, h)) (elim o [ inl z ↦ inl (omega (arith, e, z)) | inr z ↦ inr z ])
       ∙ ap (λ (m : ℕ). feedAll plan line (readerWith r m (countRead ps (w .1) n) (loaded ps (w .1) (set g j v))) rest) e
   pieces-fed (count ∷ ps) w r at n g cs rest f N q h (inr z) = absurd (z .1)
   pieces-fed (count ∷ ps) w r at n g cs rest f N q h (inl z) =
@@ -128,7 +129,7 @@ module _ {plan : List ℕ} {line : ℕ} (f : Form plan line) where
       ∙ matched-end (readerWith r lastPlace n g) l o
 
   -- a line up to its last byte
-  pub row-fed : (w : Values (f .row)) (r : Reader) (n : ℕ) (g rest : List ℕ) → length g ≡ 10 → r .seen < n
+  pub row-fed : (w : Values (f .row)) (r : Reader) (n : ℕ) (g rest : List ℕ) → length g ≡ numbersHeld → r .seen < n
       → feedAll plan line (readerWith r line n g) (spelled (f .row) w ++ rest) ≡ feedAll plan line (readerWith r lastPlace n (loaded (f .row) w g)) rest
   row-fed w r n g rest N o =
       let l = end-there .1 in
@@ -139,14 +140,14 @@ module _ {plan : List ℕ} {line : ℕ} (f : Form plan line) where
   abbrev pub before : ℕ → ℕ → List ℕ → Reader
   before n seen g = record { at = line; n = n; seen = seen; numbers = g }
 
-  pub line-fed : (w : Values (f .row)) (n seen : ℕ) (g rest : List ℕ) → length g ≡ 10 → seen < n
+  pub line-fed : (w : Values (f .row)) (n seen : ℕ) (g rest : List ℕ) → length g ≡ numbersHeld → seen < n
       → feedAll plan line (before n seen g) (spelled (f .row) w ++ (f .end ∷ rest)) ≡ feedAll plan line (before n (suc seen) (loaded (f .row) w g)) rest
   line-fed w n seen g rest N o =
       row-fed w (before n seen g) n g (f .end ∷ rest) N o
       ∙ ap (λ (r : Reader). feedAll plan line r rest) (end-fed (before n seen g) n (loaded (f .row) w g) o)
       ∙ ap (λ (m : ℕ). feedAll plan line (before n m (loaded (f .row) w g)) rest) (add-one seen)
 
-  pub rows-fed : (ws : List (Values (f .row))) (n seen : ℕ) (g : List ℕ) → length g ≡ 10 → seen + length ws ≡ n
+  pub rows-fed : (ws : List (Values (f .row))) (n seen : ℕ) (g : List ℕ) → length g ≡ numbersHeld → seen + length ws ≡ n
       → feedAll plan line (before n seen g) (spelledRows f ws) ≡ before n n (loadedRows f ws g)
   rows-fed [] n seen g N e = ap (λ (m : ℕ). before n m g) (sym (add-zero seen) ∙ e)
   rows-fed (w ∷ ws) n seen g N e =
@@ -154,7 +155,7 @@ module _ {plan : List ℕ} {line : ℕ} (f : Form plan line) where
       line-fed w n seen g (spelledRows f ws) N (omega (arith, m)) ∙ rows-fed ws n (suc seen) (loaded (f .row) w g) (loaded-length (f .row) w g N) m
 
   abbrev zeros : List ℕ
-  zeros = replicate 10 0
+  zeros = replicate numbersHeld 0
 
   pub head-fed : (w : Values (f .head)) (rest : List ℕ) → feedAll plan line startOf (spelled (f .head) w ++ rest) ≡ feedAll plan line (before (countRead (f .head) w 0) 0 (loaded (f .head) w zeros)) rest
   head-fed w rest =

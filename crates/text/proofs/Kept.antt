@@ -10,6 +10,7 @@ use lib.Dec.{ltb, leb, eqb}
 use lib.ListN.{length, getD, replicate}
 use borrow.Author.Tests.{lt-ltb, le-ltb}
 use Rattle.text.specs.declared.reader.Reader.{Reader}
+use Rattle.text.specs.Letters.{numbersHeld, hexLetter, flagLetter, lettersEnd}
 use Rattle.text.specs.Numerals.{hexVal}
 use Rattle.text.specs.Reading.{startOf, readerWith, stuckOf, nextOf, steppedOf, hexedOf, flaggedOf, matchedOf, countedOf, firstOf, moreOf, wantedOf, feedOf, feedAll}
 use Rattle.text.specs.Plan.{Values, spelled, loaded, countRead, Form, spelledRows, spelledText}
@@ -67,9 +68,9 @@ module _ (last line : ℕ) {k : ℕ} {r : Reader} (h : Up k r) where
   up-wanted b c =
       either (eqb c 35) (up-first b)
       (either (eqb c 43) (up-more b)
-      (either (ltb c 65) (up-matched b c)
-      (either (ltb c 75) (up-hexed b (c - 65))
-      (either (ltb c 85) (up-flagged b (c - 75)) (up-matched b c)))))
+      (either (ltb c hexLetter) (up-matched b c)
+      (either (ltb c flagLetter) (up-hexed b (c - hexLetter))
+      (either (ltb c lettersEnd) (up-flagged b (c - flagLetter)) (up-matched b c)))))
 
 module _ (plan : List ℕ) (line : ℕ) where
   up-feed : (r : Reader) (b : ℕ) → r .seen ≤ (feedOf plan line r b) .seen
@@ -122,7 +123,7 @@ module _ {plan : List ℕ} {line : ℕ} (f : Form plan line) {A : Type 0} (keep 
   keptRows [] k g a = a
   keptRows (w ∷ ws) k g a = keptRows ws (suc k) (loaded (f .row) w g) (keep k (loaded (f .row) w g) a)
 
-  line-kept : (w : Values (f .row)) (n seen : ℕ) (g rest : List ℕ) (a : A) → length g ≡ 10 → seen < n
+  line-kept : (w : Values (f .row)) (n seen : ℕ) (g rest : List ℕ) (a : A) → length g ≡ numbersHeld → seen < n
       → keptAll plan line keep (before f n seen g) a (spelled (f .row) w ++ (f .end ∷ rest)) ≡ keptAll plan line keep (before f n (suc seen) (loaded (f .row) w g)) (keep seen (loaded (f .row) w g) a) rest
   line-kept w n seen g rest a N o =
       let r = before f n seen g in
@@ -134,7 +135,7 @@ module _ {plan : List ℕ} {line : ℕ} (f : Form plan line) {A : Type 0} (keep 
       ∙ ap (λ (z : Bool). keptAll plan line keep (nextOf line q) (cond z (keep seen g' a) a) rest) (lt-ltb seen (seen + 1) up)
       ∙ ap (λ (m : ℕ). keptAll plan line keep (before f n m g') (keep seen g' a) rest) (add-one seen)
 
-  rows-kept : (ws : List (Values (f .row))) (n seen : ℕ) (g : List ℕ) (a : A) → length g ≡ 10 → seen + length ws ≡ n
+  rows-kept : (ws : List (Values (f .row))) (n seen : ℕ) (g : List ℕ) (a : A) → length g ≡ numbersHeld → seen + length ws ≡ n
       → keptAll plan line keep (before f n seen g) a (spelledRows f ws) ≡ keptRows ws seen g a
   rows-kept [] n seen g a N e = refl
   rows-kept (w ∷ ws) n seen g a N e =
@@ -142,9 +143,9 @@ module _ {plan : List ℕ} {line : ℕ} (f : Form plan line) {A : Type 0} (keep 
       line-kept w n seen g (spelledRows f ws) a N (omega (arith, m)) ∙ rows-kept ws n (suc seen) (loaded (f .row) w g) (keep seen (loaded (f .row) w g) a) (loaded-length (f .row) w g N) m
 
   pub text-kept : (w : Values (f .head)) (ws : List (Values (f .row))) (a : A) → countRead (f .head) w 0 ≡ length ws
-      → keptAll plan line keep startOf a (spelledText f w ws) ≡ keptRows ws 0 (loaded (f .head) w (replicate 10 0)) a
+      → keptAll plan line keep startOf a (spelledText f w ws) ≡ keptRows ws 0 (loaded (f .head) w (replicate numbersHeld 0)) a
   text-kept w ws a e =
-      let g = loaded (f .head) w (replicate 10 0) in
+      let g = loaded (f .head) w (replicate numbersHeld 0) in
       let q = before f (countRead (f .head) w 0) 0 g in
       quiet-then plan line keep (spelled (f .head) w) (spelledRows f ws) startOf q a (ap (feedAll plan line startOf) (sym (append-nil (spelled (f .head) w))) ∙ head-fed f w []) refl
-      ∙ rows-kept ws (countRead (f .head) w 0) 0 g a (loaded-length (f .head) w (replicate 10 0) refl) (zero-add (length ws) ∙ sym e)
+      ∙ rows-kept ws (countRead (f .head) w 0) 0 g a (loaded-length (f .head) w (replicate numbersHeld 0) refl) (zero-add (length ws) ∙ sym e)

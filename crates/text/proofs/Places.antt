@@ -10,6 +10,7 @@ use lib.Dec.{T, leb, eqb, ltb}
 use lib.ListN.{length, getD, drop, set}
 use borrow.Author.Tests.{lt-ltb, le-ltb, le-leb, lt-leb, ne-eqb, eq-eqb}
 use Rattle.text.specs.declared.reader.Reader.{Reader}
+use Rattle.text.specs.Letters.{numbersHeld, hexLetter, flagLetter, lettersEnd}
 use Rattle.text.specs.Numerals.{hexVal, Word}
 use Rattle.text.specs.Reading.{readerWith, stuckOf, nextOf, steppedOf, shifted, numberedOf, hexedOf, flaggedOf, matchedOf, firstOf, moreOf, wantedOf, feedOf}
 use Rattle.text.specs.Plan.{plain}
@@ -61,31 +62,35 @@ module _ (plan : List ℕ) (line : ℕ) where
   step-on r h l = simp (le-ltb (r .at) last (omega arith), lt-leb (r .n) (r .seen) l)
 
   -- ---- hexadecimal digits
-  wanted-hex : (r : Reader) (b j : ℕ) → j < 10 → wantedOf last line r b (65 + j) ≡ hexedOf last line r b j
+  wanted-hex : (r : Reader) (b j : ℕ) → j < numbersHeld → wantedOf last line r b (hexLetter + j) ≡ hexedOf last line r b j
   unfolding wantedOf
   wanted-hex r b j h =
-      let m : 65 + j - 65 ≡ j = omega arith in
-      simp (ne-eqb (65 + j) 35 (λ (e : 65 + j ≡ 35). omega arith), ne-eqb (65 + j) 43 (λ (e : 65 + j ≡ 43). omega arith), le-ltb (65 + j) 65 (omega arith), lt-ltb (65 + j) 75 (omega arith))
+      let m : hexLetter + j - hexLetter ≡ j = omega arith in
+      let hash = ne-eqb (hexLetter + j) 35 (λ (e : hexLetter + j ≡ 35). omega arith) in
+      let plus = ne-eqb (hexLetter + j) 43 (λ (e : hexLetter + j ≡ 43). omega arith) in
+      simp (hash, plus, le-ltb (hexLetter + j) hexLetter (omega arith), lt-ltb (hexLetter + j) flagLetter (omega arith))
       (ap (hexedOf last line r b) m)
 
-  pub hex-turn : (r : Reader) (b j : ℕ) → j < 10 → getD plan (r .at) 0 ≡ 65 + j → r .at < length plan → Open r (r .at) → feedOf plan line r b ≡ hexedOf last line r b j
+  pub hex-turn : (r : Reader) (b j : ℕ) → j < numbersHeld → getD plan (r .at) 0 ≡ hexLetter + j → r .at < length plan → Open r (r .at) → feedOf plan line r b ≡ hexedOf last line r b j
   hex-turn r b j J e h o = open-feed r b h o ∙ ap (wantedOf last line r b) e ∙ wanted-hex r b j J
 
   -- a digit d of number j
-  pub hex-fed : (r : Reader) (b j d : ℕ) → d ≡ hexVal b → j < 10 → d < 16 → getD plan (r .at) 0 ≡ 65 + j → suc (r .at) < length plan → Open r (r .at)
+  pub hex-fed : (r : Reader) (b j d : ℕ) → d ≡ hexVal b → j < numbersHeld → d < 16 → getD plan (r .at) 0 ≡ hexLetter + j → suc (r .at) < length plan → Open r (r .at)
       → feedOf plan line r b ≡ readerWith r (suc (r .at)) (r .n) (set (r .numbers) j (shifted (getD (r .numbers) j 0) d))
   hex-fed r b j d v J D e h o =
       hex-turn r b j J e (omega arith) o ∙ sym (hexed-good last line r b j d v D) ∙ step-in (numberedOf r j (shifted (getD (r .numbers) j 0) d)) h
 
   -- ---- flags
-  wanted-flag : (r : Reader) (b j : ℕ) → j < 10 → wantedOf last line r b (75 + j) ≡ flaggedOf last line r b j
+  wanted-flag : (r : Reader) (b j : ℕ) → j < numbersHeld → wantedOf last line r b (flagLetter + j) ≡ flaggedOf last line r b j
   unfolding wantedOf
   wanted-flag r b j h =
-      let m : 75 + j - 75 ≡ j = omega arith in
-      simp (ne-eqb (75 + j) 35 (λ (e : 75 + j ≡ 35). omega arith), ne-eqb (75 + j) 43 (λ (e : 75 + j ≡ 43). omega arith), le-ltb (75 + j) 65 (omega arith), le-ltb (75 + j) 75 (omega arith), lt-ltb (75 + j) 85 (omega arith))
+      let m : flagLetter + j - flagLetter ≡ j = omega arith in
+      let hash = ne-eqb (flagLetter + j) 35 (λ (e : flagLetter + j ≡ 35). omega arith) in
+      let plus = ne-eqb (flagLetter + j) 43 (λ (e : flagLetter + j ≡ 43). omega arith) in
+      simp (hash, plus, le-ltb (flagLetter + j) hexLetter (omega arith), le-ltb (flagLetter + j) flagLetter (omega arith), lt-ltb (flagLetter + j) lettersEnd (omega arith))
       (ap (flaggedOf last line r b) m)
 
-  pub flag-turn : (r : Reader) (b j : ℕ) → j < 10 → getD plan (r .at) 0 ≡ 75 + j → r .at < length plan → Open r (r .at) → feedOf plan line r b ≡ flaggedOf last line r b j
+  pub flag-turn : (r : Reader) (b j : ℕ) → j < numbersHeld → getD plan (r .at) 0 ≡ flagLetter + j → r .at < length plan → Open r (r .at) → feedOf plan line r b ≡ flaggedOf last line r b j
   flag-turn r b j J e h o = open-feed r b h o ∙ ap (wantedOf last line r b) e ∙ wanted-flag r b j J
 
   -- ---- n, and the CR after it
@@ -106,10 +111,10 @@ module _ (plan : List ℕ) (line : ℕ) where
   -- ---- bytes of the plan's own
   wanted-plain : (r : Reader) (b c : ℕ) → T (plain c) → wantedOf last line r b c ≡ matchedOf last line r b c
   unfolding wantedOf
-  wanted-plain r b c t = go (matchedOf last line r b c) (eqb c 35) (eqb c 43) (ltb c 65) (ltb c 75) (ltb c 85) t
+  wanted-plain r b c t = go (matchedOf last line r b c) (eqb c 35) (eqb c 43) (ltb c hexLetter) (ltb c flagLetter) (ltb c lettersEnd) t
     where
       go : (m : Reader) (p q u v w : Bool) → T (cond p false (cond q false (cond u true (cond v false (cond w false true)))))
-          → cond p (firstOf last line r b) (cond q (moreOf last line r b) (cond u m (cond v (hexedOf last line r b (c - 65)) (cond w (flaggedOf last line r b (c - 75)) m)))) ≡ m
+          → cond p (firstOf last line r b) (cond q (moreOf last line r b) (cond u m (cond v (hexedOf last line r b (c - hexLetter)) (cond w (flaggedOf last line r b (c - flagLetter)) m)))) ≡ m
       go m true q u v w t = absurd t
       go m false true u v w t = absurd t
       go m false false true v w t = refl

@@ -10,6 +10,10 @@ line [] = bytes "\r\n"
 line (f ∷ []) = f ++ bytes "\r\n"
 line (f ∷ g ∷ fs) = f ++ (bytes "," ++ line (g ∷ fs))
 
+-- how wide a number's field is, with the byte behind it
+abbrev pub fieldWide : ℕ
+fieldWide = 17
+
 -- a flag, as a field and as a number
 abbrev pub flagField : Bool → List ℕ
 flagField false = bytes "0"

@@ -7,6 +7,7 @@ use Prim.Native.Nat.{ℕ, _+_}
 use lib.Dec.{T, ltb, eqb}
 use lib.ListN.{length, set, replicate}
 use Rattle.text.specs.declared.reader.Reader.{Reader}
+use Rattle.text.specs.Letters.{numbersHeld, hexLetter, flagLetter, lettersEnd}
 use Rattle.text.specs.Bytes.{bytes}
 use Rattle.text.specs.Numerals.{hex, decimal, Word}
 use Rattle.text.specs.Lines.{flagField, bitOf}
@@ -27,8 +28,8 @@ marks (c ∷ cs) ps = mark c ∷ marks cs ps
 abbrev pub shown : List Piece → List ℕ
 shown [] = []
 shown (mark c ∷ ps) = c ∷ shown ps
-shown (number j ∷ ps) = replicate 16 (65 + j) ++ shown ps
-shown (flagged j ∷ ps) = (75 + j) ∷ shown ps
+shown (number j ∷ ps) = replicate 16 (hexLetter + j) ++ shown ps
+shown (flagged j ∷ ps) = (flagLetter + j) ∷ shown ps
 shown (count ∷ ps) = 35 ∷ 43 ∷ shown ps
 
 -- what pieces stand for: numbers and n of 64 bits, and flags
@@ -64,14 +65,14 @@ countRead (count ∷ ps) w n = countRead ps (w .2) (w .0)
 
 -- a byte that is none of the plan's letters
 abbrev pub plain : ℕ → Bool
-plain c = cond (eqb c 35) false (cond (eqb c 43) false (cond (ltb c 65) true (cond (ltb c 75) false (cond (ltb c 85) false true))))
+plain c = cond (eqb c 35) false (cond (eqb c 43) false (cond (ltb c hexLetter) true (cond (ltb c flagLetter) false (cond (ltb c lettersEnd) false true))))
 
--- pieces of such bytes and of the numbers 0 to 9; those of a line have no n
+-- pieces of such bytes and of the numbers that a reader holds; those of a line have no n
 abbrev pub fair : List Piece → Bool
 fair [] = true
 fair (mark c ∷ ps) = plain c && fair ps
-fair (number j ∷ ps) = ltb j 10 && fair ps
-fair (flagged j ∷ ps) = ltb j 10 && fair ps
+fair (number j ∷ ps) = ltb j numbersHeld && fair ps
+fair (flagged j ∷ ps) = ltb j numbersHeld && fair ps
 fair (count ∷ ps) = fair ps
 
 abbrev pub uncounted : List Piece → Bool
@@ -114,4 +115,4 @@ module _ {plan : List ℕ} {line : ℕ} (f : Form plan line) where
 
   -- what the reader holds after it
   abbrev pub heldOf : Values (f .head) → List (Values (f .row)) → Reader
-  heldOf w ws = record { at = line; n = length ws; seen = length ws; numbers = loadedRows ws (loaded (f .head) w (replicate 10 0)) }
+  heldOf w ws = record { at = line; n = length ws; seen = length ws; numbers = loadedRows ws (loaded (f .head) w (replicate numbersHeld 0)) }

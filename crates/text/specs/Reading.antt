@@ -6,10 +6,11 @@ use Prim.Native.Nat.{ℕ, _+_, _-_, _*_, _/_, _%_}
 use lib.Dec.{ltb, leb, eqb}
 use lib.ListN.{length, getD, set, replicate}
 use Rattle.text.specs.declared.reader.Reader.{Reader}
+use Rattle.text.specs.Letters.{numbersHeld, hexLetter, flagLetter, lettersEnd}
 use Rattle.text.specs.Numerals.{hexVal}
 
 abbrev pub startOf : Reader
-startOf = record { at = 0; n = 0; seen = 0; numbers = replicate 10 0 }
+startOf = record { at = 0; n = 0; seen = 0; numbers = replicate numbersHeld 0 }
 
 -- the reader at another place, with another n and other numbers
 abbrev pub readerWith : Reader → ℕ → ℕ → List ℕ → Reader
@@ -57,15 +58,15 @@ moreOf last line r b =
     (cond (ltb 57 b) (stuckOf r)
     (cond (eqb (r .n) 0) (stuckOf r) (countedOf r (b - 48)))))
 
--- by what the plan shows. A to J: a hexadecimal digit of the numbers 0 to 9. K to T: a flag among them. #: the first digit of n. +: its others, and the CR.
+-- by what the plan shows. A to M: a hexadecimal digit of the numbers 0 to 12. N to Z: a flag among them. #: the first digit of n. +: its others, and the CR.
 -- Other bytes: themselves.
 unfoldable pub wantedOf : ℕ → ℕ → Reader → ℕ → ℕ → Reader
 wantedOf last line r b want =
     cond (eqb want 35) (firstOf last line r b)
     (cond (eqb want 43) (moreOf last line r b)
-    (cond (ltb want 65) (matchedOf last line r b want)
-    (cond (ltb want 75) (hexedOf last line r b (want - 65))
-    (cond (ltb want 85) (flaggedOf last line r b (want - 75)) (matchedOf last line r b want)))))
+    (cond (ltb want hexLetter) (matchedOf last line r b want)
+    (cond (ltb want flagLetter) (hexedOf last line r b (want - hexLetter))
+    (cond (ltb want lettersEnd) (flaggedOf last line r b (want - flagLetter)) (matchedOf last line r b want)))))
 
 -- one byte; after n lines none is wanted
 unfoldable pub feedOf : List ℕ → ℕ → Reader → ℕ → Reader

@@ -1,28 +1,38 @@
 // A text that a plan shows, read byte by byte: a text of any length goes through a state of fixed size.
 //
-// The plan shows the text: A to J stand for a hexadecimal digit of the numbers 0 to 9, K to T for a flag among them, # for the first digit of n and
+// The plan shows the text: A to M stand for a hexadecimal digit of the numbers 0 to 12, N to Z for a flag among them, # for the first digit of n and
 // + for its others and the CR after them, any other byte for itself. From `line` on it shows one of n lines.
 ghost use mathlib.Core.Path.{_≡_};
 ghost use Prim.Native.Nat.{_<_};
-ghost use Rattle.text.specs.Reading.{startOf, stuckOf, nextOf, steppedOf, numberedOf, hexedOf, flaggedOf, matchedOf, countedOf, firstOf, moreOf, wantedOf, feedOf, feedAll, closedOf, fineOf};
+ghost use Rattle.text.specs.Letters.{numbersHeld};
+ghost use Rattle.text.specs.Reading.{startOf, stuckOf, nextOf, steppedOf, numberedOf, hexedOf, flaggedOf, matchedOf, countedOf, firstOf, moreOf, wantedOf, feedOf, fineOf};
 use crate::hex::hex_value;
 
 // The place past every plan, where a reader is stuck.
 const STUCK: usize = 18446744073709551615;
 
-// What was read: the place in the plan, n, the lines ended, and the ten numbers that the plan names.
+// The numbers that a plan can name, and its letters for them: from A on one for a digit of each, behind those one for a flag among them.
+pub const NUMBERS: usize = 13;
+
+const HEX: u8 = b'A';
+
+const FLAG: u8 = HEX + NUMBERS as u8;
+
+const PAST: u8 = FLAG + NUMBERS as u8;
+
+// What was read: the place in the plan, n, the lines ended, and the numbers that the plan names.
 pub struct Reader {
     pub at: usize,
     pub n: u64,
     pub seen: u64,
-    pub numbers: [u64; 10],
+    pub numbers: [u64; NUMBERS],
 }
 
 // Nothing was read.
 pub fn start() -> Reader
     ensures { λ r. ⌜ r ≡ startOf ⌝ }
 {
-    let numbers = [0u64; 10];
+    let numbers = [0u64; NUMBERS];
     Reader {
         at: 0,
         n: 0,
@@ -67,7 +77,7 @@ impl Reader {
 
     // Number j is v.
     fn numbered(mut self, j: usize, v: u64) -> Reader
-        requires { ⌜ j < 10 ⌝ }
+        requires { ⌜ j < numbersHeld ⌝ }
         ensures { λ r. ⌜ r ≡ numberedOf self j v ⌝ }
     {
         self.numbers[j] = v;
@@ -76,7 +86,7 @@ impl Reader {
 
     // A hexadecimal digit of number j. Sixteen push out whatever stood there.
     fn hexed(self, last: usize, line: usize, b: u8, j: usize) -> Reader
-        requires { ⌜ j < 10 ⌝ }
+        requires { ⌜ j < numbersHeld ⌝ }
         ensures { λ r. ⌜ r ≡ hexedOf last line self b j ⌝ }
     {
         let d = hex_value(b);
@@ -90,7 +100,7 @@ impl Reader {
 
     // Number j is 0 or 1.
     fn flagged(self, last: usize, line: usize, b: u8, j: usize) -> Reader
-        requires { ⌜ j < 10 ⌝ }
+        requires { ⌜ j < numbersHeld ⌝ }
         ensures { λ r. ⌜ r ≡ flaggedOf last line self b j ⌝ }
     {
         if b == 48 {
@@ -169,14 +179,14 @@ impl Reader {
         if want == 43 {
             return self.more(last, line, b);
         }
-        if want < 65 {
+        if want < HEX {
             return self.matched(last, line, b, want);
         }
-        if want < 75 {
-            return self.hexed(last, line, b, (want - 65) as usize);
+        if want < FLAG {
+            return self.hexed(last, line, b, (want - HEX) as usize);
         }
-        if want < 85 {
-            return self.flagged(last, line, b, (want - 75) as usize);
+        if want < PAST {
+            return self.flagged(last, line, b, (want - FLAG) as usize);
         }
         self.matched(last, line, b, want)
     }
@@ -200,18 +210,6 @@ impl Reader {
         self.wanted(last, line, b, want)
     }
 
-    // The text is over: a last line that lacks its CR LF is ended.
-    pub fn closed(self, plan: &[u8], line: usize) -> Reader
-        ensures { λ r. ⌜ r ≡ closedOf (now (plan .entry)) line self ⌝ }
-    {
-        let half = self.feed(plan, line, 13);
-        let ended = half.feed(plan, line, 10);
-        if ended.at == line {
-            return ended;
-        }
-        self
-    }
-
     // A text of the form is over: n lines were read, and no byte more.
     pub fn fine(self, line: usize) -> bool
         ensures { λ r. ⌜ r ≡ fineOf line self ⌝ }
@@ -221,17 +219,4 @@ impl Reader {
         }
         false
     }
-}
-
-// A part of the text.
-pub fn feed_all(r: Reader, plan: &[u8], line: usize, s: &[u8]) -> Reader
-    ensures { λ x. ⌜ x ≡ feedAll (now (plan .entry)) line r (now (s .entry)) ⌝ }
-{
-    let mut state = r;
-    let mut i = 0;
-    while i < s.len() {
-        state = state.feed(plan, line, s[i]);
-        i += 1;
-    }
-    state
 }

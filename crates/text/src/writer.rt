@@ -3,6 +3,7 @@ ghost use mathlib.Core.List.{[], _∷_, _++_};
 ghost use Prim.Native.Nat.{_+_, _-_, _≤_};
 ghost use lib.ListN.{length, drop};
 ghost use Rattle.text.specs.Numerals.{spell, hex, decimal};
+ghost use Rattle.text.specs.Lines.{fieldWide};
 ghost use Rattle.text.specs.Put.{Put};
 use crate::hex::hex_glyph;
 
@@ -47,7 +48,7 @@ pub fn put_bytes(out: &mut [u8], at: usize, s: &[u8], i: usize) -> usize
 
 // The sixteen digits of v, and a byte after them.
 pub fn put_field(out: &mut [u8], at: usize, v: u64, end: u8) -> usize
-    requires { ⌜ at + 17 ≤ length (now out) ⌝ }
+    requires { ⌜ at + fieldWide ≤ length (now out) ⌝ }
     ensures { λ r. ⌜ Put at (hex v ++ (end ∷ [])) (now (out .entry)) (now (out .exit)) r ⌝ }
 {
     let next = put_digits(out, at, 16, v);

@@ -1,6 +1,7 @@
 -- `show_rows`: no grain, or the rows of the others and the first one's before them. Assumes nothing.
 use mathlib.Core.Path.{refl}
 use Rattle.checks.proofs.Cut.{less-rows}
+use Rattle.listing_text.specs.Columns.{columns}
 use Rattle.answers.proofs.RowLaws.{show-none, show-more}
 use borrow.Author.Needs.{needs}
 use Prim.Native.Nat.{ℕ, _<_}
@@ -64,7 +65,7 @@ show-rows-returns-2 t c =
     let c6 = c2 .before .before .before .before in
     let c9 = c6 .before .before .before in
     let c12 = c9 .before .before .before in
-    show-more _ _ _ _ _ _ (c9 .if1 .left) (less-rows _ 5 _ (c9 .if1 .left) (c12 .pre .1 .1) .0) refl (c6 .show-rows .ensures) (c2 .show-one .ensures)
+    show-more _ _ _ _ _ _ (c9 .if1 .left) (less-rows _ columns _ (c9 .if1 .left) (c12 .pre .1 .1) .0) refl (c6 .show-rows .ensures) (c2 .show-one .ensures)
 
 pub +show-rows-spec : {M : Type 1} → statement M
 +show-rows-spec = close μ-show-rows λ t. show-rows-lts.spec (Rd t)

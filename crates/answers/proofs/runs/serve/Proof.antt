@@ -1,4 +1,5 @@
 -- `serve` meets its contract. Assumes nothing.
+use Rattle.answers.specs.Runs.{blank}
 use Rattle.answers.proofs.RunLaws.{serve-ends}
 use borrow.Author.Needs.{needs}
 use Rattle.answers.proofs.runs.serve.Statement.{statement}
@@ -29,6 +30,7 @@ show-requires : tie.Need-show-requires
 show-requires c κs = search needs
 
 returns : tie.Need-returns
+unfolding blank
 returns c = let s = c .before .before .before .before .before .before .before .before .simulate in serve-ends (s .result) _ _ _ _ _ _ _ (s .ensures) (c .show .ensures)
 
 pub serve-spec : {M : Type 1} → statement M
