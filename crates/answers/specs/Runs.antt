@@ -1,22 +1,20 @@
 -- The answer over the numbers that the reader holds, and a start with its two runs over the tables that the code lends. Assumes nothing: these are definitions.
 use Prim.Native.Nat.{ℕ, _*_}
 use mathlib.Core.Bool.{cond}
-use mathlib.Core.List.{List, _++_, map}
-use lib.ListN.{getD, replicate, drop}
+use mathlib.Core.List.{List, [], _++_, map}
+use lib.ListN.{replicate, drop}
 use lib.Ieee.{Float, binary64, toBits}
 use Rattle.chunks.specs.Flat.{flat}
 use Rattle.order.specs.Numbers.{fzero}
-use Rattle.myvec.specs.Vec.{vec}
 use Rattle.model.specs.declared.Domain.{Domain}
 use Rattle.model.specs.declared.Started.{Started}
 use Rattle.model.specs.declared.Started.the-variants as start
 use Rattle.model.specs.declared.Report.{Report}
 use Rattle.model.specs.declared.Report.the-variants.{Synchronised, Spent, Refused}
-use Rattle.model.specs.Grid.{boxOf}
 use Rattle.model.specs.Run.{How, synchronised, spent, refused}
 use Rattle.tables.specs.declared.Sizes.{Sizes}
 use Rattle.tables.specs.Lengths.{listsNeed, grainsNeed, queueNeed, eventsNeed, orderNeed}
-use Rattle.tables.specs.Decode.{Tables, tables, isSet, grainsOf, grainsPart}
+use Rattle.tables.specs.Decode.{Tables, tables, grainsOf, grainsPart}
 use Rattle.simulator.specs.Start.{StartedWith, startAll}
 use Rattle.running.specs.Ran.{RanTables, toldTables}
 use Rattle.simulator.specs.Run.{runTables}
@@ -26,7 +24,8 @@ use Rattle.listing_text.specs.Grammar.{columnsOf}
 use Rattle.listing_text.specs.Rows.{rowsListing}
 use Rattle.listing_text.specs.Answers.{answerOf}
 use Rattle.listing_text.specs.Size.{tooLarge}
-use Rattle.answers.specs.Answer.{float, shownGrain, room, budget}
+use Rattle.answers.specs.Answer.{float, boxFrom, shownGrain, room, budget}
+use Rattle.answers.specs.Read.{inputFrom}
 
 -- ---- a start's answer as the report of a run: one that is accepted stands where a run can begin, at the clock 0
 abbrev pub byAnswer : Started → Report
@@ -81,8 +80,9 @@ reportBy (refused r) t k = Refused r t k
 abbrev pub reportOf : RanTables → Report
 reportOf r = reportBy (r .how) (r .clock) (r .count)
 
+-- the box that was read
 abbrev pub boxRead : List ℕ → Domain
-boxRead l = boxOf (vec (float (getD l 0 0)) (float (getD l 1 0))) (isSet (getD l 2 0)) (isSet (getD l 3 0))
+boxRead l = boxFrom (inputFrom l [] 0)
 
 -- the grains' numbers in the tables afterwards, as bits, and zeros beyond
 abbrev pub rows : ℕ → Tables → List ℕ
@@ -95,4 +95,6 @@ unfoldable pub served : Domain → Float → List ℕ → ℕ → List ℕ
 served b rate grains n = spelling (simulated b n rate (map float grains) blank) n
 
 unfoldable pub judged : List ℕ → List ℕ → ℕ → List ℕ
-judged numbers grains n = cond (tooLarge n (float (getD numbers 0 0)) (float (getD numbers 1 0))) (answerOf answer.TooLarge) (served (boxRead numbers) (float (getD numbers 4 0)) grains n)
+judged numbers grains n =
+    let i = inputFrom numbers grains n in
+    cond (tooLarge n (float (i .l0)) (float (i .l1))) (answerOf answer.TooLarge) (served (boxFrom i) (float (i .rate)) grains n)
