@@ -4,6 +4,7 @@ ghost use Rattle.model.specs.Sizes.{countsOk, cellsOk};
 ghost use Rattle.checks.specs.Check.{ranged};
 use tables::Sizes;
 
+// Document 01's sizes.
 const MOST_GRAINS: u64 = 256;
 
 const LEAST_ROOM: u64 = 16;
@@ -14,7 +15,7 @@ const FEWEST_CELLS: usize = 9;
 
 const MOST_CELLS: usize = 256;
 
-// Are a start's counts of grains and of events a cell in range?
+// Are the counts of grains and of events a cell in range?
 pub fn counts_ok(grains: u64, room: u64) -> bool
     ensures { λ r. ⌜ r ≡ countsOk room grains ⌝ }
 {
