@@ -11,7 +11,7 @@ use lib.Seq.{take-all, drop-at, drop-drop, length-take-le, sets, sets-eq}
 use lib.Ieee.{Float, nan}
 use borrow.Rule.Slice.PartMut.{midOf, putMid}
 use Rattle.chunks.specs.Flat.{flat}
-use Rattle.chunks.proofs.Laws.{put-tail, tail-is}
+use Rattle.chunks.proofs.Laws.{put-tail, tail-is, take-tab}
 use Rattle.order.specs.Numbers.{fzero}
 use Rattle.myvec.specs.Vec.{vec}
 use Rattle.model.specs.declared.Particle.{Particle}
@@ -24,7 +24,7 @@ use Rattle.listing_text.specs.Columns.{columns, mostKept, kept}
 use Rattle.listing_text.specs.Grammar.{Grain, columnsOf}
 use Rattle.tables.specs.Inputs.{inputAt, inputsOf}
 use Rattle.listing_text.specs.Rows.{firstGrain, grainRows, grainsFrom}
-use Rattle.listing_text.proofs.Rows.{rows-flat, rows-back, some-are}
+use Rattle.listing_text.proofs.Rows.{rows-flat, rows-back}
 use Rattle.listing_text.proofs.Rows as text
 use Rattle.answers.specs.Answer.{float, grainFrom, shownGrain}
 
@@ -47,7 +47,7 @@ module _ {A B : Type 0} (f : A → B) (d : A) where
 
 -- ---- the first grain of a table, and its numbers over the first places
 pub first-grain : (g : List Float) → grainWide ≤ length g → midOf 0 (grainWide - 0) g ≡ grainReals (grainAt g)
-first-grain g h = some-are nan g 0 grainWide h
+first-grain g h = take-tab g nan grainWide 0 h
 
 pub shown-over : (l : List ℕ) (p q : Particle) → p ≡ q → columns ≤ length l → sets l 0 (columnsOf (shownGrain p)) ≡ columnsOf (shownGrain q) ++ drop columns l
 shown-over l p q e h = sets-eq (columnsOf (shownGrain p)) l 0 h ∙ ap (λ (x : Particle). columnsOf (shownGrain x) ++ drop columns l) e

@@ -92,7 +92,7 @@ accepted rate t r A e = from (checked-means rate t (sym (A .is) ∙ e))
         let L = legible-means z (t .lists) (t .queue) (b .0) in
         let f = fitted t (A .floats) in
         let F = says-stands (decoded t) f .means (b .1) in
-        record { sized = S; hold = record { sizes = refl; mark-is = refl; flags = (L .flag0, L .flag1); box-is = refl; clock-is = refl; body = held z t S L F }; stands = F }
+        record { sized = S; hold = record { sizes = refl; mark-is = refl; flags = L .flags; box-is = refl; clock-is = refl; body = held z t S L F }; stands = F }
 
 -- tables that pass check 2 pass it as a state
 pub sized-model : (t : Tables) → sized t ≡ true → model.sized (decoded t) ≡ true

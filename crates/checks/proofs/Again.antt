@@ -47,8 +47,7 @@ module _ (z : Sizes) (t : Tables) (s : State) (H : Hold z t s) where
   legible-held =
       let room = z .room in
       rw (
-        le-leb (getD (t .lists) 4 0) 1 (H .flags .0),
-        le-leb (getD (t .lists) 5 0) 1 (H .flags .1),
+        H .flags,
         ap (countsWithin homeRoom homeWide (z .grains)) (lists-cut z t s H) ∙ rows-counted homeRoom (s .homes) _ (H .body .listed .homes),
         ap (countsWithin memberRoom membersWide (z .cells)) (members-cut z t s H) ∙ rows-counted memberRoom (s .members) _ (H .body .listed .members),
         ap (countsWithin room (queueWide room) (z .cells)) (queue-cut z t s H)

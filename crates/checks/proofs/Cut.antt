@@ -7,7 +7,7 @@ use mathlib.Core.List.{List, [], _∷_}
 use mathlib.Core.Bool.{Bool, true, false}
 use lib.Dec.{leb}
 use lib.ListN.{length, getD, take, drop}
-use lib.Seq.{drop-cons, drop-drop}
+use lib.Seq.{drop-drop}
 use borrow.Author.Tests.{leb-true, le-leb, lt-leb}
 use borrow.Rule.Slice.PartMut.{midOf}
 use Rattle.halting.proofs.Bools.{and-l, and-r}
@@ -15,15 +15,6 @@ use Rattle.chunks.proofs.Laws.{tail-is, tail-long}
 use Rattle.tables.specs.Decode.{cut, cutBoth}
 use Rattle.checks.specs.Check.{countsWithin}
 use Rattle.checks.specs.Inside.{Rowed, First}
-
--- ---- some places of a list, one by one
-abbrev tab : {A : Type 0} → List A → A → ℕ → ℕ → List A
-tab l d zero i = []
-tab l d (suc n) i = getD l i d ∷ tab l d n (suc i)
-
-pub take-tab : {A : Type 0} (l : List A) (d : A) (n i : ℕ) → i + n ≤ length l → take n (drop i l) ≡ tab l d n i
-take-tab l d zero i h = refl
-take-tab {A} l d (suc n) i h = ap (take (suc n)) (drop-cons l i d (omega arith)) ∙ ap (λ (x : List A). getD l i d ∷ x) (take-tab l d n (suc i) (omega arith))
 
 -- of n records the first, and the others
 pub less-rows : (n w L : ℕ) → (n ≡ 0 → ⊥) → n * w ≤ L → (w ≤ L) × ((n - 1) * w ≤ L - w)

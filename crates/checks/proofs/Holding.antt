@@ -9,6 +9,7 @@ use mathlib.Core.Bool.{true}
 use lib.ListN.{length, getD, take, drop, length-append, length-drop, take-append-drop}
 use lib.Seq.{take-add, drop-drop, length-take-le}
 use lib.Ieee.{Float, nan}
+use Rattle.chunks.proofs.Laws.{take-tab}
 use Rattle.layout.specs.Widths.{listsHeadWide, grainsHeadWide, grainWide, homeRoom, memberRoom, membersWide, homeFrom, placeNumsWide, placeRealsWide, queueWide, eventsWide}
 use Rattle.halting.specs.Every.{All}
 use Rattle.halting.proofs.All.{all-of}
@@ -27,7 +28,7 @@ use Rattle.checks.specs.Check.{countsWithin}
 use Rattle.checks.specs.Inside.{Legible, Sized}
 use Rattle.tables.specs.Lengths.{listsNeed, grainsNeed}
 use Rattle.tables.specs.Bodies.{listsBody, grainsBody, queueBody, eventsBody, orderBody}
-use Rattle.checks.proofs.Cut.{take-tab, drop-next, cut-long, both-long, counted-at}
+use Rattle.checks.proofs.Cut.{drop-next, cut-long, both-long, counted-at}
 use Rattle.checks.proofs.OneRow.{row-read}
 
 -- ---- records that are read are those that were written

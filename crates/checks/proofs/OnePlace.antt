@@ -4,7 +4,6 @@ use Prim.Native.Nat.{ℕ, _+_, _-_, _≤_}
 use native.Mathlib.Omega.{arith}
 use mathlib.Core.List.{List, [], _∷_}
 use mathlib.Core.Bool.{Bool, true, false, _&&_}
-use lib.Dec.{leb}
 use lib.ListN.{length, getD, take, drop, take-append-drop, length-append}
 use lib.Ieee.{Float, nan, le}
 use borrow.Author.Tests.{eq-eqb}
@@ -15,11 +14,11 @@ use Rattle.model.specs.declared.Event.{Event}
 use Rattle.model.specs.declared.Event.the-variants.{InterParticleCollision, MoveToNeighbour, MoveOutOfCell, WallReflection, Synchronisation}
 use Rattle.model.specs.Events.{eventOf, finePlace}
 use Rattle.model.specs.Standing.{syncs, one-if}
-use Rattle.model.specs.Check.{all, rising, named, held, queueOk}
-use Rattle.chunks.proofs.Laws.{tail-is}
+use Rattle.model.specs.Check.{all, rising, named, kindOk, held, queueOk}
+use Rattle.chunks.proofs.Laws.{tail-is, take-tab}
 use Rattle.tables.specs.Holds.{Run}
 use Rattle.tables.specs.Decode.{placeAt, placesOf, queueAt}
-use Rattle.checks.proofs.Cut.{take-tab, both-take, both-long}
+use Rattle.checks.proofs.Cut.{both-take, both-long}
 
 -- ---- the tests of a list of places, step by step
 module _ (t : Float) {xs : List Place} where
@@ -51,17 +50,14 @@ syncs-most (x ∷ xs) = let h = syncs-most xs in let k = one-most (eventOf (x .k
 
 -- ---- the tests of one place, which was read
 module _ (n c : ℕ) (l : List ℕ) {s x : Place} (e : s ≡ x) where
-  abbrev Known : Place → Bool
-  Known y = leb 1 (y .kind) && leb (y .kind) 5
+  pub held-unknown : kindOk s ≡ false → false ≡ held n c l x
+  held-unknown k = rw (sym (ap kindOk e) ∙ k)
 
-  pub held-unknown : Known s ≡ false → false ≡ held n c l x
-  held-unknown k = rw (sym (ap Known e) ∙ k)
+  pub held-unfine : kindOk s ≡ true → finePlace s ≡ false → false ≡ held n c l x
+  held-unfine k f = rw (sym (ap kindOk e) ∙ k, sym (ap finePlace e) ∙ f)
 
-  pub held-unfine : Known s ≡ true → finePlace s ≡ false → false ≡ held n c l x
-  held-unfine k f = rw (sym (ap Known e) ∙ k, sym (ap finePlace e) ∙ f)
-
-  pub held-named : {r : Bool} → Known s ≡ true → finePlace s ≡ true → r ≡ named n c l (eventOf (s .kind) s) → r ≡ held n c l x
-  held-named k f g = rw (sym (ap Known e) ∙ k, sym (ap finePlace e) ∙ f) (g ∙ ap (λ (y : Place). named n c l (eventOf (y .kind) y)) e)
+  pub held-named : {r : Bool} → kindOk s ≡ true → finePlace s ≡ true → r ≡ named n c l (eventOf (s .kind) s) → r ≡ held n c l x
+  held-named k f g = rw (sym (ap kindOk e) ∙ k, sym (ap finePlace e) ∙ f) (g ∙ ap (λ (y : Place). named n c l (eventOf (y .kind) y)) e)
 
 -- ---- the place that two parts hold
 pub place-run : (q : List ℕ) (e : List Float) → 4 ≤ length q → 10 ≤ length e → Run (midOf 0 4 q) (midOf 0 10 e) (placeAt q e ∷ [])

@@ -8,7 +8,7 @@ use lib.Dec.{eqb, leb, ltb}
 use lib.ListN.{length, getD, take, drop, length-drop}
 use lib.Seq.{length-take-le}
 use lib.Ieee.{Float, lt}
-use borrow.Author.Tests.{eq-eqb, le-leb, leb-true, ltb-true}
+use borrow.Author.Tests.{eq-eqb, le-leb, ltb-true}
 use Rattle.layout.specs.Widths.{grainWide, homeRoom, memberRoom, homeWide, membersWide, queueWide, eventsWide, heapWide}
 use Rattle.halting.specs.Every.{every}
 use Rattle.halting.proofs.Tests.{true-every}
@@ -20,7 +20,7 @@ use Rattle.model.specs.Check.{settled, linked, queued, inverse, inOrder, heaped
 use Rattle.model.specs.Check as model
 use Rattle.model.proofs.Turns.{every-same}
 use Rattle.tables.specs.declared.Sizes.{Sizes}
-use Rattle.tables.specs.Decode.{Tables, mark, boxIn, clockIn, decodedBy, homesPart, membersPart, grainsPart, grainAt, grainsOf, rowAt, rowsOf, queueAt, queuesOf}
+use Rattle.tables.specs.Decode.{Tables, mark, boxIn, clockIn, decodedBy, homesPart, membersPart, grainsPart, grainAt, grainsOf, rowAt, rowsOf, queueAt, queuesOf, flagsFine}
 use Rattle.checks.specs.Check.{countsWithin, legibleBy, standing}
 use Rattle.checks.specs.Inside.{Sized, Legible}
 use Rattle.checks.proofs.Cut.{cut-long, both-long}
@@ -86,12 +86,11 @@ legible-means z l q e =
     let a = countsWithin homeRoom homeWide (z .grains) (homesPart l) in
     let b = countsWithin memberRoom membersWide (z .cells) (membersPart (z .grains) l) in
     let c = countsWithin (z .room) (queueWide (z .room)) (z .cells) q in
-    let f = and-l (leb (getD l 4 0) 1 && leb (getD l 5 0) 1) (a && (b && c)) e in
-    let r = and-r (leb (getD l 4 0) 1 && leb (getD l 5 0) 1) (a && (b && c)) e in
+    let f = and-l (flagsFine l) (a && (b && c)) e in
+    let r = and-r (flagsFine l) (a && (b && c)) e in
     let r2 = and-r a (b && c) r in
     record {
-      flag0 = leb-true _ _ (and-l (leb (getD l 4 0) 1) (leb (getD l 5 0) 1) f);
-      flag1 = leb-true _ _ (and-r (leb (getD l 4 0) 1) (leb (getD l 5 0) 1) f);
+      flags = f;
       homes = and-l a (b && c) r;
       members = and-l b c r2;
       events = and-r b c r2;

@@ -6,19 +6,20 @@ use mathlib.Core.List.{List}
 use mathlib.Core.Bool.{true}
 use lib.ListN.{length, getD}
 use Rattle.layout.specs.Widths.{countAt, rowWide, homeWide, membersWide, queueWide, homeRoom, memberRoom}
+use Rattle.model.specs.Sizes.{mostGrains, leastRoom, mostRoom, fewestCells, mostCells}
 use Rattle.tables.specs.declared.Sizes.{Sizes}
 use Rattle.tables.specs.Lengths.{listsNeed, grainsNeed, queueNeed, eventsNeed, orderNeed}
-use Rattle.tables.specs.Decode.{Tables, sizesOf, homesPart, membersPart}
+use Rattle.tables.specs.Decode.{Tables, sizesOf, flagsFine, homesPart, membersPart}
 use Rattle.checks.specs.Check.{countsWithin}
 
 -- check 2 is passed
 pub record Sized (z : Sizes) (t : Tables) : Type 0 where
   pub sizes : z ≡ sizesOf (t .lists)
-  pub grains-most : z .grains ≤ 256
-  pub cells-least : 9 ≤ z .cells
-  pub cells-most : z .cells ≤ 256
-  pub room-least : 16 ≤ z .room
-  pub room-most : z .room ≤ 256
+  pub grains-most : z .grains ≤ mostGrains
+  pub cells-least : fewestCells ≤ z .cells
+  pub cells-most : z .cells ≤ mostCells
+  pub room-least : leastRoom ≤ z .room
+  pub room-most : z .room ≤ mostRoom
   pub lists-long : listsNeed z ≤ length (t .lists)
   pub grains-long : grainsNeed z ≤ length (t .grains)
   pub queue-long : queueNeed z ≤ length (t .queue)
@@ -35,8 +36,7 @@ pub record First (v : ℕ) (l : List ℕ) : Type 0 where
   pub long : rowWide v ≤ length l
 
 pub record Legible (z : Sizes) (l q : List ℕ) : Type 0 where
-  pub flag0 : getD l 4 0 ≤ 1
-  pub flag1 : getD l 5 0 ≤ 1
+  pub flags : flagsFine l ≡ true
   pub homes : countsWithin homeRoom homeWide (z .grains) (homesPart l) ≡ true
   pub members : countsWithin memberRoom membersWide (z .cells) (membersPart (z .grains) l) ≡ true
   pub events : countsWithin (z .room) (queueWide (z .room)) (z .cells) q ≡ true

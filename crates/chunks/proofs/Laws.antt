@@ -1,4 +1,4 @@
--- A flat list as a row of chunks: laws of `flat`, of a part that is lent and comes back, and of the first of a list. Assumes nothing.
+-- A flat list as a row of chunks: laws of `flat`, of a part that is lent and comes back, of the first of a list, and of some places one by one. Assumes nothing.
 use mathlib.Core.Path.{_≡_, refl, sym, ap, _∙_, subst}
 use Prim.Native.Nat.{ℕ, zero, suc, _+_, _-_, _*_, _≤_, _<_}
 use native.Mathlib.Nat.{le-of-suc-le-suc, not-suc-le-zero, zero-mul, suc-mul, mul-le-mul-right, zero-add}
@@ -6,7 +6,7 @@ use native.Mathlib.Decide.{decLt}
 use native.Mathlib.Omega.{arith}
 use mathlib.Core.List.{List, [], _∷_, _++_, append-assoc, append-nil}
 use lib.ListN.{length, getD, set, take, drop, length-append, length-drop, drop-of-length-le}
-use lib.Seq.{take-at, take-all, drop-at, length-take-le, sets, sets-eq}
+use lib.Seq.{take-at, take-all, drop-at, drop-cons, length-take-le, sets, sets-eq}
 use borrow.Rule.Slice.PartMut.{midOf, putMid}
 use Rattle.halting.specs.Every.{All}
 use Rattle.halting.proofs.All.{all-at, all-take, all-always}
@@ -136,3 +136,12 @@ pub sets-all : {A : Type 0} (vs l : List A) → length l ≡ length vs → sets 
 sets-all {A} vs l e =
     sets-eq vs l 0 (let z = zero-add (length vs) in omega arith)
     ∙ ap (λ (r : List A). vs ++ r) (drop-of-length-le l {i = 0 + length vs} (let z = zero-add (length vs) in omega arith)) ∙ append-nil vs
+
+-- ---- some places of a list, one by one
+abbrev pub tab : {A : Type 0} → List A → A → ℕ → ℕ → List A
+tab l d zero i = []
+tab l d (suc n) i = getD l i d ∷ tab l d n (suc i)
+
+pub take-tab : {A : Type 0} (l : List A) (d : A) (n i : ℕ) → i + n ≤ length l → take n (drop i l) ≡ tab l d n i
+take-tab l d zero i h = refl
+take-tab {A} l d (suc n) i h = ap (take (suc n)) (drop-cons l i d (omega arith)) ∙ ap (λ (x : List A). getD l i d ∷ x) (take-tab l d n (suc i) (omega arith))

@@ -6,8 +6,9 @@ use native.Mathlib.Nat.{add-zero, le-of-suc-le-suc}
 use native.Mathlib.Numerals.{add-one}
 use native.Mathlib.Omega.{arith}
 use lib.ListN.{length, getD, take, drop, set, replicate, length-drop, replicate-append-replicate}
-use lib.Seq.{take-suc, drop-cons, take-append-add, drop-append-add, getD-drop}
+use lib.Seq.{take-suc, take-append-add, drop-append-add, getD-drop}
 use borrow.Rule.Slice.PartMut.{midOf}
+use Rattle.chunks.proofs.Laws.{take-tab}
 use Rattle.text.specs.Put.{Put, laid}
 use Rattle.text.proofs.Putting.{put-none, put-one, put-then, put-as, put-length}
 use Rattle.listing_text.specs.declared.reader.Reader.{Reader}
@@ -85,19 +86,10 @@ rows-back zero (g ∷ gs) h = absurd (omega arith)
 rows-back (suc k) (g ∷ gs) h = ap (λ (l : List Grain). g ∷ l) (grains-past (length gs) 0 g (grainRows k gs) ∙ rows-back k gs (le-of-suc-le-suc h))
 
 -- ---- a row's numbers
--- k places of a list, from j on
-abbrev pub some : {A : Type 0} → A → List A → ℕ → ℕ → List A
-some d l j zero = []
-some d l j (suc k) = getD l j d ∷ some d l (suc j) k
-
-pub some-are : {A : Type 0} (d : A) (l : List A) (j k : ℕ) → j + k ≤ length l → take k (drop j l) ≡ some d l j k
-some-are d l j zero h = refl
-some-are {A} d l j (suc k) h = ap (take (suc k)) (drop-cons l j d (omega arith)) ∙ ap (λ (m : List A). getD l j d ∷ m) (some-are d l (suc j) k (omega arith))
-
 pub row-numbers : (l : List ℕ) (i : ℕ) → i * columns + columns ≤ length l → midOf (i * columns) (i * columns + columns - i * columns) l ≡ columnsOf (rowGrain l i)
 row-numbers l i h =
     let e : i * columns + columns - i * columns ≡ columns = omega arith in
-    ap (λ (k : ℕ). midOf (i * columns) k l) e ∙ some-are 0 (drop (i * columns) l) 0 columns (omega (arith, length-drop (i * columns) l))
+    ap (λ (k : ℕ). midOf (i * columns) k l) e ∙ take-tab (drop (i * columns) l) 0 columns 0 (omega (arith, length-drop (i * columns) l))
 
 -- ---- a line's numbers put into the rows one by one: none, one more, all of them
 pub none-kept : (at : ℕ) (s : List ℕ) → at ≤ length s → Put at [] s s (at + 0)

@@ -16,7 +16,7 @@ use Rattle.model.specs.declared.Place.{Place}
 use Rattle.model.specs.declared.Event.{Event}
 use Rattle.model.specs.declared.Event.the-variants.{InterParticleCollision, MoveToNeighbour, MoveOutOfCell, WallReflection, Synchronisation}
 use Rattle.layout.specs.Widths.{homeRoom, memberRoom}
-use Rattle.model.specs.Sizes.{boxOk, countsOk, cellsOk, rated}
+use Rattle.model.specs.Sizes.{boxOk, countsOk, mostCells, cellsOk, rated}
 use Rattle.model.specs.Grid.{lengthOf, cells}
 use Rattle.model.specs.Events.{eventOf, finePlace}
 use Rattle.model.specs.State.{Row, State, queue, liveAt, heads, has}
@@ -75,8 +75,12 @@ named n c l (MoveOutOfCell p x k) = has p l && eqb k c
 named n c l (WallReflection p x v w) = has p l
 named n c l Synchronisation = eqb c 0
 
+-- its kind is one of the five, its floats are fine, and it names what it may
+abbrev pub kindOk : Place → Bool
+kindOk e = leb 1 (e .kind) && leb (e .kind) 5
+
 abbrev pub held : ℕ → ℕ → List ℕ → Place → Bool
-held n c l e = (leb 1 (e .kind) && leb (e .kind) 5) && (finePlace e && named n c l (eventOf (e .kind) e))
+held n c l e = kindOk e && (finePlace e && named n c l (eventOf (e .kind) e))
 
 abbrev pub queueOk : Float → ℕ → ℕ → ℕ → List ℕ → Row Place → Bool
 queueOk t room n c l r = eqb (length (r .live) + length (r .spare)) room && (rising t (r .live) && all (held n c l) (r .live))
@@ -106,7 +110,7 @@ abbrev pub shaped : State → Bool
 shaped s =
     counts s &&
     ((eqb (length (s .homes)) (length (s .grains)) && (eqb (length (s .members)) (s .sched .cells) && eqb (length (s .queues)) (s .sched .cells))) &&
-    (leb (s .sched .cells) 256 && (eqb (length (s .sched .heap)) 256 && eqb (length (s .sched .lookups)) 256)))
+    (leb (s .sched .cells) mostCells && (eqb (length (s .sched .heap)) 256 && eqb (length (s .sched .lookups)) 256)))
 
 -- ---- all of them
 unfoldable pub standing : State → Bool

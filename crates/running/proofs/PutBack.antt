@@ -99,12 +99,12 @@ module _ {rate : Float} {t : Tables} (A : Answered rate t 0) where
 
       lists-is : left .lists ≡ (encoded s t) .lists
       lists-is =
-          el ∙ lists-back (t .lists) l (t .grains) m (listsNeed (z A) - listsHeadWide) (let h = long A .lists-long in omega arith) (whole A .hold .flags) (ll ∙ mid-len 6 (listsNeed (z A)) (t .lists) (long A .lists-long))
+          el ∙ lists-back (t .lists) l (t .grains) m (listsNeed (z A) - listsHeadWide) (let h = long A .lists-long in omega arith) (whole A .hold .flags) (ll ∙ mid-len listsHeadWide (listsNeed (z A)) (t .lists) (long A .lists-long))
           ∙ λ i. over (listsHead ((em ∙ sym (G .mark)) i) (sizes-are i) (sym (G .box) i) ++ (G .holds .listed .is i)) (t .lists)
 
       grains-is : left .grains ≡ (encoded s t) .grains
       grains-is =
-          eg ∙ grains-back (t .lists) (t .grains) g x (grainsNeed (z A) - grainsHeadWide) (let h = long A .grains-long in omega arith) (lg ∙ mid-len 3 (grainsNeed (z A)) (t .grains) (long A .grains-long))
+          eg ∙ grains-back (t .lists) (t .grains) g x (grainsNeed (z A) - grainsHeadWide) (let h = long A .grains-long in omega arith) (lg ∙ mid-len grainsHeadWide (grainsNeed (z A)) (t .grains) (long A .grains-long))
           ∙ λ i. over (grainsHead (sym (G .box) i) ((ex ∙ sym (G .clock)) i) ++ (G .holds .grained .is i)) (t .grains)
 
       queue-is : left .queue ≡ (encoded s t) .queue

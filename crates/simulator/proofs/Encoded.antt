@@ -47,9 +47,11 @@ pub record Long (z : Sizes) (t : Tables) : Type 0 where
 over-long : {A : Type 0} (xs l : List A) (k : ℕ) → length xs ≡ k → k ≤ length l → length (over xs l) ≡ length l
 over-long xs l k e h = let a = length-append xs (drop (length xs) l) in let d = length-drop (length xs) l in omega (arith, a, d, e)
 
-flagged-small : (b : Bool) → flagged b ≤ 1
-flagged-small true = omega arith
-flagged-small false = omega arith
+flags-fit : (p q : Bool) → (leb (flagged p) 1 && leb (flagged q) 1) ≡ true
+flags-fit true true = refl
+flags-fit true false = refl
+flags-fit false true = refl
+flags-fit false false = refl
 
 flag-back : (b : Bool) → isSet (flagged b) ≡ b
 flag-back true = refl
@@ -106,7 +108,7 @@ module _ (s : State) (K : Sound s) where
     held = record {
       sizes = refl;
       mark-is = refl;
-      flags = (flagged-small (s .box .periodic0), flagged-small (s .box .periodic1));
+      flags = flags-fit (s .box .periodic0) (s .box .periodic1);
       box-is = λ i. boxOf (s .box .lengths) (flag-back (s .box .periodic0) i) (flag-back (s .box .periodic1) i);
       clock-is = refl;
       body = holds (take-at (flat rowNums (s .homes) ++ flat rowNums (s .members)) (drop (length lists-front) (t .lists)) (listsNeed (sizesIn s) - listsHeadWide) lists-many)

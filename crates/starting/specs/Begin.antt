@@ -7,6 +7,7 @@ use Rattle.halting.specs.Out.{Out}
 use Rattle.layout.specs.Widths.{inputWide, orderWide}
 use Rattle.model.specs.declared.Domain.{Domain}
 use Rattle.model.specs.Grid.{cells}
+use Rattle.model.specs.Sizes.{mostGrains, leastRoom, mostRoom}
 use Rattle.model.specs.State.{State, marked}
 use Rattle.model.specs.Start.{clear}
 use Rattle.cell.specs.declared.Grid.{Grid}
@@ -23,9 +24,9 @@ use Rattle.starting.specs.Cleared.{cleared}
 pub record Startable (z : Sizes) (b : Domain) (g : Grid) (inputs l t q e o : ℕ) : Type 0 where
   pub laid : Laid b g
   pub cells-are : z .cells ≡ cells b
-  pub grains-most : z .grains ≤ 256
-  pub room-least : 16 ≤ z .room
-  pub room-most : z .room ≤ 256
+  pub grains-most : z .grains ≤ mostGrains
+  pub room-least : leastRoom ≤ z .room
+  pub room-most : z .room ≤ mostRoom
   pub inputs-long : z .grains * inputWide ≤ inputs
   pub lists-long : listsNeed z ≤ l
   pub grains-long : grainsNeed z ≤ t

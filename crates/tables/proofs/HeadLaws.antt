@@ -1,13 +1,17 @@
 -- The headers: what stands there is the head of its own counts, box, mark and clock, and another mark or clock is another head. Assumes nothing.
 use Prim.Native.Nat.{ℕ, zero, suc, _≤_}
 use mathlib.Core.Path.{_≡_, refl, sym}
+use mathlib.Core.Bool.{true}
 use mathlib.Core.List.{List, [], _∷_, _++_}
 use native.Mathlib.Omega.{arith}
-use lib.ListN.{length, getD, drop}
+use lib.Dec.{leb}
+use lib.ListN.{length, drop}
 use lib.Ieee.{Float}
+use borrow.Author.Tests.{leb-true}
 use borrow.Rule.Slice.PartMut.{putMid}
+use Rattle.halting.proofs.Bools.{and-l, and-r}
 use Rattle.layout.specs.Widths.{listsHeadWide, grainsHeadWide}
-use Rattle.tables.specs.Decode.{isSet, sizesOf, boxIn}
+use Rattle.tables.specs.Decode.{isSet, sizesOf, boxIn, flagsFine}
 use Rattle.tables.specs.Encode.{flagged, listsHead, grainsHead, over, withMark, withClock}
 
 flag-is : (n : ℕ) → n ≤ 1 → n ≡ flagged (isSet n)
@@ -16,9 +20,9 @@ flag-is (suc zero) h = refl
 flag-is (suc (suc n)) h = absurd (omega arith)
 
 -- a part put back behind the header, and another mark
-pub lists-back : (l body : List ℕ) (t : List Float) (m k : ℕ) → listsHeadWide ≤ length l → (getD l 4 0 ≤ 1) × (getD l 5 0 ≤ 1) → length body ≡ k
+pub lists-back : (l body : List ℕ) (t : List Float) (m k : ℕ) → listsHeadWide ≤ length l → flagsFine l ≡ true → length body ≡ k
     → withMark m (putMid listsHeadWide k l body) ≡ over (listsHead m (sizesOf l) (boxIn l t) ++ body) l
-lists-back (a ∷ g ∷ c ∷ r ∷ p ∷ q ∷ l) body t m k h f e = λ i. m ∷ g ∷ c ∷ r ∷ flag-is p (f .0) i ∷ flag-is q (f .1) i ∷ (body ++ drop (sym e i) l)
+lists-back (a ∷ g ∷ c ∷ r ∷ p ∷ q ∷ l) body t m k h f e = λ i. m ∷ g ∷ c ∷ r ∷ flag-is p (leb-true p 1 (and-l (leb p 1) (leb q 1) f)) i ∷ flag-is q (leb-true q 1 (and-r (leb p 1) (leb q 1) f)) i ∷ (body ++ drop (sym e i) l)
 lists-back (a ∷ g ∷ c ∷ r ∷ p ∷ []) body t m k h f e = absurd (omega arith)
 lists-back (a ∷ g ∷ c ∷ r ∷ []) body t m k h f e = absurd (omega arith)
 lists-back (a ∷ g ∷ c ∷ []) body t m k h f e = absurd (omega arith)

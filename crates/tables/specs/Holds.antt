@@ -13,16 +13,17 @@ use Rattle.layout.specs.Widths.{heapWide, homeRoom, memberRoom}
 use Rattle.scheduler.specs.declared.Scheduler.{Scheduler}
 use Rattle.model.specs.declared.Particle.{Particle}
 use Rattle.model.specs.declared.Place.{Place}
+use Rattle.model.specs.Sizes.{mostGrains, mostRoom, mostCells}
 use Rattle.model.specs.State.{Row, State}
 use Rattle.tables.specs.declared.Sizes.{Sizes}
 use Rattle.tables.specs.Layout.{places, grainReals, rowNums, placeNums, placeReals, queueNums, queueReals, orderBytes}
 
 -- the counts are in range
 pub record Ranged (z : Sizes) : Type 0 where
-  pub grains-most : z .grains ≤ 256
-  pub cells-most : z .cells ≤ 256
+  pub grains-most : z .grains ≤ mostGrains
+  pub cells-most : z .cells ≤ mostCells
   pub room-some : 0 < z .room
-  pub room-most : z .room ≤ 256
+  pub room-most : z .room ≤ mostRoom
 
 -- ---- grains
 pub record Grained (z : Sizes) (t : List Float) (gs : List Particle) : Type 0 where

@@ -1,15 +1,14 @@
-// Events, and the places that hold them: a run of places is a part of each of two lent tables. No other file has a place's numbers, nor the numbers of the kinds.
+// Events, and the places that hold them: a run of places is a part of each of two lent tables. No other file has a place's numbers, but for the head's time, which the scheduler asks, nor the numbers of the kinds.
 ghost use mathlib.Core.Path.{_≡_};
 ghost use Prim.Native.Nat.{ℕ, _+_, _-_, _*_, _<_, _≤_};
 ghost use mathlib.Core.List.{List, _∷_, _++_};
-ghost use mathlib.Core.Bool.{_&&_};
-ghost use lib.Dec.{leb};
 ghost use lib.Ieee.{Float};
 ghost use lib.ListN.{length, replicate, getD, set};
 ghost use Rattle.layout.specs.Widths.{placeNumsWide, placeRealsWide};
 ghost use Rattle.model.specs.Events.{placeOf, eventOf, names, insertBy, keepBy, goneBy, zeroP, finePlace};
 ghost use Rattle.model.specs.declared.Place.{Place as PlaceV};
 ghost use Rattle.model.specs.Standing.{one-if};
+ghost use Rattle.model.specs.Check.{kindOk};
 ghost use Rattle.tables.specs.Decode.{placeAt};
 ghost use Rattle.tables.specs.Holds.{Run};
 ghost use Rattle.tables.specs.Places.{Passed, Keeping};
@@ -187,7 +186,7 @@ pub fn names_grain(s: Place, g: u64) -> bool
 
 // Is a place's kind one of the five?
 pub fn known_kind(s: Place) -> bool
-    ensures { λ r. ⌜ r ≡ (leb 1 (s .kind) && leb (s .kind) 5) ⌝ }
+    ensures { λ r. ⌜ r ≡ kindOk s ⌝ }
 {
     if s.kind < 1 {
         return false;

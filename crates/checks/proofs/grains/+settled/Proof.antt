@@ -3,10 +3,11 @@ use mathlib.Core.Path.{sym, ap, _∙_}
 use borrow.Author.Tests.{not-true, not-false}
 use lib.ListN.{length}
 use lib.Ieee.{nan}
+use Rattle.chunks.proofs.Laws.{take-tab}
 use Rattle.layout.specs.Widths.{grainWide}
 use Rattle.tables.specs.Decode.{grainAt}
 use Rattle.model.specs.Check.{timely}
-use Rattle.checks.proofs.Cut.{take-tab, less-rows, cut-none, cut-step}
+use Rattle.checks.proofs.Cut.{less-rows, cut-none, cut-step}
 use Rattle.checks.proofs.Lists.{all-none, all-no, all-more}
 use borrow.Author.Needs.{needs}
 use Prim.Native.Nat.{ℕ, _<_}

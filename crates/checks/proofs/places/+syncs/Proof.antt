@@ -1,5 +1,5 @@
 -- `places::syncs` meets its contract. Assumes nothing.
-use mathlib.Core.Path.{_≡_, sym, _∙_}
+use mathlib.Core.Path.{sym, _∙_}
 use Rattle.checks.proofs.Cut.{less-rows, both-none, both-step, both-long}
 use Rattle.checks.proofs.OnePlace.{syncs-none, syncs-step, syncs-most, one-most}
 use Rattle.layout.specs.Widths.{placeNumsWide, placeRealsWide}
@@ -19,10 +19,6 @@ use Rattle.checks.proofs.places.+syncs.Lts-syncs as syncs-lts
 use Rattle.tables.proofs.places.first_sync.Reads as first-sync-reads
 use Rattle.checks.proofs.places.+syncs.{statement}
 use Rattle.checks.proofs.places.+syncs.Tie.{close}
-
--- two summands, each the same
-both : {a b c d : ℕ} → a ≡ b → c ≡ d → a + c ≡ b + d
-both e f = rw (e, f)
 
 abbrev μ-syncs : Measures 1 syncs-kinds.ps ℕ
 μ-syncs κs a = a .1 .0
@@ -92,7 +88,7 @@ syncs-returns-2 t c =
     let first : syncs-lts.After-first-sync (Rd t) (syncs-at t) syncs.Post = search in
     let else1 : syncs-lts.Else1 (Rd t) (syncs-at t) syncs.Post = search in
     let b : syncs-lts.Start (Rd t) (syncs-at t) syncs.Post = search in
-    λ e. both (first .first-sync .ensures e) (others .syncs .ensures (midOf placeRealsWide (length e - placeRealsWide) e))
+    λ e. (λ t. first .first-sync .ensures e t + others .syncs .ensures (midOf placeRealsWide (length e - placeRealsWide) e) t)
     ∙ sym (syncs-step _ _ (both-step placeAt placeNumsWide placeRealsWide (b .args .k) (b .args .nums .now) e (else1 .if1 .left)))
 
 pub +syncs-spec : {M : Type 1} → statement M
