@@ -192,6 +192,11 @@ impl Simulation {
         })
     }
 
+    /// The time of a cell's first event, [`pending`](Simulation::pending)'s first; `None` where it holds none.
+    pub fn head_time(&self, cell: u64) -> Option<f64> {
+        self.pending(cell).next().map(|event| event.time)
+    }
+
     /// The heap: as many cell numbers as there are cells, the one with the earliest event first.
     pub fn heap(&self) -> &[u8] {
         self.places(0)

@@ -138,7 +138,8 @@ fn what_is_longer_than_needed_is_left_alone() {
 fn read_all(s: &Simulation) -> usize {
     let few = |n: u64| (0..n.min(300)).chain([n, u64::MAX / 9, u64::MAX - 1, u64::MAX]);
     let grains: usize = few(s.count()).map(|g| s.cells_of(g).len() + s.grain(g).iter().count()).sum();
-    let cells: usize = few(s.cells()).map(|c| s.grains_of(c).len() + s.pending(c).count()).sum();
+    let events = |c| s.pending(c).count() + s.head_time(c).iter().count();
+    let cells: usize = few(s.cells()).map(|c| s.grains_of(c).len() + events(c)).sum();
     std::hint::black_box((s.domain(), s.clock(), s.mark(), s.room(), s.halted()));
     grains + cells + s.grains().count() + s.heap().len() + s.lookups().len()
 }

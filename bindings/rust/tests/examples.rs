@@ -81,6 +81,24 @@ fn moves_to_a_neighbour_and_out() {
 }
 
 #[test]
+fn an_empty_cell_has_no_head_time() {
+    let mut simulation = started([true; 2], &[grain(4.5, 4.5, 1., 0.)]);
+    let heads = |s: &Simulation| (0..=s.cells()).map(|cell| s.head_time(cell)).collect::<Vec<_>>();
+    // cell 0 holds the synchronisation, the centre cell what the grain does next; 9 is past the cells
+    let mut expected = vec![None; 10];
+    (expected[0], expected[4]) = (Some(0.), Some(1.));
+    assert_eq!(heads(&simulation), expected);
+    // three synchronisations later it is 1.5, and the grain is in cell 5 too
+    (0..3).for_each(|_| assert!(simulation.run(0.75, 10).is_ok()));
+    (expected[0], expected[4], expected[5]) = (Some(2.25), Some(2.), Some(4.));
+    assert_eq!(heads(&simulation), expected);
+    // at time 2 it leaves the centre cell, which is empty again
+    simulation.run(0.75, 10).unwrap();
+    (expected[0], expected[4]) = (Some(3.), None);
+    assert_eq!(heads(&simulation), expected);
+}
+
+#[test]
 fn a_wall_reflects() {
     let walls = |x| started([false; 2], &[grain(x, 4.5, 1., 0.)]).pending(5).collect::<Vec<_>>();
     // the high wall's value is 1, so the new one is 0.75

@@ -12,8 +12,8 @@ use Rattle.model.proofs.Sound.{Sound}
 use Rattle.halting.proofs.All.{all-of}
 use Rattle.tables.specs.declared.Sizes.{Sizes}
 use Rattle.tables.specs.Layout.{queueNums, queueReals, orderBytes}
-use Rattle.tables.specs.Holds.{Good, Ranged, Queued}
-use Rattle.tables.proofs.Runs.{good-of}
+use Rattle.tables.specs.Holds.{Full, Ranged, Queued}
+use Rattle.tables.proofs.Runs.{full-of}
 
 module _ {z : Sizes} (s : State) (k : Sound s) (eg : length (s .grains) ≡ z .grains) (ec : cells (s .box) ≡ z .cells) (er : s .room ≡ z .room) where
   pub sound-ranged : Ranged z
@@ -32,8 +32,8 @@ module _ {z : Sizes} (s : State) (k : Sound s) (eg : length (s .grains) ≡ z .g
       queue-is = en;
       events-is = ef;
       many = k .long ∙ ec;
-      good = all-of (Good (z .room)) none (s .queues)
-          (λ c h. subst (λ (n : ℕ). Good n (getD (s .queues) c none)) er (good-of (cells (s .box)) c (listed s c) (getD (s .queues) c none) (k .queues c (omega (arith, k .long)))));
+      full = all-of (Full (z .room)) none (s .queues)
+          (λ c h. subst (λ (n : ℕ). Full n (getD (s .queues) c none)) er (full-of (cells (s .box)) c (listed s c) (getD (s .queues) c none) (k .queues c (omega (arith, k .long)))));
     };
     heap = record { is = eo; heap-long = k .heap .inverse .heap-long; lookups-long = k .heap .inverse .lookups-long; cells-is = k .heap .cells ∙ ec };
     room-is = er;

@@ -1,26 +1,28 @@
 -- The tables of all cells' events with the heap's, and each act on them: one row is lent and put back, then the heap is updated. Assumes nothing.
 use mathlib.Core.Path.{_≡_, refl, sym, ap, _∙_, subst}
 use Prim.Native.Nat.{ℕ, zero, suc, _+_, _-_, _*_, _≤_, _<_}
-use native.Mathlib.Nat.{suc-ne-zero, suc-mul, zero-mul}
+use native.Mathlib.Nat.{suc-ne-zero, suc-mul, zero-mul, mul-le-mul-right}
 use native.Mathlib.Omega.{arith}
+use native.Mathlib.Decide.{decLe}
 use mathlib.Core.List.{List, [], _∷_, _++_}
 use mathlib.Core.Bool.{Bool, true, false, not, cond}
-use lib.Dec.{eqb, ltb}
-use lib.ListN.{length, getD, set, length-set, List·getD-append}
+use lib.Dec.{ltb}
+use lib.ListN.{length, getD, set, length-set, List·getD-append, List·getD-eq-default}
 use lib.Seq.{getD-set-same, getD-append-add}
-use lib.Ieee.{Float, lt}
-use borrow.Author.Tests.{le-ltb, lt-ltb, ne-eqb}
+use lib.Ieee.{Float, nan}
+use borrow.Author.Tests.{le-ltb, lt-ltb}
 use Rattle.halting.specs.Out.{Out, out}
 use Rattle.halting.specs.Every.{All}
 use Rattle.halting.proofs.All.{all-at, all-set}
 use Rattle.halting.proofs.Bools.{clash}
 use Rattle.chunks.specs.Flat.{flat}
 use Rattle.chunks.proofs.Laws.{length-flat, chunk-mid, chunk-put}
-use Rattle.order.specs.Numbers.{f64Max}
-use Rattle.order.proofs.Compare.{lt-irrefl}
+use Rattle.scheduler.specs.declared.head.Head.{Head}
+use Rattle.scheduler.specs.declared.head.Head.the-variants.{At}
+use Rattle.scheduler.proofs.Heads.{head-none, head-some}
 use Rattle.scheduler.specs.declared.Scheduler.{Scheduler}
 use Rattle.scheduler.specs.Heap.{updated}
-use Rattle.scheduler.specs.Inside.{headIn, Fit}
+use Rattle.scheduler.specs.Inside.{headIn}
 use Rattle.layout.specs.Widths.{queueWide, eventsWide, queueFrom, eventsFrom, orderWide}
 use Rattle.model.specs.declared.Place.{Place}
 use Rattle.model.specs.Events.{headTime, headPlace, finePlace}
@@ -29,7 +31,7 @@ use Rattle.model.specs.Acts.{insert, inserted, cancelled, first, head, taken}
 use Rattle.tables.specs.declared.Sizes.{Sizes}
 use Rattle.tables.specs.declared.parts.Part.{Part}
 use Rattle.tables.specs.Layout.{places, placeReals, queueNums, queueReals, orderBytes}
-use Rattle.tables.specs.Holds.{Ranged, Good, Tabled, Queued, Told}
+use Rattle.tables.specs.Holds.{Ranged, Full, Tabled, Queued, Told}
 use Rattle.tables.specs.Decode.{schedulerOf}
 use Rattle.tables.specs.Parts.{lent, back}
 use Rattle.tables.specs.Rows.{countIn}
@@ -39,7 +41,7 @@ use Rattle.tables.proofs.RowLaws.{live-most}
 use Rattle.tables.proofs.HeapLaws.{heaped-is, heaped-long}
 use Rattle.acts.specs.declared.queue.CellRow.{CellRow}
 use Rattle.acts.specs.Queues.{numsPart, realsPart, RowOf}
-use Rattle.acts.proofs.Rows.{good-placed, good-without, good-headless}
+use Rattle.acts.proofs.Rows.{full-placed, full-without, full-headless}
 use Rattle.acts.proofs.Updates.{heaped-new}
 
 -- what a negated test says of the definition that a call's answer is
@@ -68,55 +70,56 @@ flat-get enc w (x ∷ xs) zero d z p v e =
 flat-get enc w (x ∷ xs) (suc c) d z p v e =
     ap (λ k. getD (enc x ++ flat enc xs) k d) (let s = suc-mul c w in omega (arith, v .0)) ∙ getD-append-add (enc x) (flat enc xs) (c * w) d ∙ flat-get enc w xs c d z p (v .1) e
 
-head-first : (l s : List Place) → cond (eqb (length l) 0) f64Max (getD (flat placeReals (l ++ s)) 0 f64Max) ≡ headTime l
-head-first [] s = refl
-head-first (x ∷ l) s = ap (λ (b : Bool). cond b f64Max (x .time)) (ne-eqb (suc (length l)) 0 (suc-ne-zero (length l)))
-
-head-top : (l : List Place) → All (λ (p : Place). lt f64Max (p .time) ≡ false) l → lt f64Max (headTime l) ≡ false
-head-top [] v = lt-irrefl f64Max
-head-top (x ∷ l) v = v .0
-
-tops-at : (room : ℕ) (rs : List (Row Place)) → All (Good room) rs → (c : ℕ) → lt f64Max (headTime (liveAt rs c)) ≡ false
-tops-at room [] u c = lt-irrefl f64Max
-tops-at room (r ∷ rs) u zero = head-top (r .live) (u .0 .tops)
-tops-at room (r ∷ rs) u (suc c) = tops-at room rs (u .1) c
-
 module _ {z : Sizes} {nums : List ℕ} {reals : List Float} {qs : List (Row Place)} (t : Tabled z nums reals qs) where
   inside : (c : ℕ) → c < z .cells → c < length qs
   inside c h = omega (arith, t .many)
 
   -- the tables' lengths
   pub queue-long : length nums ≡ queueFrom (z .room) (z .cells)
-  queue-long = ap length (t .queue-is) ∙ length-flat queueNums (queueWide (z .room)) qs (rows-nums-wide (z .room) qs (t .good)) ∙ ap (λ (m : ℕ). m * queueWide (z .room)) (t .many)
+  queue-long = ap length (t .queue-is) ∙ length-flat queueNums (queueWide (z .room)) qs (rows-nums-wide (z .room) qs (t .full)) ∙ ap (λ (m : ℕ). m * queueWide (z .room)) (t .many)
 
   pub events-long : length reals ≡ eventsFrom (z .room) (z .cells)
-  events-long = ap length (t .events-is) ∙ length-flat queueReals (eventsWide (z .room)) qs (rows-reals-wide (z .room) qs (t .good)) ∙ ap (λ (m : ℕ). m * eventsWide (z .room)) (t .many)
+  events-long = ap length (t .events-is) ∙ length-flat queueReals (eventsWide (z .room)) qs (rows-reals-wide (z .room) qs (t .full)) ∙ ap (λ (m : ℕ). m * eventsWide (z .room)) (t .many)
 
-  pub good-at : (c : ℕ) → c < z .cells → Good (z .room) (getD qs c none)
-  good-at c h = all-at (Good (z .room)) qs c none (t .good) (inside c h)
+  pub full-at : (c : ℕ) → c < z .cells → Full (z .room) (getD qs c none)
+  full-at c h = all-at (Full (z .room)) qs c none (t .full) (inside c h)
 
   -- how many events a cell holds
   pub count-at : (c : ℕ) → getD nums (queueFrom (z .room) c) 0 ≡ length (liveAt qs c)
-  count-at c = ap (λ (l : List ℕ). getD l (queueFrom (z .room) c) 0) (t .queue-is) ∙ flat-get queueNums (queueWide (z .room)) qs c 0 none (omega arith) (rows-nums-wide (z .room) qs (t .good)) refl
+  count-at c = ap (λ (l : List ℕ). getD l (queueFrom (z .room) c) 0) (t .queue-is) ∙ flat-get queueNums (queueWide (z .room)) qs c 0 none (omega arith) (rows-nums-wide (z .room) qs (t .full)) refl
 
-  -- each cell's head time, also past the cells
+  -- the first event of a cell that holds some
+  time-at : 0 < z .room → (c : ℕ) (x : Place) (l : List Place) → liveAt qs c ≡ x ∷ l → getD reals (eventsFrom (z .room) c) nan ≡ x .time
+  time-at k c x l e =
+      ap (λ (l : List Float). getD l (eventsFrom (z .room) c) nan) (t .events-is) ∙ flat-get queueReals (eventsWide (z .room)) qs c nan none (omega arith) (rows-reals-wide (z .room) qs (t .full)) refl
+      ∙ ap (λ (m : List Place). getD (flat placeReals (m ++ (getD qs c none) .spare)) 0 nan) e
+
+  holds-in : (c : ℕ) (x : Place) (l : List Place) → liveAt qs c ≡ x ∷ l → c < length qs
+  holds-in c x l e = elim (decLe (length qs) c) [
+    | yes o ↦ absurd (suc-ne-zero (length l) (ap length (sym e ∙ ap (λ (r : Row Place). r .live) (List·getD-eq-default qs none o))))
+    | no n ↦ omega arith
+  ]
+
+  time-in : 0 < z .room → (c : ℕ) → c < length qs → eventsFrom (z .room) c < length reals
+  time-in k c h =
+      let e : length reals ≡ length qs * eventsWide (z .room) = events-long ∙ ap (λ (m : ℕ). m * eventsWide (z .room)) (sym (t .many)) in
+      let s = suc-mul c (eventsWide (z .room)) in
+      let m = mul-le-mul-right (eventsWide (z .room)) h in
+      omega arith
+
+  -- each cell's head, also past the cells
   pub heads-at : 0 < z .room → (c : ℕ) → headIn reals nums (z .room) c ≡ heads qs c
-  unfolding headIn heads
-  heads-at k c =
-      ap (λ (n : ℕ). cond (eqb n 0) f64Max (getD reals (eventsFrom (z .room) c) f64Max)) (count-at c)
-      ∙ ap (λ (x : Float). cond (eqb (length (liveAt qs c)) 0) f64Max x)
-      (ap (λ (l : List Float). getD l (eventsFrom (z .room) c) f64Max) (t .events-is) ∙ flat-get queueReals (eventsWide (z .room)) qs c f64Max none (omega arith) (rows-reals-wide (z .room) qs (t .good)) refl)
-      ∙ head-first (liveAt qs c) ((getD qs c none) .spare)
+  unfolding heads
+  heads-at k c = by (liveAt qs c) refl
+    where
+      by : (l : List Place) → liveAt qs c ≡ l → headIn reals nums (z .room) c ≡ heads qs c
+      by [] e = head-none reals nums (z .room) c (count-at c ∙ ap length e) ∙ sym (ap headTime e)
+      by (x ∷ l) e =
+          head-some reals nums (z .room) c (time-in k c (holds-in c x l e)) (λ w. suc-ne-zero (length l) (sym (ap length e) ∙ sym (count-at c) ∙ w))
+          ∙ ap At (time-at k c x l e) ∙ sym (ap headTime e)
 
   pub heads-are : 0 < z .room → headIn reals nums (z .room) ≡ heads qs
   heads-are k = λ i c. heads-at k c i
-
-  pub heads-fit : Ranged z → (h : Scheduler) → h .cells ≡ z .cells → Fit (headIn reals nums (z .room)) h
-  unfolding heads
-  heads-fit k h e = record {
-    room = omega (arith, k .cells-most);
-    top = λ c. subst (λ (x : Float). lt f64Max x ≡ false) (sym (heads-at (k .room-some) c)) (tops-at (z .room) qs (t .good) c);
-  }
 
 -- ---- one cell's row
 module _ {z : Sizes} {nums : List ℕ} {reals : List Float} {qs : List (Row Place)} (t : Tabled z nums reals qs) {c : ℕ} {k : CellRow} (K : RowOf z nums reals c k) (h : c < z .cells) where
@@ -138,8 +141,8 @@ module _ {z : Sizes} {nums : List ℕ} {reals : List Float} {qs : List (Row Plac
   -- the parts hold it
   pub row-at : RowIn (lent (numsPart k) nums) (lent (realsPart k) reals) old
   row-at = record {
-    nums-is = chunk-mid queueNums (queueWide (z .room)) qs c none (k .a) (k .b - k .a) (rows-nums-wide (z .room) qs (t .good)) (inside t c h) (t .queue-is) nums-from nums-wide;
-    reals-is = chunk-mid queueReals (eventsWide (z .room)) qs c none (k .p) (k .q - k .p) (rows-reals-wide (z .room) qs (t .good)) (inside t c h) (t .events-is) reals-from reals-wide;
+    nums-is = chunk-mid queueNums (queueWide (z .room)) qs c none (k .a) (k .b - k .a) (rows-nums-wide (z .room) qs (t .full)) (inside t c h) (t .queue-is) nums-from nums-wide;
+    reals-is = chunk-mid queueReals (eventsWide (z .room)) qs c none (k .p) (k .q - k .p) (rows-reals-wide (z .room) qs (t .full)) (inside t c h) (t .events-is) reals-from reals-wide;
   }
 
   pub row-count : countIn (lent (numsPart k) nums) ≡ length (old .live)
@@ -149,15 +152,15 @@ module _ {z : Sizes} {nums : List ℕ} {reals : List Float} {qs : List (Row Plac
   count-there = let e = ap length (row-at .nums-is) in omega arith
 
   pub row-few : z .room ≤ 256 → length (places old) ≤ 256
-  row-few m = let f = good-at t c h .full in omega arith
+  row-few m = let f = full-at t c h in omega arith
 
   -- with another row put there the tables hold that one
-  pub put-row : (r : Row Place) {ns : List ℕ} {rs : List Float} → Good (z .room) r → RowIn ns rs r → Tabled z (back (numsPart k) nums ns) (back (realsPart k) reals rs) (set qs c r)
+  pub put-row : (r : Row Place) {ns : List ℕ} {rs : List Float} → Full (z .room) r → RowIn ns rs r → Tabled z (back (numsPart k) nums ns) (back (realsPart k) reals rs) (set qs c r)
   put-row r g u = record {
-    queue-is = chunk-put queueNums (queueWide (z .room)) qs c none r (k .a) (k .b - k .a) (rows-nums-wide (z .room) qs (t .good)) (inside t c h) (t .queue-is) nums-from nums-wide (u .nums-is);
-    events-is = chunk-put queueReals (eventsWide (z .room)) qs c none r (k .p) (k .q - k .p) (rows-reals-wide (z .room) qs (t .good)) (inside t c h) (t .events-is) reals-from reals-wide (u .reals-is);
+    queue-is = chunk-put queueNums (queueWide (z .room)) qs c none r (k .a) (k .b - k .a) (rows-nums-wide (z .room) qs (t .full)) (inside t c h) (t .queue-is) nums-from nums-wide (u .nums-is);
+    events-is = chunk-put queueReals (eventsWide (z .room)) qs c none r (k .p) (k .q - k .p) (rows-reals-wide (z .room) qs (t .full)) (inside t c h) (t .events-is) reals-from reals-wide (u .reals-is);
     many = length-set qs c r ∙ t .many;
-    good = all-set (Good (z .room)) qs c r (t .good) g;
+    full = all-set (Full (z .room)) qs c r (t .full) g;
   }
 
 -- ---- the state, after one cell's row and the heap are renewed
@@ -166,7 +169,7 @@ head-here : (s : State) (c : ℕ) (r : Row Place) → c < length (s .queues) →
 unfolding heads
 head-here s c r h = ap (λ (x : Row Place). headTime (x .live)) (getD-set-same (s .queues) c r none h)
 
-pub requeued-held : {z : Sizes} {nums ns : List ℕ} {reals rs : List Float} {order order₁ : List ℕ} (s : State) (c : ℕ) (r : Row Place) (before : Float)
+pub requeued-held : {z : Sizes} {nums ns : List ℕ} {reals rs : List Float} {order order₁ : List ℕ} (s : State) (c : ℕ) (r : Row Place) (before : Head)
     → Queued z nums reals order s → c < z .cells → before ≡ headIn reals nums (z .room) c
     → Tabled z ns rs (set (s .queues) c r)
     → order₁ ≡ orderBytes (updated (headIn rs ns (z .room)) (schedulerOf (z .cells) order) c before (headIn rs ns (z .room) c))
@@ -181,9 +184,9 @@ requeued-held {z = z} {order = order} s c r before q h eb t e =
       tables = t;
       heap = heaped-new (heads qs) c (heads (s .queues) c) (headTime (r .live)) (q .heap)
           (e
-          ∙ ap (λ (f : ℕ → Float). orderBytes (updated f (schedulerOf (z .cells) order) c before (f c))) (heads-are t some)
-          ∙ ap (λ (b : Float). orderBytes (updated (heads qs) (schedulerOf (z .cells) order) c b (heads qs c))) (eb ∙ heads-at (q .tables) some c)
-          ∙ ap (λ (a : Float). orderBytes (updated (heads qs) (schedulerOf (z .cells) order) c (heads (s .queues) c) a)) here
+          ∙ ap (λ (f : ℕ → Head). orderBytes (updated f (schedulerOf (z .cells) order) c before (f c))) (heads-are t some)
+          ∙ ap (λ (b : Head). orderBytes (updated (heads qs) (schedulerOf (z .cells) order) c b (heads qs c))) (eb ∙ heads-at (q .tables) some c)
+          ∙ ap (λ (a : Head). orderBytes (updated (heads qs) (schedulerOf (z .cells) order) c (heads (s .queues) c) a)) here
           ∙ ap (λ (x : Scheduler). orderBytes (updated (heads qs) x c (heads (s .queues) c) (headTime (r .live)))) (heaped-is (q .heap)));
       room-is = q .room-is;
     }
@@ -195,8 +198,8 @@ module _ {z : Sizes} {nums : List ℕ} {reals : List Float} {order : List ℕ} {
   row-asks = (q .ranged, h, queue-long (q .tables), events-long (q .tables))
 
   pub update-asks : {ns : List ℕ} {rs : List Float} {qs : List (Row Place)} → Tabled z ns rs qs
-      → (length order ≡ orderWide) × Fit (headIn rs ns (z .room)) (schedulerOf (z .cells) order) × (c < 256) × (z .room ≤ 256)
-  update-asks t = (heaped-long (q .heap), heads-fit t (q .ranged) (schedulerOf (z .cells) order) refl, omega (arith, q .ranged .cells-most), q .ranged .room-most)
+      → (length order ≡ orderWide) × (z .cells ≤ 256) × (c < 256) × (z .room ≤ 256)
+  update-asks t = (heaped-long (q .heap), q .ranged .cells-most, omega (arith, q .ranged .cells-most), q .ranged .room-most)
 
 -- what a leaf on rows makes of any row that the parts hold
 abbrev pub Makes : (Row Place → Row Place) → List ℕ → List Float → List ℕ → List Float → Type 0
@@ -229,7 +232,7 @@ module _ {z : Sizes} {nums : List ℕ} {reals : List Float} {order : List ℕ} (
       getD (s .queues) c none,
       row-at (q .tables) K h,
       row-few (q .tables) K h (q .ranged .room-most),
-      let n = row-count (q .tables) K h in let m = good-at (q .tables) c h .full in omega arith,
+      let n = row-count (q .tables) K h in let m = full-at (q .tables) c h in omega arith,
     )
 
     pub insert-tables : {ns : List ℕ} {rs : List Float} → countIn (lent (numsPart k) nums) < z .room
@@ -238,7 +241,7 @@ module _ {z : Sizes} {nums : List ℕ} {reals : List Float} {order : List ℕ} (
     insert-tables l done =
         let r : Row Place = getD (s .queues) c none in
         let n = row-count (q .tables) K h in
-        put-row (q .tables) K h (placed e r) (good-placed e (r .live) (r .spare) (good-at (q .tables) c h) f (omega arith)) (done r (row-at (q .tables) K h))
+        put-row (q .tables) K h (placed e r) (full-placed e (r .live) (r .spare) (full-at (q .tables) c h) (omega arith)) (done r (row-at (q .tables) K h))
 
     pub insert-done : {ns : List ℕ} {rs : List Float} {order₁ : List ℕ} → countIn (lent (numsPart k) nums) < z .room
         → Tabled z ns rs (set (s .queues) c (placed e (getD (s .queues) c none)))
@@ -261,7 +264,7 @@ module _ {z : Sizes} {nums : List ℕ} {reals : List Float} {order : List ℕ} (
       → Tabled z (back (numsPart k) nums ns) (back (realsPart k) reals rs) (set (s .queues) c (without g (getD (s .queues) c none)))
   cancel-tables done =
       let r : Row Place = getD (s .queues) c none in
-      put-row (q .tables) K h (without g r) (good-without g r (good-at (q .tables) c h)) (done r (row-at (q .tables) K h))
+      put-row (q .tables) K h (without g r) (full-without g r (full-at (q .tables) c h)) (done r (row-at (q .tables) K h))
 
   pub cancel-done : {ns : List ℕ} {rs : List Float} {order₁ : List ℕ} → Tabled z ns rs (set (s .queues) c (without g (getD (s .queues) c none)))
       → order₁ ≡ orderBytes (updated (headIn rs ns (z .room)) (schedulerOf (z .cells) order) c (k .head) (headIn rs ns (z .room) c))
@@ -287,7 +290,7 @@ module _ {z : Sizes} {nums : List ℕ} {reals : List Float} {order : List ℕ} (
       → Tabled z (back (numsPart k) nums ns) (back (realsPart k) reals rs) (set (s .queues) c (headless (getD (s .queues) c none)))
   take-tables got =
       let r : Row Place = getD (s .queues) c none in
-      put-row (q .tables) K h (headless r) (good-headless (r .live) (r .spare) some-there (good-at (q .tables) c h)) (got r (row-at (q .tables) K h) .1)
+      put-row (q .tables) K h (headless r) (full-headless (r .live) (r .spare) some-there (full-at (q .tables) c h)) (got r (row-at (q .tables) K h) .1)
 
   pub take-done : {ns ns₁ : List ℕ} {rs rs₁ : List Float} {order₁ : List ℕ} {x : Place} → Takes x (lent (numsPart k) nums) (lent (realsPart k) reals) ns₁ rs₁
       → Tabled z ns rs (set (s .queues) c (headless (getD (s .queues) c none)))

@@ -4,9 +4,10 @@ use Prim.Native.Nat.{ℕ, _+_}
 use mathlib.Core.Bool.{Bool, true, false}
 use mathlib.Core.List.{List}
 use lib.ListN.{length, getD, take}
-use lib.Ieee.{Float, lt}
 use borrow.Rule.Slice.PartMut.{midOf}
 use Rattle.scheduler.specs.declared.Scheduler.{Scheduler}
+use Rattle.scheduler.specs.declared.head.Head.{Head}
+use Rattle.scheduler.specs.Head.{earlier}
 use Rattle.scheduler.specs.Heap.{updated}
 use Rattle.scheduler.proofs.Laws.{downshifted-stays, upshifted-stays}
 use Rattle.scheduler.proofs.Inverse.{updated-cells, updated-long}
@@ -19,29 +20,29 @@ use Rattle.tables.proofs.HeapLaws.{kept, lookup-at}
 use Rattle.acts.specs.Queues.{shiftedTo}
 
 -- ---- an update that moves nothing
-update-stays : (h : ℕ → Float) (s : Scheduler) (cell : ℕ) (before after : Float)
-    → shiftedTo h (s .heap) (s .cells) (getD (s .lookups) cell 0) (lt before after) ≡ getD (s .lookups) cell 0 → updated h s cell before after ≡ s
+update-stays : (h : ℕ → Head) (s : Scheduler) (cell : ℕ) (before after : Head)
+    → shiftedTo h (s .heap) (s .cells) (getD (s .lookups) cell 0) (earlier before after) ≡ getD (s .lookups) cell 0 → updated h s cell before after ≡ s
 unfolding updated
-update-stays h s cell before after = go (lt before after) refl
+update-stays h s cell before after = go (earlier before after) refl
   where
-    go : (b : Bool) → lt before after ≡ b → shiftedTo h (s .heap) (s .cells) (getD (s .lookups) cell 0) b ≡ getD (s .lookups) cell 0 → updated h s cell before after ≡ s
+    go : (b : Bool) → earlier before after ≡ b → shiftedTo h (s .heap) (s .cells) (getD (s .lookups) cell 0) b ≡ getD (s .lookups) cell 0 → updated h s cell before after ≡ s
     go true e w = rw e (downshifted-stays h s (getD (s .lookups) cell 0) w)
     go false e w = rw e (upshifted-stays h s (getD (s .lookups) cell 0) w)
 
-pub update-same : (t : List ℕ) (l : length t ≡ orderWide) (h : ℕ → Float) (n cell : ℕ) (before after : Float) (to : ℕ) → after ≡ h cell
-    → to ≡ shiftedTo h (midOf 0 heapWide t) n (getD t (heapWide + cell) 0) (lt before after) → to ≡ getD t (heapWide + cell) 0
+pub update-same : (t : List ℕ) (l : length t ≡ orderWide) (h : ℕ → Head) (n cell : ℕ) (before after : Head) (to : ℕ) → after ≡ h cell
+    → to ≡ shiftedTo h (midOf 0 heapWide t) n (getD t (heapWide + cell) 0) (earlier before after) → to ≡ getD t (heapWide + cell) 0
     → t ≡ orderBytes (updated h (schedulerOf n t) cell before (h cell))
 update-same t l h n cell before after to ea es e =
     let s : Scheduler = schedulerOf n t in
     let at : ℕ = getD (s .lookups) cell 0 in
-    let w : shiftedTo h (take heapWide t) n at (lt before (h cell)) ≡ at =
-    ap (λ (x : Float). shiftedTo h (take heapWide t) n at (lt before x)) (sym ea)
-    ∙ ap (λ (k : ℕ). shiftedTo h (take heapWide t) n k (lt before after)) (sym (lookup-at t l cell n))
+    let w : shiftedTo h (take heapWide t) n at (earlier before (h cell)) ≡ at =
+    ap (λ (x : Head). shiftedTo h (take heapWide t) n at (earlier before x)) (sym ea)
+    ∙ ap (λ (k : ℕ). shiftedTo h (take heapWide t) n k (earlier before after)) (sym (lookup-at t l cell n))
     ∙ sym es ∙ e ∙ lookup-at t l cell n in
     kept t l n ∙ ap orderBytes (sym (update-stays h s cell before (h cell) w))
 
 -- ---- what holds the scheduler after an update
-pub heaped-new : {z : Sizes} {t t′ : List ℕ} {h : Scheduler} (f : ℕ → Float) (cell : ℕ) (before after : Float) → Heaped z t h
+pub heaped-new : {z : Sizes} {t t′ : List ℕ} {h : Scheduler} (f : ℕ → Head) (cell : ℕ) (before after : Head) → Heaped z t h
     → t′ ≡ orderBytes (updated f h cell before after) → Heaped z t′ (updated f h cell before after)
 heaped-new {h = h} f cell before after k e = record {
   is = e;

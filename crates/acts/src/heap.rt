@@ -3,12 +3,13 @@ ghost use mathlib.Core.Path.{_≡_};
 ghost use Prim.Native.Nat.{_<_, _≤_};
 ghost use lib.ListN.{length};
 ghost use Rattle.scheduler.specs.Heap.{updated};
-ghost use Rattle.scheduler.specs.Inside.{headIn, Fit};
+ghost use Rattle.scheduler.specs.Inside.{headIn};
 ghost use Rattle.layout.specs.Widths.{orderWide};
 ghost use Rattle.tables.specs.Layout.{orderBytes};
 ghost use Rattle.tables.specs.Decode.{schedulerOf};
 ghost use Rattle.acts.specs.Queues.{shiftedTo};
 use layout::HEAP;
+use scheduler::head::Head;
 use tables::Sizes;
 
 // Where the cell at a heap index goes first, read in place: that index where it stays.
@@ -24,14 +25,14 @@ fn shifted_to(heap: &[u8], queue: &[u64], events: &[f64], z: Sizes, at: usize, l
 }
 
 // A cell's head went from `before` to what the tables have now: it finds its place again. A shift that isn't needed moves no byte.
-pub fn update(order: &mut [u8], queue: &[u64], events: &[f64], z: Sizes, cell: usize, before: f64)
-    requires { ⌜ (length (now order) ≡ orderWide) × Fit (headIn (now events) (now queue) (z .room)) (schedulerOf (z .cells) (now order)) × (cell < 256) × (z .room ≤ 256) ⌝ }
+pub fn update(order: &mut [u8], queue: &[u64], events: &[f64], z: Sizes, cell: usize, before: Head)
+    requires { ⌜ (length (now order) ≡ orderWide) × (z .cells ≤ 256) × (cell < 256) × (z .room ≤ 256) ⌝ }
     ensures { λ _. ⌜ now (order .exit) ≡ orderBytes (updated (headIn (now (events .entry)) (now (queue .entry)) (z .room)) (schedulerOf (z .cells) (now (order .entry))) cell before (headIn (now (events .entry)) (now (queue .entry)) (z .room) cell)) ⌝ }
 {
     let after = scheduler::head_time(events, queue, z.room, cell);
     let i = HEAP + cell;
     let at = order[i] as usize;
-    let to = shifted_to(&order[0..HEAP], queue, events, z, at, before < after);
+    let to = shifted_to(&order[0..HEAP], queue, events, z, at, before.earlier(after));
     if to == at {
         return;
     }

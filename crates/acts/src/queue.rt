@@ -12,6 +12,7 @@ ghost use Rattle.acts.specs.Queues.{RowOf};
 use crate::heap;
 use model::Place;
 use model::Plan;
+use scheduler::head::Head;
 use tables::Sizes;
 use tables::parts;
 use tables::parts::Part;
@@ -19,13 +20,13 @@ use tables::places;
 use tables::queues;
 use tables::rows;
 
-// Where a cell's row stands: its numbers from `a` to before `b`, their floats from `p` to before `q`; and its head time.
+// Where a cell's row stands: its numbers from `a` to before `b`, their floats from `p` to before `q`; and its head.
 pub struct CellRow {
     pub a: usize,
     pub b: usize,
     pub p: usize,
     pub q: usize,
-    pub head: f64,
+    pub head: Head,
 }
 
 fn row_of(queue: &[u64], events: &[f64], z: Sizes, cell: usize) -> CellRow

@@ -19,7 +19,7 @@ use Rattle.model.specs.declared.Place.{Place}
 use Rattle.model.specs.State.{Row, row, State}
 use Rattle.tables.specs.declared.Sizes.{Sizes}
 use Rattle.tables.specs.Layout.{places, grainReals, rowNums, placeNums, placeReals, queueNums, queueReals}
-use Rattle.tables.specs.Holds.{Rows, Good}
+use Rattle.tables.specs.Holds.{Rows, Full}
 use Rattle.tables.proofs.ListLaws.{rows-long}
 use Rattle.tables.proofs.Runs.{row-nums-long, row-reals-long}
 use Rattle.tables.specs.Decode.{Tables, decoded, decodedBy, cut, cutBoth, rowOf, grainAt, grainsOf, rowAt, rowsOf, placeAt, placesOf, queueAt, queuesOf, schedulerOf}
@@ -78,9 +78,9 @@ rows-back k {m = m} rs y R = cut-back (rowAt k) rowNums (k + 1) (nums-back k) m 
 grains-back : (n : ℕ) (gs : List Particle) (y : List Float) → length gs ≡ n → grainsOf n (flat grainReals gs ++ y) ≡ gs
 grains-back n gs y e = cut-back grainAt grainReals grainWide (λ p y e. refl) n gs y e (all-always (λ (p : Particle). length (grainReals p) ≡ grainWide) (λ p. refl) gs)
 
-queues-back : (room n : ℕ) (qs : List (Row Place)) (y : List ℕ) (z : List Float) → length qs ≡ n → All (Good room) qs → queuesOf room n (flat queueNums qs ++ y) (flat queueReals qs ++ z) ≡ qs
+queues-back : (room n : ℕ) (qs : List (Row Place)) (y : List ℕ) (z : List Float) → length qs ≡ n → All (Full room) qs → queuesOf room n (flat queueNums qs ++ y) (flat queueReals qs ++ z) ≡ qs
 queues-back room n qs y z e f =
-    both-back (queueAt room) queueNums queueReals (queueWide room) (eventsWide room) (Good room) (λ r g. row-nums-long room r (g .full)) (λ r g. row-reals-long room r (g .full)) (λ r y z g. queue-back room r (g .full) y z) n qs y z e f
+    both-back (queueAt room) queueNums queueReals (queueWide room) (eventsWide room) (Full room) (λ r g. row-nums-long room r g) (λ r g. row-reals-long room r g) (λ r y z g. queue-back room r g y z) n qs y z e f
 
 scheduler-back : (n : ℕ) (o : List ℕ) (h : Scheduler) → take orderWide o ≡ h .heap ++ h .lookups → length (h .heap) ≡ 256 → length (h .lookups) ≡ 256 → h .cells ≡ n → schedulerOf n o ≡ h
 scheduler-back n o h e a b c = same first second (sym c)
@@ -138,7 +138,7 @@ module _ (z : Sizes) (t : Tables) (s : State) (H : Hold z t s) where
       ap (λ (l : List ℕ). queuesOf (z .room) (z .cells) l (t .events)) queue-cut
       ∙ ap (queuesOf (z .room) (z .cells) (flat queueNums (s .queues) ++ drop (queueNeed z) (t .queue)))
       (sym (take-append-drop (eventsNeed z) (t .events)) ∙ ap (λ (l : List Float). l ++ drop (eventsNeed z) (t .events)) (T .events-is))
-      ∙ queues-back (z .room) (z .cells) (s .queues) (drop (queueNeed z) (t .queue)) (drop (eventsNeed z) (t .events)) (T .many) (T .good)
+      ∙ queues-back (z .room) (z .cells) (s .queues) (drop (queueNeed z) (t .queue)) (drop (eventsNeed z) (t .events)) (T .many) (T .full)
 
   -- TABLES THAT HOLD A STATE ARE READ AS THAT STATE
   pub read-back : decoded t ≡ s

@@ -21,8 +21,8 @@ use Rattle.model.proofs.Sound.{Numbers, Side, Stands}
 use Rattle.model.proofs.Lists.{has-all}
 use Rattle.tables.specs.declared.Sizes.{Sizes}
 use Rattle.tables.specs.Layout.{places, grainReals, rowNums, placeNums, placeReals, queueNums, queueReals}
-use Rattle.tables.specs.Holds.{Grained, Rows, Listed, Good, Tabled, Heaped, Holds}
-use Rattle.tables.proofs.Runs.{good-of}
+use Rattle.tables.specs.Holds.{Grained, Rows, Listed, Full, Tabled, Heaped, Holds}
+use Rattle.tables.proofs.Runs.{full-of}
 use Rattle.tables.specs.Decode.{Tables, decodedBy, cut, cutBoth, grainsPart, grainAt, rowAt, rowsOf, placeAt, placesOf, queueAt}
 use Rattle.checks.specs.Check.{countsWithin}
 use Rattle.checks.specs.Inside.{Legible, Sized}
@@ -172,12 +172,12 @@ module _ (z : Sizes) (t : Tables) (S : Sized z t) (L : Legible z (t .lists) (t .
         events-is = sym (both-second (queueAt (z .room)) w v queueReals (z .cells) (t .queue) (t .events)
             (λ i h. queue-reals (z .room) (drop (i * w) (t .queue)) (drop (i * v) (t .events)) (counted-at (z .room) w (z .cells) (t .queue) i (L .events) h) (inside (z .cells) v i (t .events) (S .events-long) h)));
         many = many;
-        good = all-of (Good (z .room)) none qs (λ i h. good i (let e = cells-agree in omega arith));
+        full = all-of (Full (z .room)) none qs (λ i h. good i (let e = cells-agree in omega arith));
       }
     where
-      good : (i : ℕ) → i < cells ((decodedBy z t) .box) → Good (z .room) (getD ((decodedBy z t) .queues) i none)
+      good : (i : ℕ) → i < cells ((decodedBy z t) .box) → Full (z .room) (getD ((decodedBy z t) .queues) i none)
       good i h =
-          good-of (cells ((decodedBy z t) .box)) i (listed (decodedBy z t) i) (getD ((decodedBy z t) .queues) i none) (F .sound .queues i h)
+          full-of (cells ((decodedBy z t) .box)) i (listed (decodedBy z t) i) (getD ((decodedBy z t) .queues) i none) (F .sound .queues i h)
 
   heap-held : Heaped z (orderBody (t .order)) ((decodedBy z t) .sched)
   heap-held = record {

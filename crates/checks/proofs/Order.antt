@@ -5,27 +5,28 @@ use native.Mathlib.Omega.{arith}
 use mathlib.Core.List.{List}
 use mathlib.Core.Bool.{Bool, true, false, not, _||_, cond}
 use lib.ListN.{getD}
-use lib.Ieee.{Float, lt}
 use borrow.Author.Tests.{lt-ltb, eq-eqb, ne-eqb}
-use Rattle.order.specs.Numbers.{f64Max}
+use Rattle.scheduler.specs.declared.head.Head.{Head}
+use Rattle.scheduler.specs.declared.head.Head.the-variants.{Empty}
+use Rattle.scheduler.specs.Head.{earlier}
 use Rattle.scheduler.specs.Heap.{timeIn, parent}
 use Rattle.model.specs.Check.{inOrder}
 
-module _ (h : ℕ → Float) (heap : List ℕ) (n i : ℕ) where
+module _ (h : ℕ → Head) (heap : List ℕ) (n i : ℕ) where
   pub time-in : i < n → timeIn h heap n i ≡ h (getD heap i 0)
   unfolding timeIn
-  time-in l = ap (λ (b : Bool). cond b (h (getD heap i 0)) f64Max) (lt-ltb i n l)
+  time-in l = ap (λ (b : Bool). cond b (h (getD heap i 0)) Empty) (lt-ltb i n l)
 
-module _ (h : ℕ → Float) (heap : List ℕ) (n i : ℕ) where
+module _ (h : ℕ → Head) (heap : List ℕ) (n i : ℕ) where
   pub order-first : i ≡ 0 → true ≡ inOrder h heap n i
-  order-first e = sym (ap (λ (b : Bool). b || not (lt (timeIn h heap n i) (timeIn h heap n (parent i)))) (eq-eqb i 0 e))
+  order-first e = sym (ap (λ (b : Bool). b || not (earlier (timeIn h heap n i) (timeIn h heap n (parent i)))) (eq-eqb i 0 e))
 
-  times : {t u : Float} → i < n → t ≡ h (getD heap i 0) → u ≡ h (getD heap (parent i) 0) → lt (timeIn h heap n i) (timeIn h heap n (parent i)) ≡ lt t u
+  times : {t u : Head} → i < n → t ≡ h (getD heap i 0) → u ≡ h (getD heap (parent i) 0) → earlier (timeIn h heap n i) (timeIn h heap n (parent i)) ≡ earlier t u
   times {t} {u} l a b =
-      ap (λ (x : Float). lt x (timeIn h heap n (parent i))) (time-in h heap n i l ∙ sym a) ∙ ap (λ (x : Float). lt t x) (time-in h heap n (parent i) (omega arith) ∙ sym b)
+      ap (λ (x : Head). earlier x (timeIn h heap n (parent i))) (time-in h heap n i l ∙ sym a) ∙ ap (λ (x : Head). earlier t x) (time-in h heap n (parent i) (omega arith) ∙ sym b)
 
-  pub order-no : {t u : Float} → i < n → (i ≡ 0 → ⊥) → t ≡ h (getD heap i 0) → u ≡ h (getD heap (parent i) 0) → lt t u ≡ true → false ≡ inOrder h heap n i
+  pub order-no : {t u : Head} → i < n → (i ≡ 0 → ⊥) → t ≡ h (getD heap i 0) → u ≡ h (getD heap (parent i) 0) → earlier t u ≡ true → false ≡ inOrder h heap n i
   order-no l z a b e = rw (ne-eqb i 0 z, times l a b ∙ e)
 
-  pub order-yes : {t u : Float} → i < n → (i ≡ 0 → ⊥) → t ≡ h (getD heap i 0) → u ≡ h (getD heap (parent i) 0) → lt t u ≡ false → true ≡ inOrder h heap n i
+  pub order-yes : {t u : Head} → i < n → (i ≡ 0 → ⊥) → t ≡ h (getD heap i 0) → u ≡ h (getD heap (parent i) 0) → earlier t u ≡ false → true ≡ inOrder h heap n i
   order-yes l z a b e = rw (ne-eqb i 0 z, times l a b ∙ e)

@@ -7,12 +7,14 @@ use mathlib.Core.Bool.{Bool, true, false, not, _&&_, _||_}
 use lib.Dec.{eqb, leb, ltb}
 use lib.ListN.{length, getD, take, drop, length-drop}
 use lib.Seq.{length-take-le}
-use lib.Ieee.{Float, lt}
+use lib.Ieee.{Float}
 use borrow.Author.Tests.{eq-eqb, le-leb, ltb-true}
 use Rattle.layout.specs.Widths.{grainWide, homeRoom, memberRoom, homeWide, membersWide, queueWide, eventsWide, heapWide}
 use Rattle.halting.specs.Every.{every}
 use Rattle.halting.proofs.Tests.{true-every}
 use Rattle.halting.proofs.Bools.{and-l, and-r}
+use Rattle.scheduler.specs.declared.head.Head.{Head}
+use Rattle.scheduler.specs.Head.{earlier}
 use Rattle.scheduler.specs.Heap.{timeIn, parent}
 use Rattle.scheduler.specs.Inside.{headIn}
 use Rattle.model.specs.State.{Row, heads}
@@ -53,10 +55,10 @@ module _ (z : Sizes) (t : Tables) where
 
 -- ---- heads of cells in range are read alike
 module _ (room n : ℕ) (q : List ℕ) (e : List Float) (heap lookups : List ℕ) (some : 0 < room) (long : n * eventsWide room ≤ length e) where
-  abbrev heads′ : ℕ → Float
+  abbrev heads′ : ℕ → Head
   heads′ = heads (queuesOf room n q e)
 
-  abbrev head′ : ℕ → Float
+  abbrev head′ : ℕ → Head
   head′ = headIn e q room
 
   ordered-is : inverse n heap lookups ≡ true → every (inOrder heads′ heap n) n 0 ≡ every (inOrder head′ heap n) n 0
@@ -69,8 +71,8 @@ module _ (room n : ℕ) (q : List ℕ) (e : List Float) (heap lookups : List ℕ
 
       turn : (i : ℕ) → i < 0 + n → inOrder heads′ heap n i ≡ inOrder head′ heap n i
       turn i h =
-          ap (λ (x : Float). eqb i 0 || not (lt x (timeIn heads′ heap n (parent i)))) (at i (omega arith))
-          ∙ ap (λ (x : Float). eqb i 0 || not (lt (timeIn head′ heap n i) x)) (at (parent i) (omega arith))
+          ap (λ (x : Head). eqb i 0 || not (earlier x (timeIn heads′ heap n (parent i)))) (at i (omega arith))
+          ∙ ap (λ (x : Head). eqb i 0 || not (earlier (timeIn head′ heap n i) x)) (at (parent i) (omega arith))
 
   heaped-is : heaped heads′ n heap lookups ≡ heaped head′ n heap lookups
   unfolding heaped
@@ -120,11 +122,11 @@ module _ (z : Sizes) (t : Tables) (S : Sized z t) where
         eq-eqb _ _ b,
       )
 
-  abbrev heapedBy : (ℕ → Float) → Bool
+  abbrev heapedBy : (ℕ → Head) → Bool
   heapedBy h = heaped h (z .cells) (take heapWide (t .order)) (take heapWide (drop heapWide (t .order)))
 
-  -- with so many grains, and these head times
-  abbrev joined : ℕ → (ℕ → Float) → Bool
+  -- with so many grains, and these heads
+  abbrev joined : ℕ → (ℕ → Head) → Bool
   joined g h = settledIn z t && (linked g (z .cells) (homesIn z t) (membersIn z t) && (queuedIn z t && heapedBy h))
 
   model-is : model.standing (decodedBy z t) ≡ joined (z .grains) (headIn (t .events) (t .queue) (z .room))

@@ -10,6 +10,7 @@ use lib.ListN.{length, getD, drop}
 use lib.Ieee.{Float, fits}
 use lib.Ieee.Scale.{finite}
 use borrow.Author.Tests.{eq-eqb, ne-eqb}
+use Rattle.scheduler.specs.declared.head.Head.{Head}
 use Rattle.layout.specs.Widths.{queueWide, eventsWide}
 use Rattle.halting.specs.Every.{every}
 use Rattle.chunks.proofs.Laws.{tail-is}
@@ -76,7 +77,7 @@ module _ (t : Float) (room n : ℕ) (ms : List (Row ℕ)) (q : List ℕ) (e : Li
           ∙ ap (λ (k : ℕ). (queueAt room q (drop k e)) .live) (zero-mul (eventsWide room))
           ∙ queue-live room q e few ∙ ap (λ (l : List ℕ). placesOf (getD q 0 0) l e) (tail-is 1 q)
 
-module _ (h : ℕ → Float) (n : ℕ) (a b : List ℕ) where
+module _ (h : ℕ → Head) (n : ℕ) (a b : List ℕ) where
   pub heaped-no : inverse n a b ≡ false → false ≡ heaped h n a b
   unfolding heaped
   heaped-no f = rw f

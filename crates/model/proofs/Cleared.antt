@@ -7,15 +7,16 @@ use native.Mathlib.Omega.{arith}
 use native.Mathlib.Decide.{decLe}
 use lib.Dec.{T}
 use lib.ListN.{length, getD, replicate, length-replicate, getD-replicate, List·getD-eq-default}
-use lib.Ieee.{Float, binary64, ofBits, le, fits}
+use lib.Ieee.{binary64, ofBits, le, fits}
 use lib.Ieee.Scale.{finite}
 use Rattle.scheduler.specs.declared.Scheduler.{Scheduler}
 use Rattle.model.specs.declared.Domain.{Domain}
 use Rattle.halting.specs.Out.{each}
-use Rattle.order.specs.Numbers.{fzero, f64Max}
-use Rattle.scheduler.specs.Heap.{timeAt, parent, startHeap}
+use Rattle.order.specs.Numbers.{fzero}
+use Rattle.scheduler.specs.declared.head.Head.{Head}
+use Rattle.scheduler.specs.declared.head.Head.the-variants.{Empty}
+use Rattle.scheduler.specs.Heap.{timeAt, startHeap}
 use Rattle.scheduler.specs.Standing.{Ordered}
-use Rattle.order.proofs.Compare.{lt-irrefl}
 use Rattle.scheduler.proofs.Laws.{time-in, time-out}
 use Rattle.scheduler.proofs.Inverse.{start-inverse}
 use Rattle.model.specs.Grid.{cells}
@@ -48,19 +49,19 @@ module _ (m : ℕ) {A : Type 0} (k : ℕ) (z : A) where
     | no h ↦ ap (λ (r : Row A). r .live) (getD-replicate m i (empty k z) none (omega arith))
   ]
 
-empty-heads : (m room c : ℕ) → heads (replicate m (empty room zeroP)) c ≡ f64Max
+empty-heads : (m room c : ℕ) → heads (replicate m (empty room zeroP)) c ≡ Empty
 unfolding heads
 empty-heads m room c = ap headTime (empty-live m room zeroP c)
 
-all-last : (h : ℕ → Float) (s : Scheduler) → ((c : ℕ) → h c ≡ f64Max) → (i : ℕ) → timeAt h s i ≡ f64Max
-all-last h s f i = elim (decLe (s .cells) i) [
+all-empty : (h : ℕ → Head) (s : Scheduler) → ((c : ℕ) → h c ≡ Empty) → (i : ℕ) → timeAt h s i ≡ Empty
+all-empty h s f i = elim (decLe (s .cells) i) [
   | yes o ↦ time-out h s i o
   | no n ↦ time-in h s i (omega arith) ∙ f (getD (s .heap) i 0)
 ]
 
-all-ordered : (h : ℕ → Float) (s : Scheduler) → ((c : ℕ) → h c ≡ f64Max) → Ordered h s
+all-ordered : (h : ℕ → Head) (s : Scheduler) → ((c : ℕ) → h c ≡ Empty) → Ordered h s
 unfolding Ordered
-all-ordered h s f c p q = rw (all-last h s f c, all-last h s f (parent c)) (lt-irrefl f64Max)
+all-ordered h s f c p q = rw (all-empty h s f c) refl
 
 zero-fine : fineGrain zeroG ≡ true
 unfolding fineGrain ofBits

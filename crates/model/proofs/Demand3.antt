@@ -15,6 +15,9 @@ use Rattle.model.specs.declared.Event.{Event}
 use Rattle.model.specs.declared.Event.the-variants.{InterParticleCollision, MoveToNeighbour, MoveOutOfCell, WallReflection, Synchronisation}
 use Rattle.model.specs.Sizes.{rated}
 use Rattle.model.specs.Grid.{cells}
+use Rattle.scheduler.specs.declared.head.Head.{Head}
+use Rattle.scheduler.specs.declared.head.Head.the-variants.{At}
+use Rattle.scheduler.specs.Head.{noLater}
 use Rattle.model.specs.Events.{eventOf, headTime, names}
 use Rattle.model.specs.State.{State, home, listed, queue, has}
 use Rattle.model.specs.Acts.{first, head}
@@ -102,13 +105,13 @@ at-least t [] r = tt
 at-least t (x ∷ xs) r = (r .0, all-to (λ e. T (le (x .time) (e .time))) (λ e. T (le t (e .time))) xs (λ e h. le-trans t (x .time) (e .time) (r .0) h) (at-least (x .time) xs (r .1)))
 
 module _ (v : State) (st : Stands v) where
-  head-first : (c : ℕ) → c < cells (v .box) → T (le ((head v) .time) (headTime (queue v c)))
-  head-first c C = subst (λ (t : Float). T (le t (headTime (queue v c)))) (head-is (queue v (first v)) (first-some v st)) (root-first v (st .sound) (cells-some (v .box)) c C)
+  head-first : (c : ℕ) → c < cells (v .box) → T (noLater (At ((head v) .time)) (headTime (queue v c)))
+  head-first c C = subst (λ (t : Head). T (noLater t (headTime (queue v c)))) (head-is (queue v (first v)) (first-some v st)) (root-first v (st .sound) (cells-some (v .box)) c C)
 
   rooted : EachEvent v (λ c e. T (le ((head v) .time) (e .time)))
   rooted c C = from (queue v c) (head-first c C) (st .sound .queues c C .rising)
     where
-      from : (l : List Place) → T (le ((head v) .time) (headTime l)) → Rising (v .clock) l → All (λ e. T (le ((head v) .time) (e .time))) l
+      from : (l : List Place) → T (noLater (At ((head v) .time)) (headTime l)) → Rising (v .clock) l → All (λ e. T (le ((head v) .time) (e .time))) l
       from [] h r = tt
       from (x ∷ xs) h r = at-least ((head v) .time) (x ∷ xs) (h, r .1)
 

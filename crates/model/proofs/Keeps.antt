@@ -7,7 +7,7 @@ use native.Mathlib.Omega.{arith}
 use native.Mathlib.Decide.{decLe, ℕ-discrete}
 use lib.Dec.{T, eqb}
 use lib.ListN.{length, getD, set, drop, length-set, List·getD-eq-default}
-use lib.Ieee.{Float, binary64, le, lt, isNan, fits}
+use lib.Ieee.{Float, binary64, le, isNan, fits}
 use lib.Ieee.Scale.{finite}
 use lib.Ieee.Bits.{is-false}
 use borrow.Author.Tests.{eq-eqb, ne-eqb}
@@ -15,16 +15,17 @@ use Rattle.model.specs.declared.Particle.{Particle}
 use Rattle.model.specs.declared.Place.{Place}
 use Rattle.model.specs.declared.Event.{Event}
 use Rattle.model.specs.declared.Event.the-variants.{InterParticleCollision, MoveToNeighbour, MoveOutOfCell, WallReflection, Synchronisation}
-use Rattle.order.specs.Numbers.{f64Max}
+use Rattle.scheduler.specs.declared.head.Head.{Head}
+use Rattle.scheduler.specs.declared.head.Head.the-variants.{At}
+use Rattle.scheduler.specs.Head.{earlier, noLater, isNanHead}
 use Rattle.order.proofs.Order.{le-trans, le-refl}
 use Rattle.order.proofs.Clock.{finite-no-nan}
 use Rattle.scheduler.specs.Heap.{timeAt, updated}
-use Rattle.scheduler.specs.Inside.{Fit}
 use Rattle.scheduler.specs.Standing.{Real}
-use Rattle.order.proofs.Compare.{lt-irrefl, le-of-not-lt}
+use Rattle.scheduler.proofs.Heads.{no-later-of-not}
 use Rattle.scheduler.proofs.Laws.{time-in}
 use Rattle.scheduler.proofs.Inverse.{updated-inverse, updated-cells}
-use Rattle.scheduler.proofs.Order.{last-real, updated-ordered, root-least}
+use Rattle.scheduler.proofs.Order.{updated-ordered, root-least}
 use Rattle.model.specs.Grid.{cells}
 use Rattle.model.specs.Events.{names, eventOf, headTime, headPlace, zeroP}
 use Rattle.model.specs.State.{Row, row, none, State, zeroG, grain, home, listed, queue, heads, has, requeued, withClock, withGrains}
@@ -36,35 +37,24 @@ use Rattle.halting.proofs.Bools.{clash}
 use Rattle.model.proofs.Lists.{set-every, live-same, live-other, has-entered, has-left, lists-enter, lists-leave}
 use Rattle.model.proofs.Cases.{store-case, insert-case, enter-case, leave-case}
 use Rattle.halting.proofs.All.{all-to, all-both}
-use Rattle.model.proofs.Queue.{T-of, fine-finite, fine-real, fine-low, queue-insert, queue-cancel}
+use Rattle.model.proofs.Queue.{T-of, fine-finite, fine-real, queue-insert, queue-cancel}
 
 -- ---- head times
 module _ (n c : ℕ) (m : List ℕ) where
-  head-real : (l : List Place) → All (Held n c m) l → isNan (headTime l) ≡ false
-  head-real [] a = last-real
+  head-real : (l : List Place) → All (Held n c m) l → isNanHead (headTime l) ≡ false
+  head-real [] a = refl
   head-real (x ∷ xs) a = is-false _ (fine-real x (a .0 .fine))
-
-  head-top : (l : List Place) → All (Held n c m) l → lt f64Max (headTime l) ≡ false
-  head-top [] a = lt-irrefl f64Max
-  head-top (x ∷ xs) a = fine-low x (a .0 .fine)
 
 module _ (s : State) (sound : Sound s) where
   abbrev N : ℕ
   N = cells (s .box)
 
-  heads-all : (P : Float → Type 0) → P f64Max → ((c : ℕ) → c < N → P (headTime (queue s c))) → (c : ℕ) → P (heads (s .queues) c)
-  unfolding heads
-  heads-all P p f c = elim (decLe N c) [
-    | yes h ↦ subst (λ (r : Row Place). P (headTime (r .live))) (sym (List·getD-eq-default (s .queues) none (omega (arith, sound .long)))) p
-    | no h ↦ f c (omega arith)
-  ]
-
   pub heads-real : Real (heads (s .queues))
-  unfolding Real
-  heads-real = heads-all (λ t. isNan t ≡ false) last-real (λ c h. head-real N c (listed s c) (queue s c) (sound .queues c h .held))
-
-  pub heads-top : (c : ℕ) → lt f64Max (heads (s .queues) c) ≡ false
-  heads-top = heads-all (λ t. lt f64Max t ≡ false) (lt-irrefl f64Max) (λ c h. head-top N c (listed s c) (queue s c) (sound .queues c h .held))
+  unfolding Real heads
+  heads-real c = elim (decLe N c) [
+    | yes h ↦ ap (λ (r : Row Place). isNanHead (headTime (r .live))) (List·getD-eq-default (s .queues) none (omega (arith, sound .long)))
+    | no h ↦ head-real N c (listed s c) (queue s c) (sound .queues c (omega arith) .held)
+  ]
 
   -- ---- a new queue in one cell, the heap updated, and perhaps a later clock
   module _ (c : ℕ) (r : Row Place) (t : Float) (C : c < N) (q : Queue t (s .room) N c (listed s c) r) where
@@ -79,24 +69,18 @@ module _ (s : State) (sound : Sound s) where
     unfolding heads
     there k d = ap headTime (live-other (s .queues) c k r d)
 
-    real : (k : ℕ) → isNan (heads (s .queues) k) ≡ false
+    real : (k : ℕ) → isNanHead (heads (s .queues) k) ≡ false
     real = unfold Real in heads-real
 
     real′ : Real (heads qs′)
     unfolding Real
     real′ k = elim (ℕ-discrete k c) [ yes e ↦ rw (e, here) (head-real N c (listed s c) (r .live) (q .held)) | no d ↦ rw (there k d) (real k) ]
 
-    abbrev fit′ : Fit (heads qs′) (s .sched)
-    fit′ = record {
-      room = sound .heap .inverse .room;
-      top = λ k. elim (ℕ-discrete k c) [ yes e ↦ rw (e, here) (head-top N c (listed s c) (r .live) (q .held)) | no d ↦ rw (there k d) (heads-top k) ];
-    }
-
     heap′ : Heap N qs′ (updated (heads qs′) (s .sched) c (heads (s .queues) c) (headTime (r .live)))
     heap′ = record {
       cells = updated-cells (heads qs′) (s .sched) c (heads (s .queues) c) (headTime (r .live)) ∙ sound .heap .cells;
-      inverse = updated-inverse (heads qs′) (s .sched) c (heads (s .queues) c) (headTime (r .live)) fit′ (sound .heap .inverse);
-      ordered = updated-ordered (heads (s .queues)) (heads qs′) (s .sched) c (heads (s .queues) c) (headTime (r .live)) heads-real real′ fit′ (sound .heap .inverse) (sound .heap .ordered)
+      inverse = updated-inverse (heads qs′) (s .sched) c (heads (s .queues) c) (headTime (r .live)) (sound .heap .inverse);
+      ordered = updated-ordered (heads (s .queues)) (heads qs′) (s .sched) c (heads (s .queues) c) (headTime (r .live)) heads-real real′ (sound .heap .inverse) (sound .heap .ordered)
           (omega (arith, sound .heap .cells)) refl here there;
     }
 
@@ -247,7 +231,7 @@ leave-sound s g c sound G C there free = leave-case (λ o. Sound (o .st)) s g c 
     }
 
 -- ---- taking the first event of all
-rising-to : (t u : Float) (l : List Place) → T (le u (headTime l)) → Rising t l → Rising u l
+rising-to : (t u : Float) (l : List Place) → T (noLater (At u) (headTime l)) → Rising t l → Rising u l
 rising-to t u [] h r = tt
 rising-to t u (x ∷ xs) h r = (h, r .1)
 
@@ -259,7 +243,7 @@ pub head-held : (t : Float) (n c : ℕ) (m : List ℕ) (l : List Place) → 0 < 
 head-held t n c m [] h r a = absurd (omega arith)
 head-held t n c m (x ∷ xs) h r a = (a .0, r .0)
 
-pub head-is : (l : List Place) → 0 < length l → headTime l ≡ (headPlace l) .time
+pub head-is : (l : List Place) → 0 < length l → headTime l ≡ At ((headPlace l) .time)
 head-is [] h = absurd (omega arith)
 head-is (x ∷ xs) h = refl
 
@@ -268,9 +252,9 @@ module _ (s : State) (sound : Sound s) (some : 0 < cells (s .box)) where
   first-in = subst (λ (k : ℕ). first s < k) (sound .heap .cells) (sound .heap .inverse .heap-in 0 (omega (arith, sound .heap .cells)))
 
   -- NO PENDING EVENT IS EARLIER THAN THE ROOT'S
-  pub root-first : (j : ℕ) → j < cells (s .box) → T (le (headTime (queue s (first s))) (headTime (queue s j)))
+  pub root-first : (j : ℕ) → j < cells (s .box) → T (noLater (headTime (queue s (first s))) (headTime (queue s j)))
   unfolding heads Real
-  root-first j J = T-of (le (headTime (queue s (first s))) (headTime (queue s j))) (le-of-not-lt (headTime (queue s (first s))) (headTime (queue s j)) (heads-real s sound (first s)) (heads-real s sound j) late)
+  root-first j J = T-of (noLater (headTime (queue s (first s))) (headTime (queue s j))) (no-later-of-not (headTime (queue s (first s))) (headTime (queue s j)) (heads-real s sound (first s)) (heads-real s sound j) late)
     where
       at : ℕ
       at = getD (s .sched .lookups) j 0
@@ -287,7 +271,7 @@ module _ (s : State) (sound : Sound s) (some : 0 < cells (s .box)) where
       tj : timeAt (heads (s .queues)) (s .sched) (getD (s .sched .lookups) j 0) ≡ heads (s .queues) j
       tj = time-in (heads (s .queues)) (s .sched) (getD (s .sched .lookups) j 0) I ∙ ap (heads (s .queues)) (sound .heap .inverse .back j J′)
 
-      late : lt (heads (s .queues) j) (heads (s .queues) (first s)) ≡ false
+      late : earlier (heads (s .queues) j) (heads (s .queues) (first s)) ≡ false
       late = rw (t0, tj) at (root-least (heads (s .queues)) (s .sched) (heads-real s sound) (sound .heap .ordered) (getD (s .sched .lookups) j 0) I)
 
   pub taken-sound : 0 < length (queue s (first s)) → Sound (taken s)
@@ -301,7 +285,7 @@ module _ (s : State) (sound : Sound s) (some : 0 < cells (s .box)) where
       (fine-finite (head s) (h .0 .fine)) (h .0 .fit) (h .1)
       (λ j J d. record {
         full = sound .queues j J .full;
-        rising = rising-to (s .clock) ((head s) .time) (queue s j) (subst (λ (x : Float). T (le x (headTime (queue s j)))) (head-is (queue s c) live) (root-first j J)) (sound .queues j J .rising);
+        rising = rising-to (s .clock) ((head s) .time) (queue s j) (subst (λ (x : Head). T (noLater x (headTime (queue s j)))) (head-is (queue s c) live) (root-first j J)) (sound .queues j J .rising);
         held = sound .queues j J .held;
       })
 

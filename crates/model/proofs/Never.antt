@@ -11,7 +11,9 @@ use lib.ListN.{length, getD, set, drop, replicate, length-set, length-replicate}
 use lib.Ieee.{Float, binary64, ofBits, add, lt}
 use borrow.Author.Tests.{leb-true}
 use Rattle.scheduler.specs.Heap.{numbered, startHeap}
-use Rattle.order.specs.Numbers.{fzero, f64Max}
+use Rattle.order.specs.Numbers.{fzero}
+use Rattle.scheduler.specs.declared.head.Head.the-variants.{At}
+use Rattle.scheduler.specs.Head.{earlier}
 use Rattle.order.proofs.Compare.{lt-irrefl}
 use Rattle.model.specs.declared.Domain.{Domain}
 use Rattle.model.specs.declared.Particle.{Particle}
@@ -165,16 +167,12 @@ sync-fine : finePlace (syncAt fzero) ≡ true
 unfolding finePlace ofBits lt
 sync-fine = refl
 
-last-late : lt f64Max fzero ≡ false
-unfolding ofBits lt
-last-late = refl
-
 sync-rooted : (n : ℕ) (u : State) → 0 < n → Bare n u → Rooted n (inserted 0 (syncAt fzero) u)
 unfolding requeued
 sync-rooted n u N r = record {
   long = length-set (u .queues) 0 new ∙ r .long;
   clock = r .clock;
-  root = updated-root (heads (set (u .queues) 0 new)) heads-late (u .sched) 0 (heads (u .queues) 0) (headTime (insertBy (syncAt fzero) (queue u 0))) (unfold heads in head-later (syncAt fzero) (queue u 0) sync-fine) (r .root);
+  root = updated-root (heads (set (u .queues) 0 new)) heads-late (u .sched) 0 (heads (u .queues) 0) (headTime (insertBy (syncAt fzero) (queue u 0))) (unfold heads in head-later (syncAt fzero) (queue u 0)) (r .root);
   head = ap headPlace here;
   late = late;
 }
@@ -185,14 +183,14 @@ sync-rooted n u N r = record {
     here : liveAt (set (u .queues) 0 new) 0 ≡ syncAt fzero ∷ []
     here = live-same (u .queues) 0 new (omega (arith, r .long)) ∙ (rw (r .empty 0) (unfold insertBy in refl))
 
-    late : (k : ℕ) → lt (headTime (liveAt (set (u .queues) 0 new) k)) fzero ≡ false
+    late : (k : ℕ) → earlier (headTime (liveAt (set (u .queues) 0 new) k)) (At fzero) ≡ false
     late k = elim (ℕ-discrete k 0) [
-      | yes z ↦ ap (λ (j : ℕ). lt (headTime (liveAt (set (u .queues) 0 new) j)) fzero) z ∙ ap (λ (l : List Place). lt (headTime l) fzero) here ∙ lt-irrefl fzero
-      | no d ↦ ap (λ (l : List Place). lt (headTime l) fzero) (live-other (u .queues) 0 k new d ∙ r .empty k) ∙ last-late
+      | yes z ↦ ap (λ (j : ℕ). earlier (headTime (liveAt (set (u .queues) 0 new) j)) (At fzero)) z ∙ ap (λ (l : List Place). earlier (headTime l) (At fzero)) here ∙ lt-irrefl fzero
+      | no d ↦ ap (λ (l : List Place). earlier (headTime l) (At fzero)) (live-other (u .queues) 0 k new d ∙ r .empty k)
     ]
 
-    heads-late : (k : ℕ) → lt (heads (set (u .queues) 0 new) k) (heads (set (u .queues) 0 new) 0) ≡ false
-    heads-late k = unfold heads in ap (λ (l : List Place). lt (headTime (liveAt (set (u .queues) 0 new) k)) (headTime l)) here ∙ late k
+    heads-late : (k : ℕ) → earlier (heads (set (u .queues) 0 new) k) (heads (set (u .queues) 0 new) 0) ≡ false
+    heads-late k = unfold heads in ap (λ (l : List Place). earlier (headTime (liveAt (set (u .queues) 0 new) k)) (headTime l)) here ∙ late k
 
 insert-rooted : (n : ℕ) (u : State) → 0 < n → Bare n u → (insert 0 (syncAt fzero) u) .num ≡ 0 → Rooted n ((insert 0 (syncAt fzero) u) .st)
 insert-rooted n u N r = insert-case (λ o. o .num ≡ 0 → Rooted n (o .st)) u 0 (syncAt fzero) (λ z. absurd (omega (arith, z))) (λ w z. absurd (omega (arith, z))) (λ f w z. sync-rooted n u N r)

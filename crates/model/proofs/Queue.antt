@@ -8,14 +8,14 @@ use lib.Dec.{T}
 use lib.ListN.{length, drop, replicate, length-replicate, length-append}
 use lib.Ieee.{Float, le, lt, isNan}
 use lib.Ieee.Scale.{finite}
-use lib.Ieee.Bits.{is-true, is-false}
+use lib.Ieee.Bits.{is-false}
 use Rattle.model.specs.declared.Place.{Place}
 use Rattle.halting.specs.Every.{All}
 use Rattle.halting.proofs.Bools.{and-l, and-r}
 use Rattle.halting.proofs.All.{all-to, all-after, all-mid}
 use Rattle.order.specs.Numbers.{f64Max}
 use Rattle.order.proofs.Order.{le-trans, lt-left, lt→le}
-use Rattle.order.proofs.Compare.{lt-asym, lt-of-not-le}
+use Rattle.order.proofs.Compare.{lt-of-not-le}
 use Rattle.model.specs.Events.{insertBy, keepBy, goneBy, names, eventOf, finePlace, zeroP}
 use Rattle.model.specs.State.{Row, row}
 use Rattle.model.specs.Standing.{Rising}
@@ -35,9 +35,6 @@ fine-finite e h = T-of (finite (e .time)) (and-l (finite (e .time)) (lt (e .time
 
 pub fine-real : (e : Place) → finePlace e ≡ true → T (not (isNan (e .time)))
 fine-real e h = lt-left (e .time) f64Max (fine-top e h)
-
-pub fine-low : (e : Place) → finePlace e ≡ true → lt f64Max (e .time) ≡ false
-fine-low e h = lt-asym (e .time) f64Max (is-true (lt (e .time) f64Max) (fine-top e h))
 
 -- ---- time order
 pub rising-from : (t u : Float) (l : List Place) → T (le t u) → Rising u l → Rising t l

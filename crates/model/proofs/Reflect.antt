@@ -7,7 +7,7 @@ use native.Mathlib.Omega.{arith}
 use native.Mathlib.Decide.{ℕ-discrete}
 use lib.Dec.{T, eqb, leb, ltb}
 use lib.ListN.{length, getD}
-use lib.Ieee.{Float, binary64, le, lt, fits}
+use lib.Ieee.{Float, binary64, le, fits}
 use lib.Ieee.Scale.{finite}
 use lib.Ieee.Bits.{is-true}
 use borrow.Author.Tests.{ltb-true, leb-true, eqb-true, lt-ltb, le-leb, eq-eqb, ne-eqb, not-true}
@@ -17,6 +17,8 @@ use Rattle.model.specs.declared.Event.the-variants.{InterParticleCollisi
 use Rattle.model.specs.Check as check
 use Rattle.halting.specs.Every.{every, All}
 use Rattle.halting.proofs.Tests.{every-true, true-every}
+use Rattle.scheduler.specs.declared.head.Head.{Head}
+use Rattle.scheduler.specs.Head.{earlier}
 use Rattle.scheduler.specs.Heap.{timeAt, timeIn, parent}
 use Rattle.scheduler.specs.Standing.{Ordered}
 use Rattle.model.specs.Grid.{cells}
@@ -181,17 +183,17 @@ Leads n a b = (i : ℕ) → i < n → (getD a i 0 < n) × (getD b (getD a i 0) 0
 says-inverse : (n : ℕ) (a b : List ℕ) → Says (check.inverse n a b) (Leads n a b)
 says-inverse n a b = says-every (λ i. ltb (getD a i 0) n && eqb (getD b (getD a i 0) 0) i) (λ i. (getD a i 0 < n) × (getD b (getD a i 0) 0 ≡ i)) n (λ i h. says-and (says-lt (getD a i 0) n) (says-eq (getD b (getD a i 0) 0) i))
 
-says-ordered : (h : ℕ → Float) (heap : List ℕ) (n : ℕ) → Says (every (check.inOrder h heap n) n 0) ((i : ℕ) → 0 < i → i < n → lt (timeIn h heap n i) (timeIn h heap n (parent i)) ≡ false)
+says-ordered : (h : ℕ → Head) (heap : List ℕ) (n : ℕ) → Says (every (check.inOrder h heap n) n 0) ((i : ℕ) → 0 < i → i < n → earlier (timeIn h heap n i) (timeIn h heap n (parent i)) ≡ false)
 says-ordered h heap n =
-    says-to (says-every (check.inOrder h heap n) (λ i. 0 < i → lt (timeIn h heap n i) (timeIn h heap n (parent i)) ≡ false) n
-    (λ i H. says (check.inOrder h heap n i) (0 < i → lt (timeIn h heap n i) (timeIn h heap n (parent i)) ≡ false)
-    (λ e p. or-case (eqb i 0) (not (lt (timeIn h heap n i) (timeIn h heap n (parent i)))) (lt (timeIn h heap n i) (timeIn h heap n (parent i)) ≡ false) e (λ t. differ t (ne-eqb i 0 (λ z. omega arith))) (not-true _)) (λ f. into i f)))
+    says-to (says-every (check.inOrder h heap n) (λ i. 0 < i → earlier (timeIn h heap n i) (timeIn h heap n (parent i)) ≡ false) n
+    (λ i H. says (check.inOrder h heap n i) (0 < i → earlier (timeIn h heap n i) (timeIn h heap n (parent i)) ≡ false)
+    (λ e p. or-case (eqb i 0) (not (earlier (timeIn h heap n i) (timeIn h heap n (parent i)))) (earlier (timeIn h heap n i) (timeIn h heap n (parent i)) ≡ false) e (λ t. differ t (ne-eqb i 0 (λ z. omega arith))) (not-true _)) (λ f. into i f)))
     (λ f i p H. f i H p) (λ f i H p. f i p H)
   where
-    into : (i : ℕ) → (0 < i → lt (timeIn h heap n i) (timeIn h heap n (parent i)) ≡ false) → check.inOrder h heap n i ≡ true
+    into : (i : ℕ) → (0 < i → earlier (timeIn h heap n i) (timeIn h heap n (parent i)) ≡ false) → check.inOrder h heap n i ≡ true
     into i f = elim (ℕ-discrete i 0) [ yes e ↦ rw (eq-eqb i 0 e) | no d ↦ rw (ne-eqb i 0 d, f (omega arith)) ]
 
-says-heaped : (h : ℕ → Float) (n : ℕ) (a b : List ℕ) → Says (heaped h n a b) (Leads n a b × (Leads n b a × ((i : ℕ) → 0 < i → i < n → lt (timeIn h a n i) (timeIn h a n (parent i)) ≡ false)))
+says-heaped : (h : ℕ → Head) (n : ℕ) (a b : List ℕ) → Says (heaped h n a b) (Leads n a b × (Leads n b a × ((i : ℕ) → 0 < i → i < n → earlier (timeIn h a n i) (timeIn h a n (parent i)) ≡ false)))
 unfolding heaped
 says-heaped h n a b = says-and (says-inverse n a b) (says-and (says-inverse n b a) (says-ordered h a n))
 
@@ -231,7 +233,7 @@ module _ (s : State) where
 
   abbrev Tested : Type 0
   Tested = Shaped × (Settled × (Joined (length (s .grains)) n (s .homes) (s .members) × (Queued × (Leads n (s .sched .heap) (s .sched .lookups) ×
-      (Leads n (s .sched .lookups) (s .sched .heap) × ((i : ℕ) → 0 < i → i < n → lt (timeAt (heads (s .queues)) (s .sched) i) (timeAt (heads (s .queues)) (s .sched) (parent i)) ≡ false))))))
+      (Leads n (s .sched .lookups) (s .sched .heap) × ((i : ℕ) → 0 < i → i < n → earlier (timeAt (heads (s .queues)) (s .sched) i) (timeAt (heads (s .queues)) (s .sched) (parent i)) ≡ false))))))
 
   tested-stands : Fitted s → Tested → Stands s
   unfolding Ordered

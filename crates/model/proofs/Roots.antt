@@ -15,10 +15,13 @@ use borrow.Author.Tests.{ltb-true, eq-eqb}
 use Rattle.scheduler.specs.declared.Scheduler.{Scheduler}
 use Rattle.scheduler.specs.Heap.{swap, swapAt, timeAt, parent, parentIn, parentOf, up, upshifted, updated}
 use Rattle.scheduler.proofs.Laws.{time-in}
-use Rattle.order.specs.Numbers.{fzero, f64Max}
+use Rattle.order.specs.Numbers.{fzero}
+use Rattle.scheduler.specs.declared.head.Head.{Head}
+use Rattle.scheduler.specs.declared.head.Head.the-variants.{At}
+use Rattle.scheduler.specs.Head.{earlier}
 use Rattle.model.specs.Constants.{radiusOf}
 use Rattle.order.proofs.Order.{lt→le, lt-left, lt-not-le}
-use Rattle.order.proofs.Compare.{lt-irrefl, lt-asym, le-of-not-lt, fails}
+use Rattle.order.proofs.Compare.{lt-irrefl, le-of-not-lt, fails}
 use Rattle.order.proofs.Clock.{clock-on}
 use Rattle.myvec.specs.Vec.{vsub}
 use Rattle.model.specs.declared.Domain.{Domain}
@@ -45,26 +48,26 @@ use Rattle.model.specs.Doing.{scheduleCollision, scheduleBy, boundaries,
 use Rattle.model.specs.Rows.{Finder}
 use Rattle.halting.proofs.Bools.{clash, and-l, and-r}
 use Rattle.model.proofs.Lists.{live-same, live-other}
-use Rattle.model.proofs.Queue.{fine-top, fine-real}
+use Rattle.model.proofs.Queue.{fine-real}
 use Rattle.model.proofs.Frame.{of-sound}
 use Rattle.model.proofs.Cases.{on-test, insert-case}
 use Rattle.model.proofs.Cleared.{zero-fits, zero-finite}
 use Rattle.model.proofs.Plans.{Late, late-collide, not-below}
 
 -- ---- the heap: where no head is earlier than cell 0's, which is the root, an upshift leaves it there
-module _ (h : ℕ → Float) (late : (k : ℕ) → lt (h k) (h 0) ≡ false) where
+module _ (h : ℕ → Head) (late : (k : ℕ) → earlier (h k) (h 0) ≡ false) where
   stays : (s : Scheduler) (c : ℕ) → getD (s .heap) 0 0 ≡ 0 → (parentOf h s c ≡ c) ⊎ ((0 < c) × (0 < parentOf h s c))
   unfolding parentIn
-  stays s c z = by (ltb c (s .cells) && lt (timeAt h s c) (timeAt h s (parent c))) refl
+  stays s c z = by (ltb c (s .cells) && earlier (timeAt h s c) (timeAt h s (parent c))) refl
     where
-      apart′ : (ltb c (s .cells) && lt (timeAt h s c) (timeAt h s (parent c))) ≡ true → parent c ≡ 0 → ⊥
+      apart′ : (ltb c (s .cells) && earlier (timeAt h s c) (timeAt h s (parent c))) ≡ true → parent c ≡ 0 → ⊥
       apart′ e p =
           let C : c < s .cells = ltb-true c (s .cells) (and-l (ltb c (s .cells)) _ e) in
           let t0 : timeAt h s (parent c) ≡ h 0 = ap (timeAt h s) p ∙ time-in h s 0 (omega arith) ∙ ap h z in
-          let l : lt (h (getD (s .heap) c 0)) (h 0) ≡ true = sym (ap (λ (t : Float). lt t (h 0)) (time-in h s c C)) ∙ sym (ap (λ (t : Float). lt (timeAt h s c) t) t0) ∙ and-r (ltb c (s .cells)) _ e in
+          let l : earlier (h (getD (s .heap) c 0)) (h 0) ≡ true = sym (ap (λ (t : Head). earlier t (h 0)) (time-in h s c C)) ∙ sym (ap (λ (t : Head). earlier (timeAt h s c) t) t0) ∙ and-r (ltb c (s .cells)) _ e in
           clash (sym (late (getD (s .heap) c 0)) ∙ l)
 
-      by : (b : Bool) → (ltb c (s .cells) && lt (timeAt h s c) (timeAt h s (parent c))) ≡ b
+      by : (b : Bool) → (ltb c (s .cells) && earlier (timeAt h s c) (timeAt h s (parent c))) ≡ b
           → (cond b (parent c) c ≡ c) ⊎ ((0 < c) × (0 < cond b (parent c) c))
       by false e = inl refl
       by true e = elim (ℕ-discrete (parent c) 0) [
@@ -87,25 +90,25 @@ module _ (h : ℕ → Float) (late : (k : ℕ) → lt (h k) (h 0) ≡ false) whe
       by false e (inl p) again = clash (sym e ∙ eq-eqb (parentOf h s c) c p)
       by false e (inr p) again = again (swap-root (s .heap) c (parentOf h s c) (p .0) (p .1) ∙ z)
 
-  pub updated-root : (s : Scheduler) (c : ℕ) (before after : Float) → lt before after ≡ false → getD (s .heap) 0 0 ≡ 0 → getD ((updated h s c before after) .heap) 0 0 ≡ 0
+  pub updated-root : (s : Scheduler) (c : ℕ) (before after : Head) → earlier before after ≡ false → getD (s .heap) 0 0 ≡ 0 → getD ((updated h s c before after) .heap) 0 0 ≡ 0
   unfolding updated upshifted
   updated-root s c before after e z = rw e (up-root (getD (s .lookups) c 0) s (getD (s .lookups) c 0) z)
 
 -- ---- an insertion does not make a head later
-pub head-later : (e : Place) (l : List Place) → finePlace e ≡ true → lt (headTime l) (headTime (insertBy e l)) ≡ false
+pub head-later : (e : Place) (l : List Place) → earlier (headTime l) (headTime (insertBy e l)) ≡ false
 unfolding insertBy
-head-later e [] f = lt-asym (e .time) f64Max (is-true _ (fine-top e f))
-head-later e (x ∷ xs) f = by (le (x .time) (e .time)) refl
+head-later e [] = refl
+head-later e (x ∷ xs) = by (le (x .time) (e .time)) refl
   where
-    by : (b : Bool) → le (x .time) (e .time) ≡ b → lt (x .time) (headTime (cond b (x ∷ insertBy e xs) (e ∷ x ∷ xs))) ≡ false
+    by : (b : Bool) → le (x .time) (e .time) ≡ b → earlier (At (x .time)) (headTime (cond b (x ∷ insertBy e xs) (e ∷ x ∷ xs))) ≡ false
     by true q = lt-irrefl (x .time)
     by false q = fails (lt (x .time) (e .time)) (λ t. clash (sym q ∙ is-true _ (lt→le (x .time) (e .time) t)))
 
 -- what is not before 0, and the synchronisation at 0 in front of it
-head-from : (e : Place) (l : List Place) → lt (e .time) fzero ≡ false → lt (headTime l) fzero ≡ false → lt (headTime (insertBy e l)) fzero ≡ false
+head-from : (e : Place) (l : List Place) → lt (e .time) fzero ≡ false → earlier (headTime l) (At fzero) ≡ false → earlier (headTime (insertBy e l)) (At fzero) ≡ false
 unfolding insertBy
 head-from e [] h k = h
-head-from e (x ∷ xs) h k = on-test (λ m. lt (headTime m) fzero ≡ false) (le (x .time) (e .time)) (x ∷ insertBy e xs) (e ∷ x ∷ xs) (λ q. k) (λ q. h)
+head-from e (x ∷ xs) h k = on-test (λ m. earlier (headTime m) (At fzero) ≡ false) (le (x .time) (e .time)) (x ∷ insertBy e xs) (e ∷ x ∷ xs) (λ q. k) (λ q. h)
 
 zero-real : isNan fzero ≡ false
 unfolding isNan ofBits
@@ -125,18 +128,18 @@ pub record Rooted (n : ℕ) (u : State) : Type 0 where
   pub clock : u .clock ≡ fzero
   pub root : first u ≡ 0
   pub head : headPlace (queue u 0) ≡ syncAt fzero
-  pub late : (c : ℕ) → lt (headTime (queue u c)) fzero ≡ false
+  pub late : (c : ℕ) → earlier (headTime (queue u c)) (At fzero) ≡ false
 
-headed : (l : List Place) → headPlace l ≡ syncAt fzero → headTime l ≡ fzero
+headed : (l : List Place) → headPlace l ≡ syncAt fzero → headTime l ≡ At fzero
 headed [] z = absurd (let k : _≡_ {A = ℕ} 0 5 = ap (λ (p : Place). p .kind) z in omega (arith, k))
-headed (x ∷ xs) z = ap (λ (p : Place). p .time) z
+headed (x ∷ xs) z = ap (λ (p : Place). At (p .time)) z
 
 rooted-insert : (n c : ℕ) (e : Place) (u : State) → c < n → Rooted n u → finePlace e ≡ true → lt (e .time) fzero ≡ false → Rooted n (inserted c e u)
 unfolding requeued
 rooted-insert n c e u C r f h = record {
   long = length-set (u .queues) c new ∙ r .long;
   clock = r .clock;
-  root = updated-root (heads (set (u .queues) c new)) (λ k. heads-late k) (u .sched) c (heads (u .queues) c) (headTime (insertBy e (queue u c))) (unfold heads in head-later e (queue u c) f) (r .root);
+  root = updated-root (heads (set (u .queues) c new)) (λ k. heads-late k) (u .sched) c (heads (u .queues) c) (headTime (insertBy e (queue u c))) (unfold heads in head-later e (queue u c)) (r .root);
   head = front;
   late = behind;
 }
@@ -153,14 +156,14 @@ rooted-insert n c e u C r f h = record {
       | no d ↦ ap headPlace (live-other (u .queues) c 0 new d) ∙ r .head
     ]
 
-    behind : (k : ℕ) → lt (headTime (liveAt (set (u .queues) c new) k)) fzero ≡ false
+    behind : (k : ℕ) → earlier (headTime (liveAt (set (u .queues) c new) k)) (At fzero) ≡ false
     behind k = elim (ℕ-discrete k c) [
-      | yes z ↦ ap (λ (j : ℕ). lt (headTime (liveAt (set (u .queues) c new) j)) fzero) z ∙ ap (λ (l : List Place). lt (headTime l) fzero) here ∙ head-from e (queue u c) h (r .late c)
-      | no d ↦ ap (λ (l : List Place). lt (headTime l) fzero) (live-other (u .queues) c k new d) ∙ r .late k
+      | yes z ↦ ap (λ (j : ℕ). earlier (headTime (liveAt (set (u .queues) c new) j)) (At fzero)) z ∙ ap (λ (l : List Place). earlier (headTime l) (At fzero)) here ∙ head-from e (queue u c) h (r .late c)
+      | no d ↦ ap (λ (l : List Place). earlier (headTime l) (At fzero)) (live-other (u .queues) c k new d) ∙ r .late k
     ]
 
-    heads-late : (k : ℕ) → lt (heads (set (u .queues) c new) k) (heads (set (u .queues) c new) 0) ≡ false
-    heads-late k = unfold heads in ap (λ (t : Float). lt (headTime (liveAt (set (u .queues) c new) k)) t) (headed (liveAt (set (u .queues) c new) 0) front) ∙ behind k
+    heads-late : (k : ℕ) → earlier (heads (set (u .queues) c new) k) (heads (set (u .queues) c new) 0) ≡ false
+    heads-late k = unfold heads in ap (λ (t : Head). earlier (headTime (liveAt (set (u .queues) c new) k)) t) (headed (liveAt (set (u .queues) c new) 0) front) ∙ behind k
 
 -- ---- what is found at the clock 0 is not before 0
 abbrev FromZero : Plan → Type 0

@@ -14,8 +14,8 @@ use Rattle.model.specs.declared.Event.{Event}
 use Rattle.model.specs.declared.Event.the-variants.{InterParticleCollision, MoveToNeighbour, MoveOutOfCell, WallReflection, Synchronisation}
 use Rattle.halting.specs.Out.{Out, out, next, each}
 use Rattle.halting.proofs.Laws.{each-sound}
-use Rattle.order.specs.Numbers.{fzero, f64Max}
-use Rattle.order.proofs.Order.{le-lt-trans, lt-irrefl}
+use Rattle.order.specs.Numbers.{fzero}
+use Rattle.scheduler.specs.Head.{noLater}
 use Rattle.order.proofs.Clock.{clock-on}
 use Rattle.model.specs.Grid.{cells}
 use Rattle.model.specs.Events.{eventOf, headTime, headPlace, insertBy, zeroP}
@@ -24,11 +24,9 @@ use Rattle.model.specs.Acts.{insert, inserted, first, head, taken, queue
 use Rattle.model.specs.Doing.{stepGrain, doSync, syncAt, execution}
 use Rattle.model.specs.Execute.{Stepped, done, synchronised, halted, finish, headEvent, event, step}
 use Rattle.model.specs.Stepping.{grainOf}
-use Rattle.halting.specs.Every.{All}
 use Rattle.model.specs.Standing.{syncs, one-if}
 use Rattle.model.proofs.Sound.{Sound, Stands, Named, Held}
 use Rattle.model.proofs.Lists.{live-same, live-other}
-use Rattle.model.proofs.Queue.{fine-top}
 use Rattle.model.proofs.Cases.{insert-case}
 use Rattle.model.proofs.Keeps.{Apt, insert-sound, first-in, root-first, taken-sound, taken-clock, head-held}
 use Rattle.model.proofs.Plans.{cells-some}
@@ -129,20 +127,17 @@ module _ (rate : Float) (later : lt rate fzero ≡ false) where
   execute-ends Synchronisation c s sound C n = sync-ends s sound
 
 -- ---- there is a first event
-nonempty : (n c : ℕ) (m : List ℕ) (l : List Place) → syncs l ≡ 1 → All (Held n c m) l → T (lt (headTime l) f64Max)
+-- a list whose head is no later than that of one with a synchronisation holds an event
+some-of : (l m : List Place) → syncs m ≡ 1 → T (noLater (headTime l) (headTime m)) → 0 < length l
 unfolding syncs
-nonempty n c m [] z a = absurd (omega (arith, z))
-nonempty n c m (x ∷ xs) z a = fine-top x (a .0 .fine)
-
-some-of : (l : List Place) → T (lt (headTime l) f64Max) → 0 < length l
-some-of [] h = absurd (lt-irrefl f64Max h)
-some-of (x ∷ xs) h = omega arith
+some-of [] [] z h = absurd (omega (arith, z))
+some-of [] (y ∷ ys) z h = absurd h
+some-of (x ∷ xs) m z h = omega arith
 
 pub first-some : (s : State) → Stands s → 0 < length (queue s (first s))
 first-some s st =
     let N = cells-some (s .box) in
-    some-of (queue s (first s)) (le-lt-trans (headTime (queue s (first s))) (headTime (queue s 0)) f64Max (root-first s (st .sound) N 0 N)
-    (nonempty (cells (s .box)) 0 (listed s 0) (queue s 0) (st .sync) (st .sound .queues 0 N .held)))
+    some-of (queue s (first s)) (queue s 0) (st .sync) (root-first s (st .sound) N 0 N)
 
 -- the head's synchronisations and those left in cell 0 are those that were there
 syncs-tail : (l : List Place) → 0 < length l → one-if (eventOf ((headPlace l) .kind) (headPlace l)) + syncs (drop 1 l) ≡ syncs l

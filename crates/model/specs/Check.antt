@@ -5,10 +5,12 @@ use mathlib.Core.List.{List, [], _∷_}
 use mathlib.Core.Bool.{Bool, true, not, _&&_, _||_, cond}
 use lib.Dec.{T, eqb, leb, ltb}
 use lib.ListN.{length, getD}
-use lib.Ieee.{Float, binary64, le, lt, fits}
+use lib.Ieee.{Float, binary64, le, fits}
 use lib.Ieee.Scale.{finite}
 use Rattle.halting.specs.Every.{every, All}
 use Rattle.order.specs.Numbers.{fzero}
+use Rattle.scheduler.specs.declared.head.Head.{Head}
+use Rattle.scheduler.specs.Head.{earlier}
 use Rattle.scheduler.specs.Heap.{timeIn, parent}
 use Rattle.model.specs.declared.Domain.{Domain}
 use Rattle.model.specs.declared.Particle.{Particle}
@@ -89,17 +91,17 @@ queueOk t room n c l r = eqb (length (r .live) + length (r .spare)) room && (ris
 unfoldable pub queued : Float → ℕ → ℕ → List (Row ℕ) → List (Row Place) → Bool
 queued t room n ms qs = walk (λ c r. queueOk t room n c (liveAt ms c) r) 0 qs && eqb (syncs (liveAt qs 0)) 1
 
--- ---- the heap of n cells by their head times h, and its lookups
+-- ---- the heap of n cells by their heads h, and its lookups
 abbrev pub leadsBack : List ℕ → List ℕ → ℕ → ℕ → Bool
 leadsBack a b n i = ltb (getD a i 0) n && eqb (getD b (getD a i 0) 0) i
 
 abbrev pub inverse : ℕ → List ℕ → List ℕ → Bool
 inverse n a b = every (leadsBack a b n) n 0
 
-abbrev pub inOrder : (ℕ → Float) → List ℕ → ℕ → ℕ → Bool
-inOrder h heap n i = eqb i 0 || not (lt (timeIn h heap n i) (timeIn h heap n (parent i)))
+abbrev pub inOrder : (ℕ → Head) → List ℕ → ℕ → ℕ → Bool
+inOrder h heap n i = eqb i 0 || not (earlier (timeIn h heap n i) (timeIn h heap n (parent i)))
 
-unfoldable pub heaped : (ℕ → Float) → ℕ → List ℕ → List ℕ → Bool
+unfoldable pub heaped : (ℕ → Head) → ℕ → List ℕ → List ℕ → Bool
 heaped h n heap lookups = inverse n heap lookups && (inverse n lookups heap && every (inOrder h heap n) n 0)
 
 -- ---- counts in range, and as many rows and places as they say: what tables that are long enough always hold

@@ -7,6 +7,8 @@ use lib.Dec.{eqb}
 use lib.Ieee.{Float, le, lt}
 use lib.Ieee.Scale.{finite}
 use Rattle.order.specs.Numbers.{fzero, f64Max}
+use Rattle.scheduler.specs.declared.head.Head.{Head}
+use Rattle.scheduler.specs.declared.head.Head.the-variants.{Empty, At}
 use Rattle.myvec.specs.declared.MyVec.{MyVec}
 use Rattle.myvec.specs.Vec.{vec}
 use Rattle.model.specs.declared.Event.{Event}
@@ -65,10 +67,10 @@ unfoldable pub goneBy : ℕ → List Place → ℕ
 goneBy g [] = 0
 goneBy g (x ∷ xs) = cond (names (eventOf (x .kind) x) g) (suc (goneBy g xs)) (goneBy g xs)
 
--- an event in front of others: its time is f64::MAX where there is none
-abbrev pub headTime : List Place → Float
-headTime [] = f64Max
-headTime (x ∷ xs) = x .time
+-- the head of some events: empty where there is none, else the time of the first; and that event
+abbrev pub headTime : List Place → Head
+headTime [] = Empty
+headTime (x ∷ xs) = At (x .time)
 
 abbrev pub headPlace : List Place → Place
 headPlace [] = zeroP

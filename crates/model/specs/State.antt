@@ -7,6 +7,7 @@ use lib.ListN.{getD, set, drop}
 use lib.Ieee.{Float}
 use Rattle.order.specs.Numbers.{fzero}
 use Rattle.scheduler.specs.declared.Scheduler.{Scheduler}
+use Rattle.scheduler.specs.declared.head.Head.{Head}
 use Rattle.scheduler.specs.Heap.{updated}
 use Rattle.model.specs.declared.Domain.{Domain}
 use Rattle.model.specs.declared.Particle.{Particle}
@@ -57,8 +58,8 @@ listed s c = liveAt (s .members) c
 abbrev pub queue : State → ℕ → List Place
 queue s c = liveAt (s .queues) c
 
--- each cell's head time
-unfoldable pub heads : List (Row Place) → ℕ → Float
+-- each cell's head
+unfoldable pub heads : List (Row Place) → ℕ → Head
 heads qs c = headTime (liveAt qs c)
 
 -- writing

@@ -3,9 +3,11 @@ ghost use mathlib.Core.Path.{_≡_};
 ghost use Prim.Native.Nat.{ℕ, _≤_, _<_};
 ghost use lib.ListN.{length};
 ghost use Rattle.scheduler.specs.Heap.{timeIn, swapAt, chosen, childIn, downshifted, parentIn, upshifted, updated, startHeap};
-ghost use Rattle.scheduler.specs.Inside.{headIn, made, Fit};
+ghost use Rattle.scheduler.specs.Inside.{headIn, made};
 
-const LAST: f64 = 1.7976931348623157e308;
+pub mod head;
+
+use crate::head::Head;
 
 pub struct Scheduler {
     pub heap: [u8; 256],
@@ -13,39 +15,36 @@ pub struct Scheduler {
     pub cells: usize,
 }
 
-// The head time of a cell: its first place's, f64::MAX where it holds no event.
-pub fn head_time(times: &[f64], held: &[u64], room: usize, cell: usize) -> f64
+// The head of a cell: empty where it holds no event, else its first place's time.
+pub fn head_time(times: &[f64], held: &[u64], room: usize, cell: usize) -> Head
     requires { ⌜ (room ≤ 256) × (cell < 256) ⌝ }
     ensures { λ r. ⌜ r ≡ headIn (now (times .entry)) (now (held .entry)) room cell ⌝ }
 {
     let at = layout::queue_from(room, cell);
-    if held.len() <= at {
-        return LAST;
-    }
-    if held[at] == 0 {
-        return LAST;
-    }
     let p = layout::events_from(room, cell);
-    if p < times.len() { times[p] } else { LAST }
+    if times.len() <= p || held.len() <= at || held[at] == 0 {
+        return Head::Empty;
+    }
+    Head::At(times[p])
 }
 
-fn head_of(times: &[f64], held: &[u64], room: usize, number: u8) -> f64
+fn head_of(times: &[f64], held: &[u64], room: usize, number: u8) -> Head
     requires { ⌜ room ≤ 256 ⌝ }
     ensures { λ r. ⌜ r ≡ headIn (now (times .entry)) (now (held .entry)) room number ⌝ }
 {
     head_time(times, held, room, number as usize)
 }
 
-// The head time at a heap index: f64::MAX past the cells in use. The heap is lent, and not copied.
-fn time_in(heap: &[u8], cells: usize, times: &[f64], held: &[u64], room: usize, at: usize) -> f64
+// The head at a heap index: empty past the cells in use. The heap is lent, and not copied.
+fn time_in(heap: &[u8], cells: usize, times: &[f64], held: &[u64], room: usize, at: usize) -> Head
     requires { ⌜ (cells ≤ length (now heap)) × (room ≤ 256) ⌝ }
     ensures { λ r. ⌜ r ≡ timeIn (headIn (now (times .entry)) (now (held .entry)) room) (now (heap .entry)) cells at ⌝ }
 {
-    if cells <= at {
-        return LAST;
+    if at < cells {
+        let cell = heap[at];
+        return head_of(times, held, room, cell);
     }
-    let cell = heap[at];
-    head_of(times, held, room, cell)
+    Head::Empty
 }
 
 // The child that p changes places with, or p where the shift ends.
@@ -61,13 +60,13 @@ pub fn child(heap: &[u8], cells: usize, times: &[f64], held: &[u64], room: usize
     pick_child(tp, tl, tr, p, l, r)
 }
 
-// Of a parent p and its children l and r, by their times: the child to change places with, or p.
-fn pick_child(tp: f64, tl: f64, tr: f64, p: usize, l: usize, r: usize) -> usize
+// Of a parent p and its children l and r, by their heads: the child to change places with, or p.
+fn pick_child(tp: Head, tl: Head, tr: Head, p: usize, l: usize, r: usize) -> usize
     ensures { λ x. ⌜ x ≡ chosen tp tl tr p l r ⌝ }
 {
-    if tl < tp && tl <= tr {
+    if tl.earlier(tp) && tl.no_later(tr) {
         l
-    } else if tr < tp && tr < tl {
+    } else if tr.earlier(tp) && tr.earlier(tl) {
         r
     } else {
         p
@@ -95,7 +94,7 @@ pub fn parent(
     let p = (c - 1) / 2;
     let tc = time_in(heap, cells, times, held, room, c);
     let tp = time_in(heap, cells, times, held, room, p);
-    if tc < tp { p } else { c }
+    if tc.earlier(tp) { p } else { c }
 }
 
 impl Scheduler {
@@ -125,17 +124,17 @@ impl Scheduler {
         held: &[u64],
         room: usize,
         cell: usize,
-        before: f64,
-        after: f64,
+        before: Head,
+        after: Head,
     ) -> Scheduler
-        requires { ⌜ Fit (headIn (now times) (now held) room) self × (cell < 256) × (room ≤ 256) ⌝ }
+        requires { ⌜ (self .cells ≤ 256) × (cell < 256) × (room ≤ 256) ⌝ }
         ensures { λ r. ⌜ r ≡ updated (headIn (now (times .entry)) (now (held .entry)) room) self cell before after ⌝ }
     {
         let n = self.cells;
         let mut heap = self.heap;
         let mut lookups = self.lookups;
         let at = lookups[cell] as usize;
-        if before < after {
+        if before.earlier(after) {
             downshift(&mut heap, &mut lookups, n, times, held, room, at);
         } else {
             upshift(&mut heap, &mut lookups, n, times, held, room, at);
@@ -180,7 +179,7 @@ fn downshift(
     room: usize,
     p: usize,
 )
-    requires { ⌜ Fit (headIn (now times) (now held) room) (made (now heap) (now lookups) n) × (room ≤ 256) ⌝ }
+    requires { ⌜ (n ≤ 256) × (room ≤ 256) ⌝ }
     ensures { λ _. ⌜ made (now (heap .exit)) (now (lookups .exit)) n ≡ downshifted (headIn (now (times .entry)) (now (held .entry)) room) (made (now (heap .entry)) (now (lookups .entry)) n) p ⌝ }
 {
     if n <= p {

@@ -81,10 +81,10 @@ module _ (s : State) (K : Sound s) where
   grains-many = let g : length (flat grainReals (s .grains)) ≡ length (s .grains) * grainWide = row-long grainReals grainWide (λ p. refl) (lib.Dec.lit< tt) (s .grains) refl in omega (arith, g)
 
   queue-many : length (flat queueNums (s .queues)) ≡ queueNeed (sizesIn s)
-  queue-many = length-flat queueNums (queueWide (s .room)) (s .queues) (rows-nums-wide (s .room) (s .queues) (H .queued .tables .good)) ∙ ap (λ (n : ℕ). n * (queueWide (s .room))) (H .queued .tables .many)
+  queue-many = length-flat queueNums (queueWide (s .room)) (s .queues) (rows-nums-wide (s .room) (s .queues) (H .queued .tables .full)) ∙ ap (λ (n : ℕ). n * (queueWide (s .room))) (H .queued .tables .many)
 
   events-many : length (flat queueReals (s .queues)) ≡ eventsNeed (sizesIn s)
-  events-many = length-flat queueReals (eventsWide (s .room)) (s .queues) (rows-reals-wide (s .room) (s .queues) (H .queued .tables .good)) ∙ ap (λ (n : ℕ). n * (eventsWide (s .room))) (H .queued .tables .many)
+  events-many = length-flat queueReals (eventsWide (s .room)) (s .queues) (rows-reals-wide (s .room) (s .queues) (H .queued .tables .full)) ∙ ap (λ (n : ℕ). n * (eventsWide (s .room))) (H .queued .tables .many)
 
   order-many : length (orderBytes (s .sched)) ≡ orderWide
   order-many = let a = length-append (s .sched .heap) (s .sched .lookups) in let h = H .queued .heap .heap-long in let l = H .queued .heap .lookups-long in omega (arith, a, h, l)

@@ -21,10 +21,10 @@ use Rattle.layout.specs.Widths.{placeNumsWide, placeRealsWide, queueWide, event
 use Rattle.model.specs.declared.Place.{Place}
 use Rattle.model.specs.Events.{insertBy, zeroP, keepBy, goneBy, names, eventOf, fineV, finePlace}
 use Rattle.model.specs.State.{Row}
-use Rattle.model.proofs.Sound.{Held, Queue}
-use Rattle.model.proofs.Queue.{fine-low, length-keep}
+use Rattle.model.proofs.Sound.{Queue}
+use Rattle.model.proofs.Queue.{length-keep}
 use Rattle.tables.specs.Layout.{places, placeNums, placeReals, queueNums, queueReals}
-use Rattle.tables.specs.Holds.{Run, Good}
+use Rattle.tables.specs.Holds.{Run, Full}
 use Rattle.tables.specs.Places.{Passed, Keeping}
 
 -- ---- rule 5 of a place, in the order in which it is tested
@@ -67,19 +67,16 @@ row-nums-long room r f = let e = nums-long (places r) in omega (arith, e, f)
 pub row-reals-long : (room : ℕ) (r : Row Place) → length (places r) ≡ room → length (queueReals r) ≡ eventsWide room
 row-reals-long room r f = let e = reals-long (places r) in omega (arith, e, f)
 
-module _ (room : ℕ) (qs : List (Row Place)) (g : All (Good room) qs) where
+module _ (room : ℕ) (qs : List (Row Place)) (g : All (Full room) qs) where
   pub rows-nums-wide : All (λ (r : Row Place). length (queueNums r) ≡ queueWide room) qs
-  rows-nums-wide = all-to (Good room) (λ (r : Row Place). length (queueNums r) ≡ queueWide room) qs (λ r k. row-nums-long room r (k .full)) g
+  rows-nums-wide = all-to (Full room) (λ (r : Row Place). length (queueNums r) ≡ queueWide room) qs (λ r k. row-nums-long room r k) g
 
   pub rows-reals-wide : All (λ (r : Row Place). length (queueReals r) ≡ eventsWide room) qs
-  rows-reals-wide = all-to (Good room) (λ (r : Row Place). length (queueReals r) ≡ eventsWide room) qs (λ r k. row-reals-long room r (k .full)) g
+  rows-reals-wide = all-to (Full room) (λ (r : Row Place). length (queueReals r) ≡ eventsWide room) qs (λ r k. row-reals-long room r k) g
 
--- a sound queue is a good row
-pub good-of : (n c : ℕ) (m : List ℕ) {t : Float} {room : ℕ} (r : Row Place) → Queue t room n c m r → Good room r
-good-of n c m r q = record {
-  full = length-append (r .live) (r .spare) ∙ q .full;
-  tops = all-to (Held n c m) (λ (p : Place). lt f64Max (p .time) ≡ false) (r .live) (λ p h. fine-low p (h .fine)) (q .held);
-}
+-- a sound queue is a full row
+pub full-of : (n c : ℕ) (m : List ℕ) {t : Float} {room : ℕ} (r : Row Place) → Queue t room n c m r → Full room r
+full-of n c m r q = length-append (r .live) (r .spare) ∙ q .full
 
 -- ---- the tables behind some places
 module _ (k : ℕ) (front ps : List Place) {ns : List ℕ} {rs : List Float} (e : length front ≡ k) (h : Run ns rs (front ++ ps)) where
@@ -206,11 +203,11 @@ pub free-first : (live rest : List Place) (x : Place) {ns : List ℕ} {rs : List
 free-first live rest x h = record { front = []; back = live; over = x; is = refl; many = refl; holds = h }
 
 -- the one before it moves up
-pub moved-up : {live rest : List Place} {i : ℕ} {ns ns′ : List ℕ} {rs rs′ : List Float} {f64Max : Place} → Moved live rest i ns rs → 0 < i
-    → ((ps : List Place) → Run ns rs ps → f64Max ≡ getD ps (i - 1) zeroP)
-    → ((ps : List Place) → Run ns rs ps → Run ns′ rs′ (set ps i f64Max))
+pub moved-up : {live rest : List Place} {i : ℕ} {ns ns′ : List ℕ} {rs rs′ : List Float} {one : Place} → Moved live rest i ns rs → 0 < i
+    → ((ps : List Place) → Run ns rs ps → one ≡ getD ps (i - 1) zeroP)
+    → ((ps : List Place) → Run ns rs ps → Run ns′ rs′ (set ps i one))
     → Moved live rest (i - 1) ns′ rs′
-moved-up {live} {rest} {i} {ns} {ns′} {rs} {rs′} {f64Max} m p got put =
+moved-up {live} {rest} {i} {ns} {ns′} {rs} {rs′} {one} m p got put =
     let e = ended (m .front) (let k = m .many in omega arith) in
     let t = m .back ++ rest in
     let k = ap length (e .is) in
@@ -219,7 +216,7 @@ moved-up {live} {rest} {i} {ns} {ns′} {rs} {rs′} {f64Max} m p got put =
     let short : length (e .front) ≡ i - 1 = omega arith in
     let h : Run ns rs ((e .front ++ e .end ∷ []) ++ m .over ∷ t) = subst (λ (f : List Place). Run ns rs (f ++ m .over ∷ t)) (e .is) (m .holds) in
     let h₁ : Run ns rs (e .front ++ e .end ∷ m .over ∷ t) = subst (Run ns rs) (append-assoc (e .front) (e .end ∷ []) (m .over ∷ t)) h in
-    let same : f64Max ≡ e .end = got (e .front ++ e .end ∷ m .over ∷ t) h₁ ∙ getD-at (e .front) (e .end) (m .over ∷ t) zeroP _ short in
+    let same : one ≡ e .end = got (e .front ++ e .end ∷ m .over ∷ t) h₁ ∙ getD-at (e .front) (e .end) (m .over ∷ t) zeroP _ short in
     let long : length (e .front ++ e .end ∷ []) ≡ i = omega arith in
     record {
       front = e .front;
@@ -229,7 +226,7 @@ moved-up {live} {rest} {i} {ns} {ns′} {rs} {rs′} {f64Max} m p got put =
       many = short;
       holds =
           subst (Run ns′ rs′)
-          (set-at (e .front ++ e .end ∷ []) (m .over) t f64Max _ long ∙ ap (λ (y : Place). (e .front ++ e .end ∷ []) ++ y ∷ t) same
+          (set-at (e .front ++ e .end ∷ []) (m .over) t one _ long ∙ ap (λ (y : Place). (e .front ++ e .end ∷ []) ++ y ∷ t) same
           ∙ append-assoc (e .front) (e .end ∷ []) (e .end ∷ t))
           (put ((e .front ++ e .end ∷ []) ++ m .over ∷ t) h);
     }

@@ -1,14 +1,12 @@
 -- What it means that the tables, behind their headers, hold a state. Assumes nothing: these are definitions.
 use Prim.Native.Nat.{ℕ, _+_, _≤_, _<_}
 use mathlib.Core.Path.{_≡_}
-use mathlib.Core.Bool.{false}
 use mathlib.Core.List.{List, _++_}
 use lib.ListN.{length}
-use lib.Ieee.{Float, lt}
+use lib.Ieee.{Float}
 use Rattle.halting.specs.Every.{All}
 use Rattle.chunks.specs.Flat.{flat}
 use Rattle.halting.specs.Out.{Out}
-use Rattle.order.specs.Numbers.{f64Max}
 use Rattle.layout.specs.Widths.{heapWide, homeRoom, memberRoom}
 use Rattle.scheduler.specs.declared.Scheduler.{Scheduler}
 use Rattle.model.specs.declared.Particle.{Particle}
@@ -46,16 +44,15 @@ pub record Run (nums : List ℕ) (reals : List Float) (ps : List Place) : Type 0
   pub nums-is : nums ≡ flat placeNums ps
   pub reals-is : reals ≡ flat placeReals ps
 
--- a row of `room` places, with no event later than f64::MAX
-pub record Good (room : ℕ) (r : Row Place) : Type 0 where
-  pub full : length (places r) ≡ room
-  pub tops : All (λ (p : Place). lt f64Max (p .time) ≡ false) (r .live)
+-- a row of `room` places
+abbrev pub Full : ℕ → Row Place → Type 0
+Full room r = length (places r) ≡ room
 
 pub record Tabled (z : Sizes) (queue : List ℕ) (events : List Float) (qs : List (Row Place)) : Type 0 where
   pub queue-is : queue ≡ flat queueNums qs
   pub events-is : events ≡ flat queueReals qs
   pub many : length qs ≡ z .cells
-  pub good : All (Good (z .room)) qs
+  pub full : All (Full (z .room)) qs
 
 -- ---- the heap and its lookups
 pub record Heaped (z : Sizes) (t : List ℕ) (h : Scheduler) : Type 0 where

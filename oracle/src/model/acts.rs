@@ -7,18 +7,27 @@ fn finite(numbers: &[f64]) -> bool {
     numbers.iter().all(|x| x.is_finite())
 }
 
+/// Is one head earlier than the other? An empty list is behind every time.
+pub fn earlier(one: Option<f64>, other: Option<f64>) -> bool {
+    match (one, other) {
+        (Some(t), Some(u)) => t < u,
+        (Some(_), None) => true,
+        (None, _) => false,
+    }
+}
+
 impl State {
-    /// Time of a cell's head event; an empty list reads the largest float.
-    pub fn head(&self, cell: usize) -> f64 {
-        self.queues[cell].live().first().map_or(f64::MAX, |e| e.time)
+    /// Time of a cell's head event; an empty list has none.
+    pub fn head(&self, cell: usize) -> Option<f64> {
+        self.queues[cell].live().first().map(|e| e.time)
     }
 
-    /// Head time at a heap index; past the end it reads the largest float.
-    fn at(&self, index: usize) -> f64 {
+    /// Head time at a heap index; past the end there is none.
+    fn at(&self, index: usize) -> Option<f64> {
         if index < self.members.len() {
             self.head(self.heap[index] as usize)
         } else {
-            f64::MAX
+            None
         }
     }
 
@@ -30,15 +39,15 @@ impl State {
     }
 
     /// Brings the heap in order after a cell's head time went from `before` to what it is now.
-    fn update(&mut self, cell: usize, before: f64) {
+    fn update(&mut self, cell: usize, before: Option<f64>) {
         let mut here = self.look[cell] as usize;
-        if before < self.head(cell) {
+        if earlier(before, self.head(cell)) {
             loop {
                 let (left, right) = (2 * here + 1, 2 * here + 2);
                 let (l, r, parent) = (self.at(left), self.at(right), self.at(here));
-                let child = if l < parent && l <= r {
+                let child = if earlier(l, parent) && !earlier(r, l) {
                     left
-                } else if r < parent && r < l {
+                } else if earlier(r, parent) && earlier(r, l) {
                     right
                 } else {
                     return;
@@ -47,7 +56,7 @@ impl State {
                 here = child;
             }
         }
-        while here > 0 && self.at(here) < self.at((here - 1) / 2) {
+        while here > 0 && earlier(self.at(here), self.at((here - 1) / 2)) {
             self.change_places(here, (here - 1) / 2);
             here = (here - 1) / 2;
         }

@@ -1,4 +1,5 @@
 // The standing facts, tested on any state whose counts are in range.
+use super::acts::earlier;
 use super::grid::{box_in_range, cells_along};
 use super::state::{Place, Row, State, COLLISION, NEIGHBOUR, OUT, SYNC, WALL};
 
@@ -83,7 +84,7 @@ fn heap_inverse(s: &State) -> bool {
 
 fn heap_ordered(s: &State) -> bool {
     let head = |i: usize| s.head(s.heap[i] as usize);
-    (1..s.members.len()).all(|i| head((i - 1) / 2) <= head(i))
+    (1..s.members.len()).all(|i| !earlier(head(i), head((i - 1) / 2)))
 }
 
 fn one_synchronisation(s: &State) -> bool {

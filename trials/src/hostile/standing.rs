@@ -107,7 +107,7 @@ fn unused(s: &mut State, cell: usize, r: &mut Random) {
 fn exchange(s: &mut State, i: usize, r: &mut Random) {
     let j = r.below(s.members.len() as u64) as usize;
     let (a, b) = (s.heap[i] as usize, s.heap[j] as usize);
-    if s.head(a).to_bits() == s.head(b).to_bits() {
+    if s.head(a).map(f64::to_bits) == s.head(b).map(f64::to_bits) {
         s.change_places(i, j);
     }
 }

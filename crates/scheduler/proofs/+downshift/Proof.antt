@@ -56,8 +56,8 @@ downshift-swap-requires t c κs =
     let h = headIn (a .times .now) (a .held .now) (a .room) in
     let s = made (a .heap .now) (a .lookups .now) (a .n) in
     let e : ch .child .result ≡ childOf h s (a .p) = ch .child .ensures in
-    let l = child-in h s (a .p) (b .pre .1 .0) (else1 .if1 .left) (λ w. else2 .if2 .left (e ∙ w)) in
-    let r = b .pre .1 .0 .room in
+    let l = child-in h s (a .p) (λ w. else2 .if2 .left (e ∙ w)) in
+    let r = b .pre .1 .0 in
     (omega (arith, else1 .if1 .left), omega arith)
 
 downshift-downshift-requires : (t : ℕ) → downshift-lts.Need-downshift-requires (Rd t) (downshift-at t) downshift.Post
@@ -70,9 +70,8 @@ downshift-downshift-requires t c κs =
     let h = headIn (a .times .now) (a .held .now) (a .room) in
     let s = made (a .heap .now) (a .lookups .now) (a .n) in
     let e : ch .child .result ≡ childOf h s (a .p) = ch .child .ensures in
-    let f = b .pre .1 .0 in
     let l = child-after h s (a .p) in
-    (omega (arith, else2 .if2 .left, else1 .if1 .left), (record { room = f .room; top = f .top }, b .pre .1 .1))
+    (omega (arith, else2 .if2 .left, else1 .if1 .left), b .pre .1)
 
 downshift-returns-3 : (t : ℕ) → downshift-lts.Need-returns-3 (Rd t) (downshift-at t) downshift.Post
 downshift-returns-3 t c =

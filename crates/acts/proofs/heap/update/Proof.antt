@@ -1,13 +1,17 @@
 -- `heap::update` meets its contract. Assumes nothing.
 use Rattle.acts.proofs.Updates.{update-same}
+use Rattle.acts.specs.Queues.{shiftedTo}
+use borrow.Rule.Slice.PartMut.{midOf}
+use lib.ListN.{getD}
+use mathlib.Core.Bool.{Bool}
 use Rattle.tables.proofs.HeapLaws.{front-long}
 use Rattle.tables.specs.Decode.{schedulerOf}
 use Rattle.tables.specs.Layout.{orderBytes}
 use Rattle.scheduler.specs.Heap.{updated}
-use Rattle.scheduler.specs.Inside.{headIn, Fit}
+use Rattle.scheduler.specs.Inside.{headIn}
 use Rattle.scheduler.specs.declared.Scheduler.{Scheduler}
-use lib.Ieee.{Float}
-use Prim.Native.Nat.{_+_}
+use Rattle.scheduler.specs.declared.head.Head.{Head}
+use Prim.Native.Nat.{_+_, _≤_}
 use mathlib.Core.Path.{sym, ap, subst, _∙_}
 use native.Mathlib.Omega.{arith}
 use borrow.Author.Needs.{needs}
@@ -38,14 +42,16 @@ part-shifted-to-start c = omega arith
 part-shifted-to-end : tie.Need-part-shifted-to-end
 part-shifted-to-end c = omega arith
 
+earlier-requires : tie.Need-earlier-requires
+earlier-requires c κs = search needs
+
 shifted-to-requires : tie.Need-shifted-to-requires
 shifted-to-requires c κs =
     let b : tie.Start = search in
     let a = b .args in
     let t = a .order .now in
-    let h = headIn (a .events .now) (a .queue .now) (a .z .room) in
-    let f = b .pre .1 .room in
-    (omega (arith, front-long t (b .pre .0)), omega (arith, c .before .before .slice-known2 .given (256 + a .cell)), b .pre .3)
+    let sk : tie.After-slice-known2 = search in
+    (omega (arith, front-long t (b .pre .0)), omega (arith, sk .slice-known2 .given (256 + a .cell)), b .pre .3)
 
 same-length : tie.Need-same-length
 same-length c = search needs
@@ -57,7 +63,10 @@ returns c =
     let a = b .args in
     let t = a .order .now in
     let h = headIn (a .events .now) (a .queue .now) (a .z .room) in
-    update-same t (b .pre .0) h (a .z .cells) (a .cell) (a .before) (ht .head-time .result) (c .before .shifted-to .result) (ht .head-time .ensures) (c .before .shifted-to .ensures) (c .if1 .taken)
+    let er : tie.After-earlier = search in
+    let at = getD t (256 + a .cell) 0 in
+    let to = c .before .shifted-to .ensures ∙ ap (λ (x : Bool). shiftedTo h (midOf 0 256 t) (a .z .cells) at x) (er .earlier .ensures) in
+    update-same t (b .pre .0) h (a .z .cells) (a .cell) (a .before) (ht .head-time .result) (c .before .shifted-to .result) (ht .head-time .ensures) to (c .if1 .taken)
 
 load-requires : tie.Need-load-requires
 load-requires c κs = search needs
@@ -65,10 +74,7 @@ load-requires c κs = search needs
 update-requires : tie.Need-update-requires
 update-requires c κs =
     let b : tie.Start = search in
-    let a = b .args in
-    let t = a .order .now in
-    let h = headIn (a .events .now) (a .queue .now) (a .z .room) in
-    (subst (Fit h) (sym (c .before .load .ensures)) (b .pre .1), b .pre .2, b .pre .3)
+    (subst (λ (s : Scheduler). s .cells ≤ 256) (sym (c .before .load .ensures)) (b .pre .1), b .pre .2, b .pre .3)
 
 store-requires : tie.Need-store-requires
 store-requires c κs = search needs
@@ -86,7 +92,7 @@ returns-2 c =
     let t = a .order .now in
     let h = headIn (a .events .now) (a .queue .now) (a .z .room) in
     let s = schedulerOf (a .z .cells) t in
-    c .before .before .store .ensures ∙ ap orderBytes (u .update .ensures ∙ ap (λ (x : Scheduler). updated h x (a .cell) (a .before) (ht .head-time .result)) (l .load .ensures) ∙ ap (λ (x : Float). updated h s (a .cell) (a .before) x) (ht .head-time .ensures))
+    c .before .before .store .ensures ∙ ap orderBytes (u .update .ensures ∙ ap (λ (x : Scheduler). updated h x (a .cell) (a .before) (ht .head-time .result)) (l .load .ensures) ∙ ap (λ (x : Head). updated h s (a .cell) (a .before) x) (ht .head-time .ensures))
 
 pub update-spec : {M : Type 1} → statement M
 update-spec =
@@ -99,6 +105,7 @@ update-spec =
     sub-shifted-to
     part-shifted-to-start
     part-shifted-to-end
+    earlier-requires
     shifted-to-requires
     same-length
     returns

@@ -1,4 +1,5 @@
 -- `heap::in_order` meets its contract. Assumes nothing.
+use mathlib.Core.Path.{sym, _∙_}
 use Prim.Native.Nat.{_-_, _/_}
 use Rattle.scheduler.specs.Inside.{headIn}
 use Rattle.checks.proofs.Order.{order-first, order-no, order-yes}
@@ -47,8 +48,12 @@ head-time-requires-2 c κs =
     let c7 : tie.Start = search in
     (c7 .pre .2, omega (arith, c .shared-slice-known5 .given ((c7 .args .i - 1) / 2)))
 
+earlier-requires : tie.Need-earlier-requires
+earlier-requires c κs = search needs
+
 returns-2 : tie.Need-returns-2
 returns-2 c =
+    let er : tie.After-earlier = search in
     let c1 : tie.After-head-time2 = search in
     let c3 = c1 .before .before in
     let c5 = c3 .before .before in
@@ -57,10 +62,11 @@ returns-2 c =
     let n = b .args .n in
     let hp = b .args .heap .now in
     let h = headIn (b .args .events .now) (b .args .queue .now) (b .args .room) in
-    order-no h hp n i (b .pre .0) (c5 .if1 .left) (c3 .head-time .ensures) (c1 .head-time2 .ensures) (c .if2 .taken)
+    order-no h hp n i (b .pre .0) (c5 .if1 .left) (c3 .head-time .ensures) (c1 .head-time2 .ensures) (sym (er .earlier .ensures) ∙ c .if2 .taken)
 
 returns-3 : tie.Need-returns-3
 returns-3 c =
+    let er : tie.After-earlier = search in
     let c1 : tie.After-head-time2 = search in
     let c3 = c1 .before .before in
     let c5 = c3 .before .before in
@@ -69,7 +75,7 @@ returns-3 c =
     let n = b .args .n in
     let hp = b .args .heap .now in
     let h = headIn (b .args .events .now) (b .args .queue .now) (b .args .room) in
-    order-yes h hp n i (b .pre .0) (c5 .if1 .left) (c3 .head-time .ensures) (c1 .head-time2 .ensures) (c .if2 .left)
+    order-yes h hp n i (b .pre .0) (c5 .if1 .left) (c3 .head-time .ensures) (c1 .head-time2 .ensures) (sym (er .earlier .ensures) ∙ c .if2 .left)
 
 pub in-order-spec : {M : Type 1} → statement M
 in-order-spec =
@@ -83,5 +89,6 @@ in-order-spec =
     shared-slice-read-head-time-2
     cast-head-time-2
     head-time-requires-2
+    earlier-requires
     returns-2
     returns-3)
