@@ -172,11 +172,11 @@ module _ (z : Sizes) (t : Tables) (S : Sized z t) (L : Legible z (t .lists) (t .
         events-is = sym (both-second (queueAt (z .room)) w v queueReals (z .cells) (t .queue) (t .events)
             (λ i h. queue-reals (z .room) (drop (i * w) (t .queue)) (drop (i * v) (t .events)) (counted-at (z .room) w (z .cells) (t .queue) i (L .events) h) (inside (z .cells) v i (t .events) (S .events-long) h)));
         many = many;
-        full = all-of (Full (z .room)) none qs (λ i h. good i (let e = cells-agree in omega arith));
+        full = all-of (Full (z .room)) none qs (λ i h. filled i (let e = cells-agree in omega arith));
       }
     where
-      good : (i : ℕ) → i < cells ((decodedBy z t) .box) → Full (z .room) (getD ((decodedBy z t) .queues) i none)
-      good i h =
+      filled : (i : ℕ) → i < cells ((decodedBy z t) .box) → Full (z .room) (getD ((decodedBy z t) .queues) i none)
+      filled i h =
           full-of (cells ((decodedBy z t) .box)) i (listed (decodedBy z t) i) (getD ((decodedBy z t) .queues) i none) (F .sound .queues i h)
 
   heap-held : Heaped z (orderBody (t .order)) ((decodedBy z t) .sched)

@@ -1,5 +1,5 @@
--- Results stay as they were. Here, as in `scheduler/Agrees`, stands 01's rule for an empty list, whose head read as `f64Max`. Where every pending event passes refusal 5, as in every
--- reached state, each act on a queue leaves the heap that this rule left; and check 10 answers what it answered, of any state. Assumes nothing.
+-- Results stay as they were when the head of an empty list read as `f64Max`: that was 01's rule (scheduler, Agrees). Where every pending event passes refusal 5, as in every reached
+-- state, each act on a queue leaves the state that it left under that rule; and check 10 answers what it answered, of any state. Assumes nothing.
 use Prim.Native.Nat.{ℕ, zero, suc, _+_}
 use mathlib.Core.Path.{_≡_, refl, sym, ap, subst, _∙_}
 use mathlib.Core.List.{List, [], _∷_, _++_}

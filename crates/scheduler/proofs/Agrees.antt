@@ -1,5 +1,5 @@
--- The heap does what it did when an empty list, and an index past the end, read as `f64Max`: that was 01's rule, and it stands here only.
--- It and the rule of Heap agree wherever every head time is below `f64Max`, as refusal 5 keeps each of them. Assumes nothing.
+-- The heap does what it did when an empty list, and an index past the end, read as `f64Max`. That was 01's rule: it stands beside the theorem here, and beside those of the model that
+-- rest on it, and nowhere else. The two rules agree wherever every head time is below `f64Max`, as refusal 5 keeps each of them. Assumes nothing.
 use mathlib.Core.Path.{_≡_, refl, sym, ap, _∙_}
 use mathlib.Core.Bool.{Bool, true, false, cond, _&&_}
 use Prim.Native.Nat.{ℕ, zero, suc, _+_, _-_, _*_}

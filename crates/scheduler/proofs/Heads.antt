@@ -32,7 +32,7 @@ no-later-not-earlier x Empty e = refl
 no-later-not-earlier Empty (At u) e = clash e
 no-later-not-earlier (At t) (At u) e = le-not-lt t u e
 
--- without a NaN, what is not earlier is no earlier, and what is not "no later" is later
+-- without a NaN: where y is not earlier than x, x is no later than y; and where x is not that, y is earlier
 pub no-later-of-not : (x y : Head) → isNanHead x ≡ false → isNanHead y ≡ false → earlier y x ≡ false → noLater x y ≡ true
 no-later-of-not x Empty p q e = refl
 no-later-of-not Empty (At u) p q e = clash (sym e)

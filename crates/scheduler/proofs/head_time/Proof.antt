@@ -45,7 +45,6 @@ returns-2 c =
     let ef : tie.After-events-from = search in
     let qf : tie.After-queue-from = search in
     let else1 : tie.Else1 = search in
-    let else2 : tie.Else2 = search in
     let else3 : tie.Else3 = search in
     let b : tie.Start = search in
     let a = b .args in

@@ -4,6 +4,7 @@ use Rattle.acts.specs.Queues.{shiftedTo}
 use borrow.Rule.Slice.PartMut.{midOf}
 use lib.ListN.{getD}
 use mathlib.Core.Bool.{Bool}
+use Rattle.layout.specs.Widths.{heapWide}
 use Rattle.tables.proofs.HeapLaws.{front-long}
 use Rattle.tables.specs.Decode.{schedulerOf}
 use Rattle.tables.specs.Layout.{orderBytes}
@@ -64,8 +65,8 @@ returns c =
     let t = a .order .now in
     let h = headIn (a .events .now) (a .queue .now) (a .z .room) in
     let er : tie.After-earlier = search in
-    let at = getD t (256 + a .cell) 0 in
-    let to = c .before .shifted-to .ensures ∙ ap (λ (x : Bool). shiftedTo h (midOf 0 256 t) (a .z .cells) at x) (er .earlier .ensures) in
+    let at = getD t (heapWide + a .cell) 0 in
+    let to = c .before .shifted-to .ensures ∙ ap (λ (x : Bool). shiftedTo h (midOf 0 heapWide t) (a .z .cells) at x) (er .earlier .ensures) in
     update-same t (b .pre .0) h (a .z .cells) (a .cell) (a .before) (ht .head-time .result) (c .before .shifted-to .result) (ht .head-time .ensures) to (c .if1 .taken)
 
 load-requires : tie.Need-load-requires
