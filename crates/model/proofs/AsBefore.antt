@@ -26,6 +26,7 @@ use Rattle.model.specs.Acts.{queueRow, inserted, cancelled, first, head,
 use Rattle.model.specs.Check.{all, walk, shaped, settled, linked, rising, named, kindOk, held, queueOk, queued, inverse, inOrder, heaped, standing}
 use Rattle.model.specs.Reached.{Reached}
 use Rattle.model.proofs.Sound.{Held, Sound}
+use Rattle.model.proofs.Lists.{set-case}
 use Rattle.model.proofs.Queue.{fine-top, all-insert, all-keep}
 use Rattle.model.proofs.Turns.{every-same}
 use Rattle.model.proofs.Reached.{reached-well}
@@ -42,6 +43,15 @@ abbrev pub oldRequeued : ℕ → Row Place → State → State
 oldRequeued c r s =
     let qs = set (s .queues) c r in
     withQueues qs (oldUpdated (oldHeads qs) (s .sched) c (oldHeads (s .queues) c) (oldHead (r .live))) s
+
+abbrev pub oldInserted : ℕ → Place → State → State
+oldInserted c e s = oldRequeued c (row (insertBy e (queue s c)) (drop 1 ((queueRow s c) .spare))) s
+
+abbrev pub oldCancelled : ℕ → ℕ → State → State
+oldCancelled g c s = oldRequeued c (row (keepBy g (queue s c)) (replicate (goneBy g (queue s c)) zeroP ++ (queueRow s c) .spare)) s
+
+abbrev pub oldTaken : State → State
+oldTaken s = withClock ((head s) .time) (oldRequeued (first s) (row (drop 1 (queue s (first s))) (zeroP ∷ (queueRow s (first s)) .spare)) s)
 
 abbrev pub oldOrder : (ℕ → Float) → Scheduler → ℕ → Bool
 oldOrder h k i = eqb i 0 || not (lt (oldTime h k i) (oldTime h k (parent i)))
@@ -71,12 +81,12 @@ low : (l : List Place) → Fine l → Below (headTime l)
 low [] a = tt
 low (x ∷ xs) a = is-true _ (fine-top x (a .0))
 
-low-set : (qs : List (Row Place)) (c k : ℕ) (r : Row Place) → ((j : ℕ) → Fine (liveAt qs j)) → Fine (r .live) → Below (headTime (liveAt (set qs c r) k))
-low-set [] c k r f p = low (liveAt [] k) (f k)
-low-set (x ∷ qs) zero zero r f p = low (r .live) p
-low-set (x ∷ qs) zero (suc k) r f p = low (liveAt qs k) (f (suc k))
-low-set (x ∷ qs) (suc c) zero r f p = low (x .live) (f 0)
-low-set (x ∷ qs) (suc c) (suc k) r f p = low-set qs c k r (λ j. f (suc j)) p
+pub fine-set : (qs : List (Row Place)) (c : ℕ) (r : Row Place) → ((k : ℕ) → Fine (liveAt qs k)) → Fine (r .live) → (k : ℕ) → Fine (liveAt (set qs c r) k)
+fine-set qs c r f p k = set-case (λ (x : Row Place). Fine (x .live)) none qs c k r (λ e. p) (f k)
+
+pub fine-tail : (l : List Place) → Fine l → Fine (drop 1 l)
+fine-tail [] a = tt
+fine-tail (x ∷ xs) a = a .1
 
 module _ (s : State) (fine : (c : ℕ) → Fine (queue s c)) where
   pub requeued-as-before : (c : ℕ) (r : Row Place) → Fine (r .live) → requeued c r s ≡ oldRequeued c r s
@@ -84,26 +94,22 @@ module _ (s : State) (fine : (c : ℕ) → Fine (queue s c)) where
   requeued-as-before c r p =
       let qs = set (s .queues) c r in
       ap (λ (k : Scheduler). withQueues qs k s)
-      (updated-as-before (heads qs) (λ k. low-set (s .queues) c k r fine p) (s .sched) c (heads (s .queues) c) (headTime (r .live)) (low (queue s c) (fine c)) (low (r .live) p)
+      (updated-as-before (heads qs) (λ k. low (liveAt qs k) (fine-set (s .queues) c r fine p k)) (s .sched) c (heads (s .queues) c) (headTime (r .live)) (low (queue s c) (fine c)) (low (r .live) p)
       ∙ ap (λ (h : ℕ → Float). oldUpdated h (s .sched) c (was (heads (s .queues) c)) (was (headTime (r .live)))) (was-heads qs)
       ∙ ap (λ (t : Float). oldUpdated (oldHeads qs) (s .sched) c t (was (headTime (r .live)))) (was-head (queue s c))
       ∙ ap (λ (t : Float). oldUpdated (oldHeads qs) (s .sched) c (oldHead (queue s c)) t) (was-head (r .live)))
 
   -- an insertion, a cancelling, and taking the head
-  pub inserted-as-before : (c : ℕ) (e : Place) → finePlace e ≡ true → inserted c e s ≡ oldRequeued c (row (insertBy e (queue s c)) (drop 1 ((queueRow s c) .spare))) s
+  pub inserted-as-before : (c : ℕ) (e : Place) → finePlace e ≡ true → inserted c e s ≡ oldInserted c e s
   inserted-as-before c e f = requeued-as-before c _ (all-insert (λ x. finePlace x ≡ true) e (queue s c) f (fine c))
 
-  pub cancelled-as-before : (g c : ℕ) → cancelled g c s ≡ oldRequeued c (row (keepBy g (queue s c)) (replicate (goneBy g (queue s c)) zeroP ++ (queueRow s c) .spare)) s
+  pub cancelled-as-before : (g c : ℕ) → cancelled g c s ≡ oldCancelled g c s
   unfolding cancelled
   cancelled-as-before g c = requeued-as-before c _ (all-keep (λ x. finePlace x ≡ true) g (queue s c) (fine c))
 
-  pub taken-as-before : taken s ≡ withClock ((head s) .time) (oldRequeued (first s) (row (drop 1 (queue s (first s))) (zeroP ∷ (queueRow s (first s)) .spare)) s)
+  pub taken-as-before : taken s ≡ oldTaken s
   unfolding taken
-  taken-as-before = ap (withClock ((head s) .time)) (requeued-as-before (first s) _ (tail (queue s (first s)) (fine (first s))))
-    where
-      tail : (l : List Place) → Fine l → Fine (drop 1 l)
-      tail [] a = tt
-      tail (x ∷ xs) a = a .1
+  taken-as-before = ap (withClock ((head s) .time)) (requeued-as-before (first s) _ (fine-tail (queue s (first s)) (fine (first s))))
 
 -- as in every reached state, halted or not
 sound-fine : (s : State) → Sound s → (c : ℕ) → Fine (queue s c)
@@ -116,16 +122,20 @@ pub reached-fine : (s : State) → Reached s → (c : ℕ) → Fine (queue s c)
 reached-fine s r = sound-fine s (reached-well s r .sound)
 
 -- ---- check 10, of any state: where the queues pass, every pending event is fine, and where they do not, the heap is not asked
-row-low : (n c : ℕ) (m : List ℕ) (l : List Place) → all (held n c m) l ≡ true → Below (headTime l)
-row-low n c m [] h = tt
-row-low n c m (x ∷ xs) h = is-true _ (fine-top x (and-l (finePlace x) (named n c m (eventOf (x .kind) x)) (and-r (kindOk x) _ (and-l (held n c m x) _ h))))
+row-fine : (n c : ℕ) (m : List ℕ) (l : List Place) → all (held n c m) l ≡ true → Fine l
+row-fine n c m [] h = tt
+row-fine n c m (x ∷ xs) h = (and-l (finePlace x) (named n c m (eventOf (x .kind) x)) (and-r (kindOk x) _ (and-l (held n c m x) _ h)), row-fine n c m xs (and-r (held n c m x) _ h))
 
-walk-low : (t : Float) (room n : ℕ) (f : ℕ → List ℕ) (i : ℕ) (qs : List (Row Place)) → walk (λ c r. queueOk t room n c (f c) r) i qs ≡ true → (k : ℕ) → Below (headTime (liveAt qs k))
+walk-fine : (t : Float) (room n : ℕ) (f : ℕ → List ℕ) (i : ℕ) (qs : List (Row Place)) → walk (λ c r. queueOk t room n c (f c) r) i qs ≡ true → (k : ℕ) → Fine (liveAt qs k)
 unfolding walk
-walk-low t room n f i [] e k = tt
-walk-low t room n f i (r ∷ qs) e zero =
-    row-low n i (f i) (r .live) (and-r (rising t (r .live)) _ (and-r (eqb (length (r .live) + length (r .spare)) room) _ (and-l (queueOk t room n i (f i) r) _ e)))
-walk-low t room n f i (r ∷ qs) e (suc k) = walk-low t room n f (i + 1) qs (and-r (queueOk t room n i (f i) r) _ e) k
+walk-fine t room n f i [] e k = tt
+walk-fine t room n f i (r ∷ qs) e zero =
+    row-fine n i (f i) (r .live) (and-r (rising t (r .live)) _ (and-r (eqb (length (r .live) + length (r .spare)) room) _ (and-l (queueOk t room n i (f i) r) _ e)))
+walk-fine t room n f i (r ∷ qs) e (suc k) = walk-fine t room n f (i + 1) qs (and-r (queueOk t room n i (f i) r) _ e) k
+
+pub queued-fine : (s : State) → queued (s .clock) (s .room) (s .sched .cells) (s .members) (s .queues) ≡ true → (c : ℕ) → Fine (queue s c)
+unfolding queued
+queued-fine s e = walk-fine (s .clock) (s .room) (s .sched .cells) (listed s) 0 (s .queues) (and-l _ _ e)
 
 heaped-as-before : (h : ℕ → Head) (k : Scheduler) → ((c : ℕ) → Below (h c)) → heaped h (k .cells) (k .heap) (k .lookups) ≡ oldHeaped (λ c. was (h c)) k
 unfolding heaped
@@ -146,5 +156,5 @@ standing-as-before s =
         → _≡_ {A = Bool} (q && heaped (heads (s .queues)) (s .sched .cells) (s .sched .heap) (s .sched .lookups)) (q && oldHeaped (oldHeads (s .queues)) (s .sched))
     by false e = refl
     by true e =
-        heaped-as-before (heads (s .queues)) (s .sched) (unfold heads queued in walk-low (s .clock) (s .room) (s .sched .cells) (listed s) 0 (s .queues) (and-l _ _ e))
+        heaped-as-before (heads (s .queues)) (s .sched) (unfold heads in λ c. low (queue s c) (queued-fine s e c))
         ∙ ap (λ (h : ℕ → Float). oldHeaped h (s .sched)) (was-heads (s .queues))

@@ -17,8 +17,9 @@ pub mod Forgets
 pub mod Born
 pub mod Starred
 pub mod Scenes
--- That the heap does, and check 10 answers, what they did when an empty list read as a time (AsBefore).
+-- That the heap does, and check 10 answers, what they did when an empty list read as a time (AsBefore), and so every start and every run (Results).
 pub mod AsBefore
+pub mod Results
 -- What is said over the history of acts (Histories): no event from an old velocity (NoneOld), none missing (Watched), nothing else pending (NothingElse), and that the history is
 -- true (True), with velocities that only turns change (Velocities); computed on two runs (Stake, Tested; Exhibits).
 pub mod Histories
