@@ -1,7 +1,7 @@
 -- The tables of all cells' events with the heap's, and each act on them: one row is lent and put back, then the heap is updated. Assumes nothing.
 use mathlib.Core.Path.{_≡_, refl, sym, ap, _∙_, subst}
 use Prim.Native.Nat.{ℕ, zero, suc, _+_, _-_, _*_, _≤_, _<_}
-use native.Mathlib.Nat.{suc-ne-zero, suc-mul, zero-mul, mul-le-mul-right}
+use native.Mathlib.Nat.{suc-ne-zero, suc-mul, zero-mul}
 use native.Mathlib.Omega.{arith}
 use native.Mathlib.Decide.{decLe}
 use mathlib.Core.List.{List, [], _∷_, _++_}
@@ -16,7 +16,7 @@ use Rattle.halting.specs.Every.{All}
 use Rattle.halting.proofs.All.{all-at, all-set}
 use Rattle.halting.proofs.Bools.{clash}
 use Rattle.chunks.specs.Flat.{flat}
-use Rattle.chunks.proofs.Laws.{length-flat, chunk-mid, chunk-put}
+use Rattle.chunks.proofs.Laws.{length-flat, chunk-in, chunk-mid, chunk-put}
 use Rattle.scheduler.specs.declared.head.Head.{Head}
 use Rattle.scheduler.specs.declared.head.Head.the-variants.{At}
 use Rattle.scheduler.proofs.Heads.{head-none, head-some}
@@ -94,18 +94,12 @@ module _ {z : Sizes} {nums : List ℕ} {reals : List Float} {qs : List (Row Plac
       ap (λ (l : List Float). getD l (eventsFrom (z .room) c) nan) (t .events-is) ∙ flat-get queueReals (eventsWide (z .room)) qs c nan none (omega arith) (rows-reals-wide (z .room) qs (t .full)) refl
       ∙ ap (λ (m : List Place). getD (flat placeReals (m ++ (getD qs c none) .spare)) 0 nan) e
 
-  holds-in : (c : ℕ) (x : Place) (l : List Place) → liveAt qs c ≡ x ∷ l → c < length qs
-  holds-in c x l e = elim (decLe (length qs) c) [
-    | yes o ↦ absurd (suc-ne-zero (length l) (ap length (sym e ∙ ap (λ (r : Row Place). r .live) (List·getD-eq-default qs none o))))
-    | no n ↦ omega arith
+  -- its time is within the table
+  time-there : 0 < z .room → (c : ℕ) (x : Place) (l : List Place) → liveAt qs c ≡ x ∷ l → eventsFrom (z .room) c < length reals
+  time-there k c x l e = elim (decLe (z .cells) c) [
+    | yes o ↦ absurd (suc-ne-zero (length l) (ap length (sym e ∙ ap (λ (r : Row Place). r .live) (List·getD-eq-default qs none (omega (arith, t .many))))))
+    | no n ↦ let i = chunk-in c (z .cells) (eventsWide (z .room)) (omega arith) in omega (arith, events-long)
   ]
-
-  time-in : 0 < z .room → (c : ℕ) → c < length qs → eventsFrom (z .room) c < length reals
-  time-in k c h =
-      let e : length reals ≡ length qs * eventsWide (z .room) = events-long ∙ ap (λ (m : ℕ). m * eventsWide (z .room)) (sym (t .many)) in
-      let s = suc-mul c (eventsWide (z .room)) in
-      let m = mul-le-mul-right (eventsWide (z .room)) h in
-      omega arith
 
   -- each cell's head, also past the cells
   pub heads-at : 0 < z .room → (c : ℕ) → headIn reals nums (z .room) c ≡ heads qs c
@@ -115,7 +109,7 @@ module _ {z : Sizes} {nums : List ℕ} {reals : List Float} {qs : List (Row Plac
       by : (l : List Place) → liveAt qs c ≡ l → headIn reals nums (z .room) c ≡ heads qs c
       by [] e = head-none reals nums (z .room) c (count-at c ∙ ap length e) ∙ sym (ap headTime e)
       by (x ∷ l) e =
-          head-some reals nums (z .room) c (time-in k c (holds-in c x l e)) (λ w. suc-ne-zero (length l) (sym (ap length e) ∙ sym (count-at c) ∙ w))
+          head-some reals nums (z .room) c (time-there k c x l e) (λ w. suc-ne-zero (length l) (sym (ap length e) ∙ sym (count-at c) ∙ w))
           ∙ ap At (time-at k c x l e) ∙ sym (ap headTime e)
 
   pub heads-are : 0 < z .room → headIn reals nums (z .room) ≡ heads qs

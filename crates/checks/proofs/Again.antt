@@ -51,5 +51,5 @@ module _ (z : Sizes) (t : Tables) (s : State) (H : Hold z t s) where
         ap (countsWithin homeRoom homeWide (z .grains)) (lists-cut z t s H) ∙ rows-counted homeRoom (s .homes) _ (H .body .listed .homes),
         ap (countsWithin memberRoom membersWide (z .cells)) (members-cut z t s H) ∙ rows-counted memberRoom (s .members) _ (H .body .listed .members),
         ap (countsWithin room (queueWide room) (z .cells)) (queue-cut z t s H)
-            ∙ counted-flat queueNums room (queueWide room) (Full room) (λ r g. row-nums-long room r g) (λ r y g. live-few r g) (z .cells) (s .queues) (drop (queueNeed z) (t .queue)) (H .body .queued .tables .many) (H .body .queued .tables .full),
+            ∙ counted-flat queueNums room (queueWide room) (Full room) (row-nums-long room) (λ r y g. live-few r g) (z .cells) (s .queues) (drop (queueNeed z) (t .queue)) (H .body .queued .tables .many) (H .body .queued .tables .full),
       )

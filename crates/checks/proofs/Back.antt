@@ -80,7 +80,7 @@ grains-back n gs y e = cut-back grainAt grainReals grainWide (λ p y e. refl) n 
 
 queues-back : (room n : ℕ) (qs : List (Row Place)) (y : List ℕ) (z : List Float) → length qs ≡ n → All (Full room) qs → queuesOf room n (flat queueNums qs ++ y) (flat queueReals qs ++ z) ≡ qs
 queues-back room n qs y z e f =
-    both-back (queueAt room) queueNums queueReals (queueWide room) (eventsWide room) (Full room) (λ r g. row-nums-long room r g) (λ r g. row-reals-long room r g) (λ r y z g. queue-back room r g y z) n qs y z e f
+    both-back (queueAt room) queueNums queueReals (queueWide room) (eventsWide room) (Full room) (row-nums-long room) (row-reals-long room) (λ r y z g. queue-back room r g y z) n qs y z e f
 
 scheduler-back : (n : ℕ) (o : List ℕ) (h : Scheduler) → take orderWide o ≡ h .heap ++ h .lookups → length (h .heap) ≡ 256 → length (h .lookups) ≡ 256 → h .cells ≡ n → schedulerOf n o ≡ h
 scheduler-back n o h e a b c = same first second (sym c)

@@ -2,20 +2,20 @@
 use mathlib.Core.Path.{_≡_, sym, ap, _∙_}
 use Prim.Native.Nat.{ℕ, _<_}
 use native.Mathlib.Omega.{arith}
-use mathlib.Core.List.{List}
-use mathlib.Core.Bool.{Bool, true, false, not, _||_, cond}
+use mathlib.Core.List.{List, []}
+use mathlib.Core.Bool.{Bool, true, false, not, _||_}
 use lib.ListN.{getD}
-use borrow.Author.Tests.{lt-ltb, eq-eqb, ne-eqb}
+use borrow.Author.Tests.{eq-eqb, ne-eqb}
 use Rattle.scheduler.specs.declared.head.Head.{Head}
-use Rattle.scheduler.specs.declared.head.Head.the-variants.{Empty}
 use Rattle.scheduler.specs.Head.{earlier}
 use Rattle.scheduler.specs.Heap.{timeIn, parent}
+use Rattle.scheduler.specs.Inside.{made}
+use Rattle.scheduler.proofs.Laws as laws
 use Rattle.model.specs.Check.{inOrder}
 
 module _ (h : ℕ → Head) (heap : List ℕ) (n i : ℕ) where
   pub time-in : i < n → timeIn h heap n i ≡ h (getD heap i 0)
-  unfolding timeIn
-  time-in l = ap (λ (b : Bool). cond b (h (getD heap i 0)) Empty) (lt-ltb i n l)
+  time-in = laws.time-in h (made heap [] n) i
 
 module _ (h : ℕ → Head) (heap : List ℕ) (n i : ℕ) where
   pub order-first : i ≡ 0 → true ≡ inOrder h heap n i

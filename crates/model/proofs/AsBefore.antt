@@ -1,35 +1,28 @@
--- Results stay as they were when the head of an empty list read as `f64Max`: that was 01's rule (scheduler, Agrees). Where every pending event passes refusal 5, as in every reached
--- state, each act on a queue leaves the state that it left under that rule; and check 10 answers what it answered, of any state. Assumes nothing.
+-- What the head of an empty list moves, if it reads as `f64Max`, which was 01's rule (scheduler, Agrees): nothing. Where every pending event passes refusal 5, each act on a queue
+-- leaves the state that it left under that rule; and check 10 answers what it answered, of any state. Assumes nothing.
 use Prim.Native.Nat.{ℕ, zero, suc, _+_}
-use mathlib.Core.Path.{_≡_, refl, sym, ap, subst, _∙_}
+use mathlib.Core.Path.{_≡_, refl, ap, _∙_}
 use mathlib.Core.List.{List, [], _∷_, _++_}
 use mathlib.Core.Bool.{Bool, true, false, not, _&&_, _||_}
-use native.Mathlib.Omega.{arith}
-use native.Mathlib.Decide.{decLe}
 use lib.Dec.{eqb}
-use lib.ListN.{length, set, drop, replicate, List·getD-eq-default}
+use lib.ListN.{length, set, drop, replicate}
 use lib.Ieee.{Float, lt}
 use lib.Ieee.Bits.{is-true}
 use Rattle.halting.specs.Every.{every, All}
 use Rattle.halting.proofs.Bools.{and-l, and-r}
-use Rattle.halting.proofs.All.{all-to}
 use Rattle.order.specs.Numbers.{f64Max}
 use Rattle.scheduler.specs.declared.Scheduler.{Scheduler}
 use Rattle.scheduler.specs.declared.head.Head.{Head}
 use Rattle.scheduler.specs.Heap.{parent}
 use Rattle.scheduler.proofs.Agrees.{oldTime, oldUpdated, was, Below, earlier-as-before, updated-as-before}
 use Rattle.model.specs.declared.Place.{Place}
-use Rattle.model.specs.Grid.{cells}
 use Rattle.model.specs.Events.{eventOf, insertBy, keepBy, goneBy, finePlace, headTime, zeroP}
 use Rattle.model.specs.State.{Row, row, none, State, listed, queue, liveAt, heads, requeued, withQueues, withClock}
 use Rattle.model.specs.Acts.{queueRow, inserted, cancelled, first, head, taken}
 use Rattle.model.specs.Check.{all, walk, shaped, settled, linked, rising, named, kindOk, held, queueOk, queued, inverse, inOrder, heaped, standing}
-use Rattle.model.specs.Reached.{Reached}
-use Rattle.model.proofs.Sound.{Held, Sound}
 use Rattle.model.proofs.Lists.{set-case}
 use Rattle.model.proofs.Queue.{fine-top, all-insert, all-keep}
 use Rattle.model.proofs.Turns.{every-same}
-use Rattle.model.proofs.Reached.{reached-well}
 
 -- ---- 01's rule
 abbrev pub oldHead : List Place → Float
@@ -77,6 +70,9 @@ was-heads qs = λ i k. was-head (liveAt qs k) i
 abbrev pub Fine : List Place → Type 0
 Fine l = All (λ (e : Place). finePlace e ≡ true) l
 
+abbrev pub AllFine : State → Type 0
+AllFine s = (c : ℕ) → Fine (queue s c)
+
 low : (l : List Place) → Fine l → Below (headTime l)
 low [] a = tt
 low (x ∷ xs) a = is-true _ (fine-top x (a .0))
@@ -88,7 +84,7 @@ pub fine-tail : (l : List Place) → Fine l → Fine (drop 1 l)
 fine-tail [] a = tt
 fine-tail (x ∷ xs) a = a .1
 
-module _ (s : State) (fine : (c : ℕ) → Fine (queue s c)) where
+module _ (s : State) (fine : AllFine s) where
   pub requeued-as-before : (c : ℕ) (r : Row Place) → Fine (r .live) → requeued c r s ≡ oldRequeued c r s
   unfolding requeued heads
   requeued-as-before c r p =
@@ -111,16 +107,6 @@ module _ (s : State) (fine : (c : ℕ) → Fine (queue s c)) where
   unfolding taken
   taken-as-before = ap (withClock ((head s) .time)) (requeued-as-before (first s) _ (fine-tail (queue s (first s)) (fine (first s))))
 
--- as in every reached state, halted or not
-sound-fine : (s : State) → Sound s → (c : ℕ) → Fine (queue s c)
-sound-fine s sound c = elim (decLe (cells (s .box)) c) [
-  | yes h ↦ subst (λ (r : Row Place). Fine (r .live)) (sym (List·getD-eq-default (s .queues) none (omega (arith, sound .long)))) tt
-  | no h ↦ all-to (Held (cells (s .box)) c (listed s c)) (λ e. finePlace e ≡ true) (queue s c) (λ e q. q .fine) (sound .queues c (omega arith) .held)
-]
-
-pub reached-fine : (s : State) → Reached s → (c : ℕ) → Fine (queue s c)
-reached-fine s r = sound-fine s (reached-well s r .sound)
-
 -- ---- check 10, of any state: where the queues pass, every pending event is fine, and where they do not, the heap is not asked
 row-fine : (n c : ℕ) (m : List ℕ) (l : List Place) → all (held n c m) l ≡ true → Fine l
 row-fine n c m [] h = tt
@@ -133,7 +119,7 @@ walk-fine t room n f i (r ∷ qs) e zero =
     row-fine n i (f i) (r .live) (and-r (rising t (r .live)) _ (and-r (eqb (length (r .live) + length (r .spare)) room) _ (and-l (queueOk t room n i (f i) r) _ e)))
 walk-fine t room n f i (r ∷ qs) e (suc k) = walk-fine t room n f (i + 1) qs (and-r (queueOk t room n i (f i) r) _ e) k
 
-pub queued-fine : (s : State) → queued (s .clock) (s .room) (s .sched .cells) (s .members) (s .queues) ≡ true → (c : ℕ) → Fine (queue s c)
+pub queued-fine : (s : State) → queued (s .clock) (s .room) (s .sched .cells) (s .members) (s .queues) ≡ true → AllFine s
 unfolding queued
 queued-fine s e = walk-fine (s .clock) (s .room) (s .sched .cells) (listed s) 0 (s .queues) (and-l _ _ e)
 

@@ -27,7 +27,7 @@ use Rattle.model.specs.Start.{clear, begin, Begun, refused, startedAt, s
 use Rattle.model.proofs.Cases.{store-case, enter-case, leave-case}
 use Rattle.model.proofs.Queue.{all-insert, all-keep}
 use Rattle.model.proofs.Cleared.{empty-live}
-use Rattle.model.proofs.AsBefore.{Fine, oldInserted, oldCancelled, oldTaken, oldStanding, fine-set, fine-tail, queued-fine, inserted-as-before, cancelled-as-before, taken-as-before, standing-as-before}
+use Rattle.model.proofs.AsBefore.{Fine, AllFine, oldInserted, oldCancelled, oldTaken, oldStanding, fine-set, fine-tail, queued-fine, inserted-as-before, cancelled-as-before, taken-as-before, standing-as-before}
 
 -- ---- 01's rule
 abbrev pub oldInsert : ℕ → Place → State → Out State
@@ -66,9 +66,6 @@ oldStart b room gs =
     startChecks (boxOk b) (countsOk room (length gs)) (eqb (firstBad b gs) (length gs)) (λ r. refused r (blamed b gs r)) (startedAt (oldDoing (startActs b gs s) s))
 
 -- ---- an outcome by either rule, with every pending event fine
-abbrev AllFine : State → Type 0
-AllFine s = (c : ℕ) → Fine (queue s c)
-
 abbrev Same : Out State → Out State → Type 0
 Same o p = (o ≡ p) × AllFine (o .st)
 

@@ -69,10 +69,10 @@ row-reals-long room r f = let e = reals-long (places r) in omega (arith, e, f)
 
 module _ (room : ℕ) (qs : List (Row Place)) (g : All (Full room) qs) where
   pub rows-nums-wide : All (λ (r : Row Place). length (queueNums r) ≡ queueWide room) qs
-  rows-nums-wide = all-to (Full room) (λ (r : Row Place). length (queueNums r) ≡ queueWide room) qs (λ r k. row-nums-long room r k) g
+  rows-nums-wide = all-to (Full room) (λ (r : Row Place). length (queueNums r) ≡ queueWide room) qs (row-nums-long room) g
 
   pub rows-reals-wide : All (λ (r : Row Place). length (queueReals r) ≡ eventsWide room) qs
-  rows-reals-wide = all-to (Full room) (λ (r : Row Place). length (queueReals r) ≡ eventsWide room) qs (λ r k. row-reals-long room r k) g
+  rows-reals-wide = all-to (Full room) (λ (r : Row Place). length (queueReals r) ≡ eventsWide room) qs (row-reals-long room) g
 
 -- a sound queue is a full row
 pub full-of : (n c : ℕ) (m : List ℕ) {t : Float} {room : ℕ} (r : Row Place) → Queue t room n c m r → Full room r
