@@ -29,6 +29,12 @@ build() { # FOLDER NAME
     program=${CARGO_TARGET_DIR:-$1/target}/release/$2
 }
 
+# Builds the benchmark over the archives that it links; `program` is then its path.
+build_bench() {
+    [ -n "${FESOLOPI_ARCHIVE:-}" ] || tools/archive swaps >&2
+    build bench bench
+}
+
 # Runs a Rust crate's tests, and shows what they say only where one fails; the tool ends then.
 tested() { # FOLDER
     local told

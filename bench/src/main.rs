@@ -1,10 +1,11 @@
-// How many events a second the published Rust and the port do, on the same inputs, in turns, by processor time. With the name of a row: the port's
-// rounds of it alone, for a profiler.
+// How many events a second the published Rust and the port do, on the same inputs, in turns, by processor time; and the swaps of the port's heap
+// updates. With the name of a row: the port's rounds of it alone, for a profiler.
 mod rows;
+mod swaps;
 
 use fesolopi::tables::GRAINS_HEAD;
 use fesolopi::{Domain, Ending, Grain, Simulation};
-use oracle::model::state::Inputs;
+use oracle::model::state::{Grain as Stored, Inputs};
 use oracle::rust::{AsPublished, Published};
 use oracle::text::Start;
 use rows::{Row, ROWS};
@@ -61,10 +62,9 @@ fn rust_round(start: &Start, events: u64) -> (f64, AsPublished) {
     (time, rust)
 }
 
-/// Whether both hold the same grains, bit for bit.
-fn same(rust: &AsPublished, port: &Simulation) -> bool {
-    let grains = rust.picture().grains;
-    let floats = grains.iter().flat_map(|g| g.floats());
+/// Whether the port holds these grains, bit for bit.
+fn same(grains: &[Stored], port: &Simulation) -> bool {
+    let floats = grains.iter().flat_map(Stored::floats);
     floats.map(f64::to_bits).eq(port.tables().grains[GRAINS_HEAD..].iter().map(|x| x.to_bits()))
 }
 
@@ -95,10 +95,14 @@ fn alone(name: &str) {
 }
 
 fn table() {
-    println!("| Box | Grains | Room | Tables, kB | Events | Rust, M/s | Port, M/s | Port / Rust | Checks of a run, µs | Port / Rust, one event a run |");
-    println!("|---|---|---|---|---|---|---|---|---|---|");
+    println!(
+        "| Box | Grains | Room | Tables, kB | Events | Rust, M/s | Port, M/s | Port / Rust | Checks of a run, µs | Port / Rust, one event a run \
+         | log2(cells), whole part | Swaps of an update, mean | Swaps of an update, largest |"
+    );
+    println!("|---|---|---|---|---|---|---|---|---|---|---|---|---|");
     for row in &ROWS {
         let start = row.start();
+        let (swaps, model) = swaps::counted(&start, row.runs);
         let (mut rust, mut port, mut none, mut one) = (f64::MAX, f64::MAX, f64::MAX, f64::MAX);
         let (mut events, mut bytes) = (0, 0);
         for _ in 0..ROUNDS {
@@ -106,14 +110,15 @@ fn table() {
             port = port.min(time);
             let (time, theirs) = rust_round(&start, done);
             rust = rust.min(time);
-            assert!(same(&theirs, &ended), "{}: the grains differ at the end", row.name);
+            let alike = same(&theirs.picture().grains, &ended) && same(&model.grains, &ended);
+            assert!(alike, "{}: the grains differ at the end", row.name);
             none = none.min(short_run(&mut ended, 0));
             one = one.min(short_run(&mut ended, 1));
             (events, bytes) = (done, memory(&ended));
         }
         let each = |time: f64| time / events as f64;
         println!(
-            "| {} | {} | {} | {} | {} | {:.2} | {:.2} | {:.2} | {:.1} | {:.3} |",
+            "| {} | {} | {} | {} | {} | {:.2} | {:.2} | {:.2} | {:.1} | {:.3} | {} | {:.2} | {} |",
             row.name,
             row.grains,
             row.room,
@@ -124,6 +129,9 @@ fn table() {
             rust / port,
             none * 1e6,
             each(rust) / one,
+            model.queues.len().ilog2(),
+            swaps.mean(),
+            swaps.most,
         );
     }
 }

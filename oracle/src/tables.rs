@@ -38,7 +38,7 @@ impl Tables {
         over(&mut self.grains, &grains(s));
         over(&mut self.queue, &queue(s));
         over(&mut self.events, &events(s));
-        over(&mut self.order, &order(s));
+        over(&mut self.order, &heap_bytes(s));
     }
 
     /// The state that tables hold, with every number as it stands there; none exactly where a run is
@@ -73,6 +73,7 @@ impl Tables {
                 .collect(),
             heap: self.order[..HEAP].iter().map(|&n| n.into()).collect(),
             look: self.order[HEAP..2 * HEAP].iter().map(|&n| n.into()).collect(),
+            updates: None,
         })
     }
 
@@ -146,7 +147,8 @@ fn events(s: &State) -> Vec<f64> {
     out
 }
 
-fn order(s: &State) -> Vec<u8> {
+/// The heap and its lookups.
+pub fn heap_bytes(s: &State) -> Vec<u8> {
     let byte = |&n: &u64| u8::try_from(n).expect("a cell number or a heap index is below 256");
     s.heap.iter().chain(&s.look).map(byte).collect()
 }

@@ -2,13 +2,14 @@
 ghost use mathlib.Core.Path.{_≡_};
 ghost use Prim.Native.Nat.{_<_, _≤_};
 ghost use lib.ListN.{length};
-ghost use Rattle.scheduler.specs.Heap.{updated};
+ghost use Rattle.scheduler.specs.Heap.{updated, updateSwaps};
 ghost use Rattle.scheduler.specs.Inside.{headIn};
 ghost use Rattle.layout.specs.Widths.{orderWide};
 ghost use Rattle.tables.specs.Layout.{orderBytes};
 ghost use Rattle.tables.specs.Decode.{schedulerOf};
 ghost use Rattle.acts.specs.Queues.{shiftedTo};
 use layout::HEAP;
+use scheduler::Updated;
 use scheduler::head::Head;
 use tables::Sizes;
 
@@ -24,18 +25,28 @@ fn shifted_to(heap: &[u8], queue: &[u64], events: &[f64], z: Sizes, at: usize, l
     }
 }
 
-// A cell's head went from `before` to what the tables have now: it finds its place again. A shift that isn't needed moves no byte.
-pub fn update(order: &mut [u8], queue: &[u64], events: &[f64], z: Sizes, cell: usize, before: Head)
+// A cell's head went from `before` to what the tables have now: it finds its place again, by so many swaps. A shift that isn't needed moves no byte.
+pub fn update(
+    order: &mut [u8],
+    queue: &[u64],
+    events: &[f64],
+    z: Sizes,
+    cell: usize,
+    before: Head,
+) -> usize
     requires { ⌜ (length (now order) ≡ orderWide) × (z .cells ≤ 256) × (cell < 256) × (z .room ≤ 256) ⌝ }
-    ensures { λ _. ⌜ now (order .exit) ≡ orderBytes (updated (headIn (now (events .entry)) (now (queue .entry)) (z .room)) (schedulerOf (z .cells) (now (order .entry))) cell before (headIn (now (events .entry)) (now (queue .entry)) (z .room) cell)) ⌝ }
+    ensures { λ r. ⌜ (now (order .exit) ≡ orderBytes (updated (headIn (now (events .entry)) (now (queue .entry)) (z .room)) (schedulerOf (z .cells) (now (order .entry))) cell before (headIn (now (events .entry)) (now (queue .entry)) (z .room) cell)))
+        × (r ≡ updateSwaps (headIn (now (events .entry)) (now (queue .entry)) (z .room)) (schedulerOf (z .cells) (now (order .entry))) cell before (headIn (now (events .entry)) (now (queue .entry)) (z .room) cell)) ⌝ }
 {
     let after = scheduler::head_time(events, queue, z.room, cell);
     let i = HEAP + cell;
     let at = order[i] as usize;
     let to = shifted_to(&order[0..HEAP], queue, events, z, at, before.earlier(after));
     if to == at {
-        return;
+        return 0;
     }
     let s = tables::heap::load(order, z.cells);
-    tables::heap::store(order, s.update(events, queue, z.room, cell, before, after));
+    let Updated { scheduler, swaps } = s.update(events, queue, z.room, cell, before, after);
+    tables::heap::store(order, scheduler);
+    swaps
 }

@@ -91,7 +91,7 @@ pub swap-cells : (s : Scheduler) (a b : ℕ) → swapAt s a b .cells ≡ s .cell
 unfolding swapAt
 swap-cells s a b = refl
 
-further : (h : ℕ → Head) (s : Scheduler) (p k : ℕ) → s .cells - p ≤ suc k → (childOf h s p ≡ p → ⊥) → swapAt s p (childOf h s p) .cells - childOf h s p ≤ k
+pub further : (h : ℕ → Head) (s : Scheduler) (p k : ℕ) → s .cells - p ≤ suc k → (childOf h s p ≡ p → ⊥) → swapAt s p (childOf h s p) .cells - childOf h s p ≤ k
 further h s p k le′ n = rw swap-cells (omega (arith, child-after h s p, ne-lt (childOf h s p) p (child-after h s p) n))
   where
     ne-lt : (q p : ℕ) → p ≤ q → (q ≡ p → ⊥) → p < q

@@ -2,7 +2,7 @@
 ghost use mathlib.Core.Path.{_≡_};
 ghost use Prim.Native.Nat.{ℕ, _≤_, _<_};
 ghost use lib.ListN.{length};
-ghost use Rattle.scheduler.specs.Heap.{timeIn, swapAt, chosen, childIn, downshifted, parentIn, upshifted, updated, startHeap};
+ghost use Rattle.scheduler.specs.Heap.{timeIn, swapAt, chosen, childIn, downshifted, downshiftSwaps, parentIn, upshifted, upshiftSwaps, updated, updateSwaps, startHeap};
 ghost use Rattle.scheduler.specs.Inside.{headIn, made};
 
 pub mod head;
@@ -13,6 +13,12 @@ pub struct Scheduler {
     pub heap: [u8; 256],
     pub lookups: [u8; 256],
     pub cells: usize,
+}
+
+// What an update gives: the scheduler, and the swaps that it made.
+pub struct Updated {
+    pub scheduler: Scheduler,
+    pub swaps: usize,
 }
 
 // The head of a cell: empty where it holds no event, else its first place's time.
@@ -117,7 +123,7 @@ impl Scheduler {
         }
     }
 
-    // The cell's head went from before to after: it finds its place again.
+    // The cell's head went from before to after: it finds its place again, by so many swaps.
     pub fn update(
         mut self,
         times: &[f64],
@@ -126,22 +132,26 @@ impl Scheduler {
         cell: usize,
         before: Head,
         after: Head,
-    ) -> Scheduler
+    ) -> Updated
         requires { ⌜ (self .cells ≤ 256) × (cell < 256) × (room ≤ 256) ⌝ }
-        ensures { λ r. ⌜ r ≡ updated (headIn (now (times .entry)) (now (held .entry)) room) self cell before after ⌝ }
+        ensures { λ r. ⌜ (r .scheduler ≡ updated (headIn (now (times .entry)) (now (held .entry)) room) self cell before after)
+            × (r .swaps ≡ updateSwaps (headIn (now (times .entry)) (now (held .entry)) room) self cell before after) ⌝ }
     {
         let n = self.cells;
         let mut heap = self.heap;
         let mut lookups = self.lookups;
         let at = lookups[cell] as usize;
-        if before.earlier(after) {
-            downshift(&mut heap, &mut lookups, n, times, held, room, at);
+        let swaps = if before.earlier(after) {
+            downshift(&mut heap, &mut lookups, n, times, held, room, at)
         } else {
-            upshift(&mut heap, &mut lookups, n, times, held, room, at);
-        }
+            upshift(&mut heap, &mut lookups, n, times, held, room, at)
+        };
         self.heap = heap;
         self.lookups = lookups;
-        self
+        Updated {
+            scheduler: self,
+            swaps,
+        }
     }
 }
 
@@ -169,7 +179,7 @@ fn swap(heap: &mut [u8; 256], lookups: &mut [u8; 256], a: usize, b: usize)
     lookups[j] = p;
 }
 
-// The cell at p goes down while a child's head is earlier.
+// The cell at p goes down while a child's head is earlier. Gives the swaps.
 fn downshift(
     heap: &mut [u8; 256],
     lookups: &mut [u8; 256],
@@ -178,22 +188,24 @@ fn downshift(
     held: &[u64],
     room: usize,
     p: usize,
-)
+) -> usize
     requires { ⌜ (n ≤ 256) × (room ≤ 256) ⌝ }
-    ensures { λ _. ⌜ made (now (heap .exit)) (now (lookups .exit)) n ≡ downshifted (headIn (now (times .entry)) (now (held .entry)) room) (made (now (heap .entry)) (now (lookups .entry)) n) p ⌝ }
+    ensures { λ r. ⌜ (made (now (heap .exit)) (now (lookups .exit)) n ≡ downshifted (headIn (now (times .entry)) (now (held .entry)) room) (made (now (heap .entry)) (now (lookups .entry)) n) p)
+        × (r ≡ downshiftSwaps (headIn (now (times .entry)) (now (held .entry)) room) (made (now (heap .entry)) (now (lookups .entry)) n) p) ⌝ }
 {
     if n <= p {
-        return;
+        return 0;
     }
     let q = child(&heap[..], n, times, held, room, p);
     if q == p {
-        return;
+        return 0;
     }
     swap(heap, lookups, p, q);
-    downshift(heap, lookups, n, times, held, room, q);
+    let below = downshift(heap, lookups, n, times, held, room, q);
+    1 + below
 }
 
-// The cell at c goes up while its head is earlier than its parent's.
+// The cell at c goes up while its head is earlier than its parent's. Gives the swaps.
 fn upshift(
     heap: &mut [u8; 256],
     lookups: &mut [u8; 256],
@@ -202,14 +214,16 @@ fn upshift(
     held: &[u64],
     room: usize,
     c: usize,
-)
+) -> usize
     requires { ⌜ (n ≤ 256) × (room ≤ 256) ⌝ }
-    ensures { λ _. ⌜ made (now (heap .exit)) (now (lookups .exit)) n ≡ upshifted (headIn (now (times .entry)) (now (held .entry)) room) (made (now (heap .entry)) (now (lookups .entry)) n) c ⌝ }
+    ensures { λ r. ⌜ (made (now (heap .exit)) (now (lookups .exit)) n ≡ upshifted (headIn (now (times .entry)) (now (held .entry)) room) (made (now (heap .entry)) (now (lookups .entry)) n) c)
+        × (r ≡ upshiftSwaps (headIn (now (times .entry)) (now (held .entry)) room) (made (now (heap .entry)) (now (lookups .entry)) n) c) ⌝ }
 {
     let p = parent(&heap[..], n, times, held, room, c);
     if p == c {
-        return;
+        return 0;
     }
     swap(heap, lookups, c, p);
-    upshift(heap, lookups, n, times, held, room, p);
+    let above = upshift(heap, lookups, n, times, held, room, p);
+    1 + above
 }

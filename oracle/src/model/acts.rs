@@ -1,5 +1,5 @@
 // The acts: each is done whole or refused by its number with nothing changed.
-use super::state::{Grain, Place, State};
+use super::state::{Grain, Place, State, Update};
 
 pub type Act = Result<(), u64>;
 
@@ -38,10 +38,20 @@ impl State {
         self.look[self.heap[j] as usize] = j as u64;
     }
 
-    /// Brings the heap in order after a cell's head time went from `before` to what it is now.
+    /// Brings the heap in order after a cell's head time went from `before` to what it is now. Whoever asked is told.
     fn update(&mut self, cell: usize, before: Option<f64>) {
+        let after = self.head(cell);
+        let swaps = self.shift(cell, earlier(before, after));
+        if let Some(updates) = &mut self.updates {
+            updates.push(Update { cell, before, after, swaps });
+        }
+    }
+
+    /// Shifts a cell down or up to its place, and says by how many swaps.
+    fn shift(&mut self, cell: usize, down: bool) -> u64 {
         let mut here = self.look[cell] as usize;
-        if earlier(before, self.head(cell)) {
+        let mut swaps = 0;
+        if down {
             loop {
                 let (left, right) = (2 * here + 1, 2 * here + 2);
                 let (l, r, parent) = (self.at(left), self.at(right), self.at(here));
@@ -50,16 +60,19 @@ impl State {
                 } else if earlier(r, parent) && earlier(r, l) {
                     right
                 } else {
-                    return;
+                    return swaps;
                 };
                 self.change_places(here, child);
                 here = child;
+                swaps += 1;
             }
         }
         while here > 0 && earlier(self.at(here), self.at((here - 1) / 2)) {
             self.change_places(here, (here - 1) / 2);
             here = (here - 1) / 2;
+            swaps += 1;
         }
+        swaps
     }
 
     /// Stores a grain's new numbers: 5.

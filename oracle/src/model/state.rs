@@ -120,6 +120,15 @@ impl<T: Clone + Default> Row<T> {
     }
 }
 
+/// An update of the heap: the cell, its head before and after it changed, and the swaps.
+#[derive(Clone, Copy)]
+pub struct Update {
+    pub cell: usize,
+    pub before: Option<f64>,
+    pub after: Option<f64>,
+    pub swaps: u64,
+}
+
 #[derive(Clone, Default)]
 pub struct State {
     pub lengths: [f64; 2],
@@ -137,6 +146,8 @@ pub struct State {
     pub queues: Vec<Row<Place>>,
     pub heap: Vec<u64>,
     pub look: Vec<u64>,
+    /// The heap's updates, in their order, for whoever asks for them; it is for them to take them out.
+    pub updates: Option<Vec<Update>>,
 }
 
 impl State {

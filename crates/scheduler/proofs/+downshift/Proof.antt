@@ -1,12 +1,14 @@
 -- `downshift` meets its contract, by recursion: its measure falls. Assumes nothing.
-use Rattle.scheduler.proofs.Laws.{child-in, child-after, downshifted-out, downshifted-stays, downshifted-goes}
-use Rattle.scheduler.specs.Heap.{childOf, swapAt, downshifted}
+use Rattle.scheduler.proofs.Laws.{child-in, child-after, child-out, downshifted-out, downshifted-stays, downshifted-goes}
+use Rattle.scheduler.proofs.Swaps.{down-swaps-stays, down-swaps-goes, down-swaps-few}
+use Rattle.scheduler.specs.Heap.{childOf, swapAt, downshifted, downshiftSwaps}
 use Rattle.scheduler.specs.Inside.{headIn, made}
 use Rattle.scheduler.specs.declared.Scheduler.{Scheduler}
-use mathlib.Core.Path.{_≡_, sym, ap, _∙_}
+use mathlib.Core.Path.{_≡_, refl, sym, ap, _∙_}
 use native.Mathlib.Omega.{arith}
+use native.Mathlib.Numerals.{one-add}
 use borrow.Author.Needs.{needs}
-use Prim.Native.Nat.{ℕ, _<_, _-_}
+use Prim.Native.Nat.{ℕ, suc, _<_, _-_}
 use borrow.Fn.Kinds.{In}
 use borrow.Fn.PlainCycle.{Measures, is, falls, and}
 use Rattle.scheduler.proofs.downshift.Reads as downshift
@@ -31,7 +33,13 @@ abbrev Rd : ℕ → downshift-lts.Claims
 Rd t = (child-reads.Asked, child-reads.Learnt, swap-reads.Asked, swap-reads.Learnt, downshift-below t, downshift.Post)
 
 downshift-returns : (t : ℕ) → downshift-lts.Need-returns (Rd t) (downshift-at t) downshift.Post
-downshift-returns t c = sym (downshifted-out _ _ _ (c .if1 .taken))
+downshift-returns t c =
+    let b : downshift-lts.Start (Rd t) (downshift-at t) downshift.Post = search in
+    let a = b .args in
+    let h = headIn (a .times .now) (a .held .now) (a .room) in
+    let s = made (a .heap .now) (a .lookups .now) (a .n) in
+    let o = c .if1 .taken in
+    (sym (downshifted-out h s (a .p) o), sym (down-swaps-stays h s (a .p) (child-out h s (a .p) o)))
 
 downshift-child-requires : (t : ℕ) → downshift-lts.Need-child-requires (Rd t) (downshift-at t) downshift.Post
 downshift-child-requires t c κs = search needs
@@ -44,7 +52,8 @@ downshift-returns-2 t c =
     let h = headIn (a .times .now) (a .held .now) (a .room) in
     let s = made (a .heap .now) (a .lookups .now) (a .n) in
     let e : ch .child .result ≡ childOf h s (a .p) = ch .child .ensures in
-    sym (downshifted-stays h s (a .p) (sym e ∙ c .if2 .taken))
+    let f = sym e ∙ c .if2 .taken in
+    (sym (downshifted-stays h s (a .p) f), sym (down-swaps-stays h s (a .p) f))
 
 downshift-swap-requires : (t : ℕ) → downshift-lts.Need-swap-requires (Rd t) (downshift-at t) downshift.Post
 downshift-swap-requires t c κs =
@@ -73,6 +82,15 @@ downshift-downshift-requires t c κs =
     let l = child-after h s (a .p) in
     (omega (arith, else2 .if2 .left, else1 .if1 .left), b .pre .1)
 
+downshift-add-result : (t : ℕ) → downshift-lts.Need-add-result (Rd t) (downshift-at t) downshift.Post
+downshift-add-result t c =
+    let sw : downshift-lts.After-swap (Rd t) (downshift-at t) downshift.Post = search in
+    let ch : downshift-lts.After-child (Rd t) (downshift-at t) downshift.Post = search in
+    let b : downshift-lts.Start (Rd t) (downshift-at t) downshift.Post = search in
+    let a = b .args in
+    let h = headIn (a .times .now) (a .held .now) (a .room) in
+    omega (arith, c .downshift .ensures .1, down-swaps-few h (made (sw .swap .last .0) (sw .swap .last .1 .0) (a .n)) (ch .child .result), b .pre .1 .0)
+
 downshift-returns-3 : (t : ℕ) → downshift-lts.Need-returns-3 (Rd t) (downshift-at t) downshift.Post
 downshift-returns-3 t c =
     let sw : downshift-lts.After-swap (Rd t) (downshift-at t) downshift.Post = search in
@@ -84,9 +102,10 @@ downshift-returns-3 t c =
     let h = headIn (a .times .now) (a .held .now) (a .room) in
     let s = made (a .heap .now) (a .lookups .now) (a .n) in
     let e : ch .child .result ≡ childOf h s (a .p) = ch .child .ensures in
-    c .downshift .ensures ∙ ap (λ (x : Scheduler). downshifted h x (ch .child .result)) (sw .swap .ensures (a .n))
-    ∙ ap (λ (x : ℕ). downshifted h (swapAt s (a .p) x) x) e
-    ∙ sym (downshifted-goes h s (a .p) (else1 .if1 .left) (λ w. else2 .if2 .left (e ∙ w)))
+    let d : downshift-lts.After-downshift (Rd t) (downshift-at t) downshift.Post = search in
+    let n : childOf h s (a .p) ≡ a .p → ⊥ = λ w. else2 .if2 .left (e ∙ w) in
+    let on : (A : Type 0) (f : Scheduler → ℕ → A) → f (made (sw .swap .last .0) (sw .swap .last .1 .0) (a .n)) (ch .child .result) ≡ f (swapAt s (a .p) (childOf h s (a .p))) (childOf h s (a .p)) = λ A f. rw (sw .swap .ensures (a .n), e) refl in
+    (d .downshift .ensures .0 ∙ on Scheduler (downshifted h) ∙ sym (downshifted-goes h s (a .p) (else1 .if1 .left) n), one-add (d .downshift .result) ∙ ap suc (d .downshift .ensures .1 ∙ on ℕ (downshiftSwaps h)) ∙ sym (down-swaps-goes h s (a .p) n))
 
 pub +downshift-spec : {M : Type 1} → statement M
 +downshift-spec = close μ-downshift λ t. downshift-lts.spec (Rd t)
@@ -97,4 +116,5 @@ pub +downshift-spec : {M : Type 1} → statement M
     (downshift-returns-2 t)
     (downshift-swap-requires t)
     (downshift-downshift-requires t)
+    (downshift-add-result t)
     (downshift-returns-3 t)

@@ -1,12 +1,14 @@
 -- `upshift` meets its contract, by recursion: its measure falls. Assumes nothing.
 use Rattle.scheduler.proofs.Laws.{parent-before, upshifted-stays, upshifted-goes}
-use Rattle.scheduler.specs.Heap.{parentOf, swapAt, upshifted}
+use Rattle.scheduler.proofs.Swaps.{up-swaps-stays, up-swaps-goes, up-swaps-few}
+use Rattle.scheduler.specs.Heap.{parentOf, swapAt, upshifted, upshiftSwaps}
 use Rattle.scheduler.specs.Inside.{headIn, made}
 use Rattle.scheduler.specs.declared.Scheduler.{Scheduler}
-use mathlib.Core.Path.{_≡_, sym, ap, _∙_}
+use mathlib.Core.Path.{_≡_, refl, sym, ap, _∙_}
 use native.Mathlib.Omega.{arith}
+use native.Mathlib.Numerals.{one-add}
 use borrow.Author.Needs.{needs}
-use Prim.Native.Nat.{ℕ, _<_}
+use Prim.Native.Nat.{ℕ, suc, _<_}
 use borrow.Fn.Kinds.{In}
 use borrow.Fn.PlainCycle.{Measures, is, falls, and}
 use Rattle.scheduler.proofs.upshift.Reads as upshift
@@ -40,7 +42,8 @@ upshift-returns t c =
     let h = headIn (a .times .now) (a .held .now) (a .room) in
     let s = made (a .heap .now) (a .lookups .now) (a .n) in
     let e : p .parent .result ≡ parentOf h s (a .c) = p .parent .ensures in
-    sym (upshifted-stays h s (a .c) (sym e ∙ c .if1 .taken))
+    let f = sym e ∙ c .if1 .taken in
+    (sym (upshifted-stays h s (a .c) f), sym (up-swaps-stays h s (a .c) f))
 
 upshift-swap-requires : (t : ℕ) → upshift-lts.Need-swap-requires (Rd t) (upshift-at t) upshift.Post
 upshift-swap-requires t c κs =
@@ -66,6 +69,19 @@ upshift-upshift-requires t c κs =
     let l = parent-before h s (a .c) (λ w. else1 .if1 .left (e ∙ w)) in
     (omega (arith, b .pre .0), (b .pre .1 .0, b .pre .1 .1))
 
+upshift-add-result : (t : ℕ) → upshift-lts.Need-add-result (Rd t) (upshift-at t) upshift.Post
+upshift-add-result t c =
+    let sw : upshift-lts.After-swap (Rd t) (upshift-at t) upshift.Post = search in
+    let else1 : upshift-lts.Else1 (Rd t) (upshift-at t) upshift.Post = search in
+    let p : upshift-lts.After-parent (Rd t) (upshift-at t) upshift.Post = search in
+    let b : upshift-lts.Start (Rd t) (upshift-at t) upshift.Post = search in
+    let a = b .args in
+    let h = headIn (a .times .now) (a .held .now) (a .room) in
+    let s = made (a .heap .now) (a .lookups .now) (a .n) in
+    let e : p .parent .result ≡ parentOf h s (a .c) = p .parent .ensures in
+    let l = parent-before h s (a .c) (λ w. else1 .if1 .left (e ∙ w)) in
+    omega (arith, c .upshift .ensures .1, up-swaps-few h (made (sw .swap .last .0) (sw .swap .last .1 .0) (a .n)) (p .parent .result), b .pre .1 .0)
+
 upshift-returns-2 : (t : ℕ) → upshift-lts.Need-returns-2 (Rd t) (upshift-at t) upshift.Post
 upshift-returns-2 t c =
     let sw : upshift-lts.After-swap (Rd t) (upshift-at t) upshift.Post = search in
@@ -76,9 +92,10 @@ upshift-returns-2 t c =
     let h = headIn (a .times .now) (a .held .now) (a .room) in
     let s = made (a .heap .now) (a .lookups .now) (a .n) in
     let e : p .parent .result ≡ parentOf h s (a .c) = p .parent .ensures in
-    c .upshift .ensures ∙ ap (λ (x : Scheduler). upshifted h x (p .parent .result)) (sw .swap .ensures (a .n))
-    ∙ ap (λ (x : ℕ). upshifted h (swapAt s (a .c) x) x) e
-    ∙ sym (upshifted-goes h s (a .c) (λ w. else1 .if1 .left (e ∙ w)))
+    let u : upshift-lts.After-upshift (Rd t) (upshift-at t) upshift.Post = search in
+    let n : parentOf h s (a .c) ≡ a .c → ⊥ = λ w. else1 .if1 .left (e ∙ w) in
+    let on : (A : Type 0) (f : Scheduler → ℕ → A) → f (made (sw .swap .last .0) (sw .swap .last .1 .0) (a .n)) (p .parent .result) ≡ f (swapAt s (a .c) (parentOf h s (a .c))) (parentOf h s (a .c)) = λ A f. rw (sw .swap .ensures (a .n), e) refl in
+    (u .upshift .ensures .0 ∙ on Scheduler (upshifted h) ∙ sym (upshifted-goes h s (a .c) n), one-add (u .upshift .result) ∙ ap suc (u .upshift .ensures .1 ∙ on ℕ (upshiftSwaps h)) ∙ sym (up-swaps-goes h s (a .c) n))
 
 pub +upshift-spec : {M : Type 1} → statement M
 +upshift-spec = close μ-upshift λ t. upshift-lts.spec (Rd t)
@@ -88,4 +105,5 @@ pub +upshift-spec : {M : Type 1} → statement M
     (upshift-returns t)
     (upshift-swap-requires t)
     (upshift-upshift-requires t)
+    (upshift-add-result t)
     (upshift-returns-2 t)

@@ -8,12 +8,12 @@ use Rattle.layout.specs.Widths.{heapWide}
 use Rattle.tables.proofs.HeapLaws.{front-long}
 use Rattle.tables.specs.Decode.{schedulerOf}
 use Rattle.tables.specs.Layout.{orderBytes}
-use Rattle.scheduler.specs.Heap.{updated}
+use Rattle.scheduler.specs.Heap.{updated, updateSwaps}
 use Rattle.scheduler.specs.Inside.{headIn}
 use Rattle.scheduler.specs.declared.Scheduler.{Scheduler}
 use Rattle.scheduler.specs.declared.head.Head.{Head}
-use Prim.Native.Nat.{_+_, _≤_}
-use mathlib.Core.Path.{sym, ap, subst, _∙_}
+use Prim.Native.Nat.{ℕ, _+_, _≤_}
+use mathlib.Core.Path.{_≡_, refl, sym, ap, subst, _∙_}
 use native.Mathlib.Omega.{arith}
 use borrow.Author.Needs.{needs}
 use Rattle.acts.proofs.heap.update.Statement.{statement}
@@ -75,10 +75,10 @@ load-requires c κs = search needs
 update-requires : tie.Need-update-requires
 update-requires c κs =
     let b : tie.Start = search in
-    (subst (λ (s : Scheduler). s .cells ≤ 256) (sym (c .before .load .ensures)) (b .pre .1), b .pre .2, b .pre .3)
+    (subst (λ (s : Scheduler). s .cells ≤ 256) (sym (c .load .ensures)) (b .pre .1), b .pre .2, b .pre .3)
 
 store-requires : tie.Need-store-requires
-store-requires c κs = search needs
+store-requires c κs = let b : tie.Start = search in b .pre .0
 
 same-length-2 : tie.Need-same-length-2
 same-length-2 c = search needs
@@ -93,7 +93,11 @@ returns-2 c =
     let t = a .order .now in
     let h = headIn (a .events .now) (a .queue .now) (a .z .room) in
     let s = schedulerOf (a .z .cells) t in
-    c .before .before .store .ensures ∙ ap orderBytes (u .update .ensures ∙ ap (λ (x : Scheduler). updated h x (a .cell) (a .before) (ht .head-time .result)) (l .load .ensures) ∙ ap (λ (x : Head). updated h s (a .cell) (a .before) x) (ht .head-time .ensures))
+    let is : (A : Type 0) (f : Scheduler → Head → A) → f (l .load .result) (ht .head-time .result) ≡ f s (h (a .cell)) = λ A f. rw (l .load .ensures, ht .head-time .ensures) refl in
+    let st : tie.After-store = search in (
+      st .store .ensures ∙ ap orderBytes (u .update .ensures .0 ∙ is Scheduler (λ x y. updated h x (a .cell) (a .before) y)),
+      u .update .ensures .1 ∙ is ℕ (λ x y. updateSwaps h x (a .cell) (a .before) y),
+    )
 
 pub update-spec : {M : Type 1} → statement M
 update-spec =

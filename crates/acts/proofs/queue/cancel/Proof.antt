@@ -69,7 +69,7 @@ returns c =
     let i : tie.After-cancel = search in
     let r : tie.After-row-of = search in
     let b : tie.Start = search in
-    λ s q. cancel-done (b .args .cell) (b .args .g) s q (r .row-of .ensures) (b .pre .1) (cancel-tables (b .args .cell) (b .args .g) s q (r .row-of .ensures) (b .pre .1) (i .cancel .ensures)) (u .update .ensures)
+    λ s q. cancel-done (b .args .cell) (b .args .g) s q (r .row-of .ensures) (b .pre .1) (cancel-tables (b .args .cell) (b .args .g) s q (r .row-of .ensures) (b .pre .1) (i .cancel .ensures)) (u .update .ensures .0)
 
 pub cancel-spec : {M : Type 1} → statement M
 cancel-spec =

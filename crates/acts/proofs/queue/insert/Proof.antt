@@ -129,7 +129,7 @@ returns-3 c =
     let b : tie.Start = search in
     let l = subst (λ x. x < b .args .z .room) (n .count-of .ensures) (i2 .if2 .left) in
     λ s q. insert-done (b .args .cell) (b .args .e) s q (r .row-of .ensures) (b .pre .1) (is-fine i1) l
-    (insert-tables (b .args .cell) (b .args .e) s q (r .row-of .ensures) (b .pre .1) (is-fine i1) l (i .insert .ensures)) (u .update .ensures)
+    (insert-tables (b .args .cell) (b .args .e) s q (r .row-of .ensures) (b .pre .1) (is-fine i1) l (i .insert .ensures)) (u .update .ensures .0)
 
 pub insert-spec : {M : Type 1} → statement M
 insert-spec =

@@ -69,7 +69,7 @@ returns c =
     let i : tie.After-take = search in
     let r : tie.After-row-of = search in
     let b : tie.Start = search in
-    λ s q. take-done (b .args .cell) s q (r .row-of .ensures) (b .pre .1) (b .pre .2) (i .take .ensures) (take-tables (b .args .cell) s q (r .row-of .ensures) (b .pre .1) (b .pre .2) (i .take .ensures)) (u .update .ensures)
+    λ s q. take-done (b .args .cell) s q (r .row-of .ensures) (b .pre .1) (b .pre .2) (i .take .ensures) (take-tables (b .args .cell) s q (r .row-of .ensures) (b .pre .1) (b .pre .2) (i .take .ensures)) (u .update .ensures .0)
 
 pub take-spec : {M : Type 1} → statement M
 take-spec =
