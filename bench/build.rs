@@ -9,7 +9,7 @@ fn main() {
         None => Path::new(env!("CARGO_MANIFEST_DIR")).join("../target/staticlib"),
     };
     let archive = folder.join("libswaps.a");
-    assert!(archive.is_file(), "there is no {}: tools/archive makes it", archive.display());
+    assert!(archive.is_file(), "there is no {}: tools/archive swaps makes it", archive.display());
     println!("cargo:rerun-if-changed={}", archive.display());
     println!("cargo:rustc-link-search=native={}", folder.display());
     println!("cargo:rustc-link-lib=static=swaps");
