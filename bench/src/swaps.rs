@@ -5,6 +5,8 @@ use oracle::model::state::{State, Update};
 use oracle::tables::{heap_bytes, FLOATS, NUMBERS};
 use oracle::text::Start;
 
+// beside the archive that the bindings link
+#[link(name = "swaps", kind = "static")]
 extern "C" {
     fn swaps_of_update(
         order: *mut u8,
