@@ -2,7 +2,7 @@
 // a heap of its own and counts. Both must agree on every count, and on the heap after every run.
 use oracle::model::run::{start, Started, Told};
 use oracle::model::state::{State, Update};
-use oracle::tables::{heap_bytes, FLOATS, NUMBERS};
+use oracle::tables::{heap_bytes, Tables, FLOATS, NUMBERS};
 use oracle::text::Start;
 
 // beside the archive that the bindings link
@@ -23,52 +23,34 @@ extern "C" {
     ) -> u64;
 }
 
-/// Places for events of each cell: its head is all that the heap asks for.
-const ROOM: usize = 1;
-const QUEUE: usize = 1 + NUMBERS * ROOM;
-const EVENTS: usize = FLOATS * ROOM;
-
-/// The cells' heads in tables, and the heap over them.
+/// The tables of a state, of which the heap's is kept up to date, and of the cells' events what the heap asks for.
 struct Heap {
+    tables: Tables,
     cells: usize,
-    queue: Vec<u64>,
-    events: Vec<f64>,
-    order: Vec<u8>,
+    room: usize,
 }
 
 impl Heap {
     fn of(s: &State) -> Heap {
-        let cells = s.queues.len();
-        let mut heap = Heap {
-            cells,
-            queue: vec![0; cells * QUEUE],
-            events: vec![0.; cells * EVENTS],
-            order: heap_bytes(s),
-        };
-        (0..cells).for_each(|cell| heap.put(cell, s.head(cell)));
-        heap
-    }
-
-    /// A cell's head is empty, or has this time.
-    fn put(&mut self, cell: usize, head: Option<f64>) {
-        self.queue[cell * QUEUE] = u64::from(head.is_some());
-        self.events[cell * EVENTS] = head.unwrap_or_default();
+        Heap { tables: Tables::of(s), cells: s.queues.len(), room: s.room as usize }
     }
 
     /// A cell's head changes, and it finds its place: by how many swaps.
     fn update(&mut self, change: &Update) -> u64 {
-        self.put(change.cell, change.after);
+        let Tables { queue, events, order, .. } = &mut self.tables;
+        queue[change.cell * (1 + NUMBERS * self.room)] = u64::from(change.after.is_some());
+        events[change.cell * FLOATS * self.room] = change.after.unwrap_or_default();
         // SAFETY: every slice is a vector's, with its length.
         unsafe {
             swaps_of_update(
-                self.order.as_mut_ptr(),
-                self.order.len(),
-                self.queue.as_ptr(),
-                self.queue.len(),
-                self.events.as_ptr(),
-                self.events.len(),
+                order.as_mut_ptr(),
+                order.len(),
+                queue.as_ptr(),
+                queue.len(),
+                events.as_ptr(),
+                events.len(),
                 self.cells as u64,
-                ROOM as u64,
+                self.room as u64,
                 change.cell as u64,
                 change.before.is_none(),
                 change.before.unwrap_or_default(),
@@ -103,12 +85,12 @@ pub fn counted(given: &Start, runs: u64) -> (Swaps, State) {
         assert_eq!(model.run(given.rate, u32::MAX).told, Told::Synchronised);
         for change in model.updates.take().expect("the updates were asked for") {
             let made = heap.update(&change);
-            assert_eq!(made, change.swaps, "the compiled update and the model count alike");
+            assert_eq!(made, change.swaps, "both count alike");
             swaps.updates += 1;
             swaps.all += made;
             swaps.most = swaps.most.max(made);
         }
-        assert_eq!(heap.order, heap_bytes(&model), "the compiled update and the model leave the same heap");
+        assert_eq!(heap.tables.order, heap_bytes(&model), "both leave the same heap");
     }
     (swaps, *model)
 }

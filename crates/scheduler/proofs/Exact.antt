@@ -21,7 +21,7 @@ use Rattle.scheduler.specs.Log2.{Log2}
 use Rattle.scheduler.proofs.Laws.{time-in, time-out, parent-early}
 use Rattle.scheduler.proofs.Inverse.{swap-snd, swap-inverse, start-lookups, start-inverse}
 use Rattle.scheduler.proofs.Swaps.{swaps-goes}
-use Rattle.scheduler.proofs.Worst.{up-worst, log2-one, log2-9, log2-256}
+use Rattle.scheduler.proofs.Worst.{up-worst, log2-some, log2-one, log2-9, log2-256}
 
 -- a heap of n cells, in order, in which one cell's head then changes: its update makes k swaps
 pub record Needs (n k : ℕ) : Type 0 where
@@ -48,12 +48,15 @@ module _ (t : Float) (x : ℕ) where
   alone-else : (c : ℕ) → (c ≡ x → ⊥) → alone t x c ≡ Empty
   alone-else c n = simp (ne-eqb c x n)
 
+  at-root : (c m : ℕ) → c ≡ 0 → c + 1 < 2 ^ suc m
+  at-root c m z = omega (arith, one-le-pow m 2 (omega arith), pow-suc 2 m)
+
   -- it goes up to the root: from index c that is the whole part of log2(c + 1) swaps
   to-root : (k : ℕ) (s : Scheduler) (c : ℕ) → Inverse s → c < s .cells → getD (s .heap) c 0 ≡ x → c ≤ k → c + 1 < 2 ^ suc (swapsOf (parentOf (alone t x)) k s c)
   unfolding swapAt
-  to-root zero s c inv i e l = omega (arith, one-le-pow (swapsOf (parentOf (alone t x)) zero s c) 2 (omega arith), pow-suc 2 (swapsOf (parentOf (alone t x)) zero s c))
+  to-root zero s c inv i e l = at-root c (swapsOf (parentOf (alone t x)) zero s c) (omega arith)
   to-root (suc k) s c inv i e l = elim (ℕ-discrete c 0) [
-    | yes z ↦ omega (arith, one-le-pow (swapsOf (parentOf (alone t x)) (suc k) s c) 2 (omega arith), pow-suc 2 (swapsOf (parentOf (alone t x)) (suc k) s c))
+    | yes z ↦ at-root c (swapsOf (parentOf (alone t x)) (suc k) s c) z
     | no z ↦
         let h = alone t x in
         let p = parent c in
@@ -73,7 +76,7 @@ module _ (t : Float) (x : ℕ) where
 pub needs : (n k : ℕ) → n ≤ 256 → Log2 n k → Needs n k
 unfolding startHeap Real Ordered updateSwaps upshiftSwaps isNan ofBits
 needs n k r l =
-    let i : 0 < n = omega (arith, one-le-pow k 2 (omega arith), l .no-more) in
+    let i : 0 < n = log2-some n k l in
     let x = n - 1 in
     let s = startHeap n in
     let h = alone fzero x in

@@ -10,7 +10,12 @@ use Rattle.scheduler.specs.declared.Scheduler.{Scheduler}
 use Rattle.scheduler.specs.declared.head.Head.{Head}
 use Rattle.scheduler.specs.Head.{earlier}
 use Rattle.scheduler.specs.Heap.{swapAt, swapsOf, childOf, down, downshifted, downshiftSwaps, parentOf, up, upshifted, upshiftSwaps, updated, updateSwaps}
-use Rattle.scheduler.proofs.Laws.{child-in, child-after, child-out, further, down-stays, down-goes, parent-root, parent-before, up-stays, up-goes}
+use Rattle.scheduler.proofs.Laws.{child-in, child-after, further, down-stays, down-goes, parent-before, up-stays, up-goes}
+
+-- so many swaps, each to another index that the rule names, lead from s at i to t, and there it names none
+abbrev pub Leads : (Scheduler → ℕ → ℕ) → ℕ → Scheduler → ℕ → Scheduler → Type 0
+Leads next zero s i t = (next s i ≡ i) × (t ≡ s)
+Leads next (suc n) s i t = (next s i ≡ i → ⊥) × Leads next n (swapAt s i (next s i)) (next s i) t
 
 -- ---- a shift that goes from an index to the `next`
 module _ (next : Scheduler → ℕ → ℕ) where
@@ -56,6 +61,18 @@ module _ (next : Scheduler → ℕ → ℕ) where
         let e : left s i ≡ suc (left s i - 1) = omega arith in
         ap (λ (k : ℕ). swapsOf next k s i) e ∙ swaps-goes (left s i - 1) s i n ∙ ap suc (enough (left s i - 1) (left s′ q) s′ q (omega arith) (omega arith))
 
+    -- a shift that stays and goes by the same steps ends where so many swaps lead
+    module _ (shift : ℕ → Scheduler → ℕ → Scheduler) (stays : (k : ℕ) (s : Scheduler) (i : ℕ) → next s i ≡ i → shift k s i ≡ s)
+        (goes : (k : ℕ) (s : Scheduler) (i : ℕ) → (next s i ≡ i → ⊥) → shift (suc k) s i ≡ shift k (swapAt s i (next s i)) (next s i)) where
+      pub leads : (k : ℕ) (s : Scheduler) (i : ℕ) → left s i ≤ k → Leads next (swapsOf next k s i) s i (shift k s i)
+      leads zero s i l = let e = ended s i (omega arith) in rw (swaps-stays zero s i e, stays zero s i e) (e, refl)
+      leads (suc k) s i l = elim (ℕ-discrete (next s i) i) [
+        | yes e ↦ rw (swaps-stays (suc k) s i e, stays (suc k) s i e) (e, refl)
+        | no n ↦
+            let f = falls s i n in
+            rw (swaps-goes k s i n, goes k s i n) (n, leads k (swapAt s i (next s i)) (next s i) (omega arith))
+      ]
+
 -- ---- the downshift
 module _ (h : ℕ → Head) where
   down-falls : (s : Scheduler) (p : ℕ) → (childOf h s p ≡ p → ⊥) → swapAt s p (childOf h s p) .cells - childOf h s p < s .cells - p
@@ -89,35 +106,8 @@ module _ (h : ℕ → Head) where
   unfolding upshiftSwaps
   up-swaps-few s c = swaps-few (parentOf h) c s c
 
--- ---- the count is of the shift's own steps: so many swaps, each to another index that the rule names, lead from s at i to t, and there it names none
-abbrev pub Leads : (Scheduler → ℕ → ℕ) → ℕ → Scheduler → ℕ → Scheduler → Type 0
-Leads next zero s i t = (next s i ≡ i) × (t ≡ s)
-Leads next (suc n) s i t = (next s i ≡ i → ⊥) × Leads next n (swapAt s i (next s i)) (next s i) t
-
-module _ (h : ℕ → Head) where
-  down-leads : (k : ℕ) (s : Scheduler) (p : ℕ) → s .cells - p ≤ k → Leads (childOf h) (swapsOf (childOf h) k s p) s p (down h k s p)
-  down-leads zero s p l =
-      let e = child-out h s p (omega arith) in
-      rw (swaps-stays (childOf h) zero s p e, down-stays h zero s p e) (e, refl)
-  down-leads (suc k) s p l = elim (ℕ-discrete (childOf h s p) p) [
-    | yes e ↦ rw (swaps-stays (childOf h) (suc k) s p e, down-stays h (suc k) s p e) (e, refl)
-    | no n ↦
-        let q = childOf h s p in
-        rw (swaps-goes (childOf h) k s p n, down-goes h k s p n) (n, down-leads k (swapAt s p q) q (omega (arith, down-falls h s p n)))
-  ]
-
-  up-leads : (k : ℕ) (s : Scheduler) (c : ℕ) → c ≤ k → Leads (parentOf h) (swapsOf (parentOf h) k s c) s c (up h k s c)
-  up-leads zero s c l =
-      let e = parent-root h (s .heap) (s .cells) c (omega arith) in
-      rw (swaps-stays (parentOf h) zero s c e, up-stays h zero s c e) (e, refl)
-  up-leads (suc k) s c l = elim (ℕ-discrete (parentOf h s c) c) [
-    | yes e ↦ rw (swaps-stays (parentOf h) (suc k) s c e, up-stays h (suc k) s c e) (e, refl)
-    | no n ↦
-        let q = parentOf h s c in
-        rw (swaps-goes (parentOf h) k s c n, up-goes h k s c n) (n, up-leads k (swapAt s c q) q (omega (arith, up-falls h s c n)))
-  ]
-
-  -- The theorem: an update's swaps lead to what it makes of the scheduler.
+  -- ---- the update
+  -- The theorem: the count is of the shift's own steps. An update's swaps lead to what it makes of the scheduler.
   pub swaps-lead : (s : Scheduler) (cell : ℕ) (before after : Head)
       → Leads (cond (earlier before after) (childOf h) (parentOf h)) (updateSwaps h s cell before after) s (getD (s .lookups) cell 0) (updated h s cell before after)
   unfolding updateSwaps updated downshiftSwaps upshiftSwaps downshifted upshifted
@@ -127,5 +117,5 @@ module _ (h : ℕ → Head) where
       at = getD (s .lookups) cell 0
 
       by : (b : Bool) → Leads (cond b (childOf h) (parentOf h)) (cond b (downshiftSwaps h s at) (upshiftSwaps h s at)) s at (cond b (downshifted h s at) (upshifted h s at))
-      by true = down-leads (s .cells - at) s at (omega arith)
-      by false = up-leads at s at (omega arith)
+      by true = leads (childOf h) (λ s p. s .cells - p) down-falls (down h) (down-stays h) (down-goes h) (s .cells - at) s at (omega arith)
+      by false = leads (parentOf h) (λ s c. c) up-falls (up h) (up-stays h) (up-goes h) at s at (omega arith)

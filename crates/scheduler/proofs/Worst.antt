@@ -1,6 +1,6 @@
 -- 02, T-06: what one update costs at worst. From any heap, lookups and heads, for any number of cells, it makes no more swaps than the whole part of
 -- log2(cells); and in a heap that is in order it makes none. Assumes nothing.
-use mathlib.Core.Path.{_≡_, refl, sym, ap, _∙_}
+use mathlib.Core.Path.{_≡_, refl, sym, ap, subst, _∙_}
 use mathlib.Core.Bool.{Bool, true, false, cond}
 use Prim.Native.Nat.{ℕ, zero, suc, _+_, _-_, _*_, _^_, _≤_, _<_}
 use native.Mathlib.Nat.{le-trans, le-of-eq, mul-le-mul-right, mul-assoc, mul-comm, one-mul, one-le-pow, pow-suc}
@@ -15,7 +15,7 @@ use Rattle.scheduler.specs.Head.{earlier}
 use Rattle.scheduler.specs.Heap.{timeAt, swapAt, swapsOf, childOf, downshiftSwaps, parent, parentOf, upshiftSwaps, updateSwaps}
 use Rattle.scheduler.specs.Standing.{Ordered}
 use Rattle.scheduler.specs.Log2.{Log2}
-use Rattle.scheduler.proofs.Laws.{time-in, time-out, child-elim, child-in, child-out, parent-elim, parent-out}
+use Rattle.scheduler.proofs.Laws.{time-out, child-elim, child-in, child-out, parent-elim, parent-out}
 use Rattle.scheduler.proofs.Swaps.{swaps-stays, swaps-goes}
 
 -- ---- the logarithm: there is one of every number but 0, and no more than one
@@ -29,6 +29,9 @@ log2-there n i = go n (under n)
     go : (j : ℕ) → n < 2 ^ j → (k : ℕ) × Log2 n k
     go zero l = absurd (omega arith)
     go (suc j) l = elim (decLe (2 ^ j) n) [ yes m ↦ (j, record { no-more = m; no-less = l }) | no m ↦ go j (omega arith) ]
+
+pub log2-some : (n k : ℕ) → Log2 n k → 0 < n
+log2-some n k l = omega (arith, one-le-pow k 2 (omega arith), l .no-more)
 
 -- c is no more than it where 2 ^ c is no more than n
 within : (n k c : ℕ) → Log2 n k → 2 ^ c ≤ n → c ≤ k
@@ -94,7 +97,7 @@ module _ (h : ℕ → Head) where
   -- The theorem: from any heap, lookups and heads, no more swaps than the whole part of log2(cells).
   pub swaps-within : (s : Scheduler) (cell : ℕ) (before after : Head) (k : ℕ) → Log2 (s .cells) k → updateSwaps h s cell before after ≤ k
   swaps-within s cell before after k l =
-      within (s .cells) k (updateSwaps h s cell before after) l (update-worst s cell before after (omega (arith, one-le-pow k 2 (omega arith), l .no-more)))
+      within (s .cells) k (updateSwaps h s cell before after) l (update-worst s cell before after (log2-some (s .cells) k l))
 
 -- ---- of 9 cells it is 3, and of 256 it is 8
 pub log2-9 : Log2 9 3
@@ -134,14 +137,7 @@ module _ (h : ℕ → Head) (s : Scheduler) (ordered : Ordered h s) where
 -- The theorem: in a valid heap no swap where the head did not change, which leaves it in order.
 pub unchanged-none : (h₀ h : ℕ → Head) (s : Scheduler) (cell : ℕ) → Ordered h₀ s → ((c : ℕ) → (c ≡ cell → ⊥) → h c ≡ h₀ c) → h cell ≡ h₀ cell
     → updateSwaps h s cell (h₀ cell) (h cell) ≡ 0
-unfolding Ordered
-unchanged-none h₀ h s cell ordered others same = ordered-none h s (λ c p i. rw (at c, at (parent c)) (ordered c p i)) cell (h₀ cell) (h cell)
+unchanged-none h₀ h s cell ordered others same = ordered-none h s (subst (λ f. Ordered f s) (λ i c. sym (each c) i) ordered) cell (h₀ cell) (h cell)
   where
     each : (c : ℕ) → h c ≡ h₀ c
     each c = elim (ℕ-discrete c cell) [ yes e ↦ rw e same | no n ↦ others c n ]
-
-    at : (i : ℕ) → timeAt h s i ≡ timeAt h₀ s i
-    at i = elim (decLe (s .cells) i) [
-      | yes o ↦ time-out h s i o ∙ sym (time-out h₀ s i o)
-      | no n ↦ time-in h s i (omega arith) ∙ each (getD (s .heap) i 0) ∙ sym (time-in h₀ s i (omega arith))
-    ]

@@ -5,16 +5,17 @@ use mathlib.Core.List.{List}
 use lib.ListN.{length}
 use lib.Dec.{eqb, leb, ltb}
 use lib.Ieee.{Float}
-use Rattle.layout.specs.Widths.{heapWide, orderWide}
+use Rattle.layout.specs.Widths.{orderWide}
 use Rattle.scheduler.specs.declared.head.Head.{Head}
 use Rattle.scheduler.specs.declared.head.Head.the-variants.{Empty, At}
 use Rattle.scheduler.specs.Heap.{updated, updateSwaps}
+use Rattle.model.specs.Sizes.{mostRoom, mostCells}
 use Rattle.tables.specs.Layout.{orderBytes}
 use Rattle.tables.specs.Decode.{schedulerOf}
 
--- a heap's table has its length, and there are no more cells and places than it can have
+-- the heap's table has its length; no more cells, and events of a cell, than there may be; and the cell's number is one of so many
 abbrev pub inRange : ℕ → ℕ → ℕ → ℕ → Bool
-inRange order cells room cell = eqb order orderWide && (leb cells heapWide && (leb room heapWide && ltb cell heapWide))
+inRange order cells room cell = eqb order orderWide && (leb cells mostCells && (leb room mostRoom && ltb cell mostCells))
 
 abbrev pub headGiven : Bool → Float → Head
 headGiven empty time = cond empty Empty (At time)

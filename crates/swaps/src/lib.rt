@@ -2,7 +2,6 @@
 ghost use mathlib.Core.Path.{_≡_};
 ghost use Rattle.scheduler.specs.Inside.{headIn};
 ghost use Rattle.swaps.specs.Asked.{inRange, headGiven, orderAfter, swapsTold};
-use layout::HEAP;
 use layout::ORDER;
 use scheduler::head::Head;
 use tables::Sizes;
@@ -10,20 +9,24 @@ use tables::Sizes;
 // What is told where there was no update: no update makes so many swaps.
 const REFUSED: u64 = 256;
 
+// How many cells there may be, and how many events a cell may hold.
+const MOST_CELLS: u64 = 256;
+
+const MOST_ROOM: u64 = 256;
+
 fn in_range(order: usize, cells: u64, room: u64, cell: u64) -> bool
     ensures { λ r. ⌜ r ≡ inRange order cells room cell ⌝ }
 {
-    let most = HEAP as u64;
     if order != ORDER {
         return false;
     }
-    if most < cells {
+    if MOST_CELLS < cells {
         return false;
     }
-    if most < room {
+    if MOST_ROOM < room {
         return false;
     }
-    cell < most
+    cell < MOST_CELLS
 }
 
 fn head_given(empty: bool, time: f64) -> Head
