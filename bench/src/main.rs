@@ -1,5 +1,6 @@
 // How many events a second the published Rust and the port do, on the same inputs, in turns, by processor time; and the swaps of the port's heap
-// updates. With the name of a row: the port's rounds of it alone, for a profiler.
+// updates. With the word `root`: how long one square root takes. With the name of a row: the port's rounds of it alone, for a profiler.
+mod root;
 mod rows;
 mod swaps;
 
@@ -82,8 +83,9 @@ fn memory(port: &Simulation) -> usize {
 }
 
 fn main() {
-    match std::env::args().nth(1) {
-        Some(name) => alone(&name),
+    match std::env::args().nth(1).as_deref() {
+        Some("root") => root::table(),
+        Some(name) => alone(name),
         None => table(),
     }
 }

@@ -16,6 +16,7 @@ pub mod model;
 pub mod mutate;
 pub mod random;
 pub mod report;
+pub mod root_arguments;
 pub mod rust;
 pub mod scenes;
 pub mod starts;

@@ -1,10 +1,11 @@
 // The trials' commands.
 use std::io::Read;
-use trials::{differential, hostile};
+use trials::{differential, hostile, square_roots};
 
 const USAGE: &str = "usage:
   trials differential [SECONDS [SEED]]   the compiled calls against the published Rust and the model
   trials hostile [SECONDS [SEED]]        calls with everything that may be lent, against the model
+  trials square-roots [SECONDS [SEED]]   the compiled square root against the processor's
   trials again WALK                      one start of the first, on stdin, as a mismatch printed it
   trials call SEED NUMBER                one call of the second, as a fault printed it";
 
@@ -28,6 +29,9 @@ fn passed(words: &[&str]) -> Result<bool, String> {
         }
         ["hostile", ref rest @ ..] if rest.len() < 3 => {
             Ok(hostile::hostile(number(rest.first(), 20)?, number(rest.get(1), 1)?))
+        }
+        ["square-roots", ref rest @ ..] if rest.len() < 3 => {
+            Ok(square_roots::square_roots(number(rest.first(), 60)?, number(rest.get(1), 1)?))
         }
         ["again", walk] => {
             let mut text = String::new();

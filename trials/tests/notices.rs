@@ -3,15 +3,17 @@
 use oracle::known::{grain, meeting};
 use oracle::model::state::Inputs;
 use oracle::random::Random;
+use oracle::root_arguments::{HARD, PLAIN};
 use oracle::tables::Tables;
 use oracle::text::Start;
-use trials::calls::{Report, SPENT};
+use trials::calls::{square_root, Report, SPENT};
 use trials::differential::smallest;
 use trials::equal::{holds_state, holds_tables, Beyond};
 use trials::figures::Figures;
 use trials::guarded::{Guarded, Side};
 use trials::hostile::{base, case, Tally};
 use trials::lent::{Lent, NAMES};
+use trials::square_roots::right;
 use trials::walk::{follow, Fault, Ground};
 
 /// Two grains that meet, in tables with little room.
@@ -112,6 +114,20 @@ fn hostile_calls_notice_one_bit() {
         flipped += u64::from(meddled);
     }
     assert!(flipped > 2000, "only {flipped} bits");
+}
+
+#[test]
+fn every_bit_of_a_root_is_compared() {
+    let (mut lent, mut random) = (Lent::default(), Random(3));
+    for kind in PLAIN.iter().chain(&HARD) {
+        let d = (kind.draw)(&mut random);
+        let (number, root) = square_root(&mut lent, d);
+        right(d, (number, root)).expect("the root is right");
+        right(d, (number ^ 5, root)).expect_err("the number was changed");
+        for bit in 0..64 {
+            right(d, (number, f64::from_bits(root.to_bits() ^ 1 << bit))).expect_err("a bit was changed");
+        }
+    }
 }
 
 #[test]

@@ -1,70 +1,80 @@
--- What the loop of `near_root` keeps: with i digits of the root found, q² + rem is what was taken of a * 4 ^ 26 so far, and reg is what comes next. Assumes nothing.
-use mathlib.Core.Path.{_≡_, sym, ap, _∙_, subst}
-use Prim.Native.Nat.{ℕ, _+_, _-_, _*_, _/_, _%_, _^_, _≤_, _<_}
-use native.Mathlib.Nat.{lt-of-lt-of-le, mul-assoc, pow-suc}
+-- The digits of `near_root`: what its loop keeps, how many digits each part adds, and that the last of them round to the nearest. Assumes nothing.
+use mathlib.Core.Path.{_≡_, refl, sym, ap, _∙_}
+use Prim.Native.Nat.{ℕ, _+_, _*_, _/_, _%_, _^_, _≤_, _<_}
+use native.Mathlib.Nat.{lt-of-le-of-lt, mul-le-mul, mul-assoc, pow-suc, pow-le-pow-right}
 use native.Mathlib.Numerals.{add-one}
 use native.Mathlib.Omega.{arith}
 use mathlib.Core.Bool.{Bool, cond}
 use borrow.Author.Tests.{lt-ltb, le-ltb}
-use lib.Pow.{pow-mono}
 use Rattle.root.specs.declared.Digits.{Digits}
 use Rattle.root.specs.Isqrt.{closer, near}
-use Rattle.root.proofs.Isqrt.{Floor, square-one, near-is}
-use Rattle.root.specs.Step.{ReadyDigits, NextDigits}
+use Rattle.root.specs.Step.{taken, DigitsOf, ReadyOne, ReadyMore}
+use Rattle.root.proofs.Isqrt.{Floor, square-one, root-lt, near-is}
 
-pub record Going (a i : ℕ) (s : Digits) : Type 0 where
-  pub count : i ≤ 53
-  pub small : s .q < 2 ^ i
+-- ---- a root with its remainder
+module _ (M : ℕ) (s : Digits) (d : DigitsOf M s) where
+  pub floored : Floor M (s .q)
+  floored = let a = square-one (s .q) in let v = d .value in let l = d .rest in record { low = omega arith; high = omega arith }
+
+  pub below : (k : ℕ) → M < k * k → s .q < k
+  below k h = root-lt (s .q) k (lt-of-le-of-lt (floored .low) h)
+
+  pub at-least : (k : ℕ) → k * k ≤ M → k ≤ s .q
+  at-least k h = let a = root-lt k (s .q + 1) (lt-of-le-of-lt h (floored .high)) in omega arith
+
+-- ---- the loop over the first 14 digits, A: with i digits of the root found, what was taken of A * 4 ^ i, and in reg what comes next
+pub record Going (A i reg : ℕ) (s : Digits) : Type 0 where
+  pub count : i ≤ 7
   pub rest : s .rem ≤ 2 * s .q
-  pub wide : s .reg < 2 ^ 54
-  pub value : (s .q * s .q + s .rem) * 4 ^ 27 + s .reg ≡ a * 4 ^ i
+  pub wide : reg < 4 ^ 7
+  pub value : taken s * 4 ^ 7 + reg ≡ A * 4 ^ i
 
-pub ready : (a i : ℕ) (s : Digits) → Going a i s → ReadyDigits s
-ready a i s g = record { small = lt-of-lt-of-le (g .small) (pow-mono (g .count)); rest = g .rest; wide = g .wide }
+few : (v reg n : ℕ) → v * 4 ^ 7 + reg ≡ n → n ≤ 4 ^ 7 * 4 ^ 7 → v ≤ 4 ^ 7
+few v reg n h k = omega arith
 
-taken : (v1 v2 reg A : ℕ) → v2 ≡ 4 * v1 + reg / 2 ^ 52 → v1 * 4 ^ 27 + reg ≡ A → v2 * 4 ^ 27 + reg % 2 ^ 52 * 4 ≡ A * 4
-taken v1 v2 reg A h k = omega arith
+pub ready-one : (A i reg : ℕ) (s : Digits) → A ≤ 4 ^ 7 → Going A i reg s → ReadyOne s (reg / 2 ^ 12)
+ready-one A i reg s l g =
+    let v = few (taken s) reg (A * 4 ^ i) (g .value) (mul-le-mul l (pow-le-pow-right (omega arith) (g .count))) in
+    let w = g .wide in
+    record { small = below (taken s) s (record { value = refl; rest = g .rest }) (2 ^ 53) (omega arith); rest = g .rest; next = omega arith }
 
-twice : (q r p : ℕ) → q < p → r ≤ 2 * q + 1 → r < p * 2
-twice q r p h k = omega arith
+shifted : (v w reg n : ℕ) → w ≡ v * 4 + reg / 2 ^ 12 → v * 4 ^ 7 + reg ≡ n → w * 4 ^ 7 + reg % 2 ^ 12 * 4 ≡ n * 4
+shifted v w reg n h k = omega arith
 
-narrow : (reg : ℕ) → reg % 2 ^ 52 * 4 < 2 ^ 54
-narrow reg = omega arith
-
-pub again : (a i : ℕ) (s r : Digits) → Going a i s → i < 53 → NextDigits s r → Going a (i + 1) r
-again a i s r g l t =
+pub again : (A i reg : ℕ) (s r : Digits) → Going A i reg s → i < 7 → DigitsOf (taken s * 4 + reg / 2 ^ 12) r → Going A (i + 1) (reg % 2 ^ 12 * 4) r
+again A i reg s r g l d =
     record {
       count = omega arith;
-      small = subst (λ (x : ℕ). r .q < x) (sym (ap (λ (n : ℕ). 2 ^ n) (add-one i) ∙ pow-suc 2 i)) (twice (s .q) (r .q) (2 ^ i) (g .small) (t .grown));
-      rest = t .rest;
-      wide = subst (λ (x : ℕ). x < 2 ^ 54) (sym (t .reg)) (narrow (s .reg));
+      rest = d .rest;
+      wide = omega arith;
       value =
-          ap (λ (x : ℕ). (r .q * r .q + r .rem) * 4 ^ 27 + x) (t .reg)
-          ∙ taken (s .q * s .q + s .rem) (r .q * r .q + r .rem) (s .reg) (a * 4 ^ i) (t .value) (g .value)
-          ∙ mul-assoc a (4 ^ i) 4
-          ∙ ap (λ (x : ℕ). a * x) (sym (ap (λ (n : ℕ). 4 ^ n) (add-one i) ∙ pow-suc 4 i));
+          shifted (taken s) (taken r) reg (A * 4 ^ i) (d .value) (g .value)
+          ∙ mul-assoc A (4 ^ i) 4
+          ∙ ap (λ (x : ℕ). A * x) (sym (ap (λ (n : ℕ). 4 ^ n) (add-one i) ∙ pow-suc 4 i));
     }
 
-whole : (v1 reg a : ℕ) → v1 * 4 ^ 27 + reg ≡ a * 4 ^ 53 → reg < 2 ^ 54 → a * 4 ^ 26 ≡ v1
-whole v1 reg a h k = omega arith
-
-at-end : (i : ℕ) → i ≤ 53 → 53 ≤ i → i ≡ 53
+at-end : (i : ℕ) → i ≤ 7 → 7 ≤ i → i ≡ 7
 at-end i h k = omega arith
 
-pub ended : (a i : ℕ) (s : Digits) → Going a i s → 53 ≤ i → a * 4 ^ 26 ≡ s .q * s .q + s .rem
-ended a i s g l = whole (s .q * s .q + s .rem) (s .reg) a (g .value ∙ ap (λ (n : ℕ). a * 4 ^ n) (at-end i (g .count) l)) (g .wide)
+whole : (v reg A : ℕ) → v * 4 ^ 7 + reg ≡ A * 4 ^ 7 → reg < 4 ^ 7 → v ≡ A
+whole v reg A h k = omega arith
 
-pub floored : (M q rem : ℕ) → M ≡ q * q + rem → rem ≤ 2 * q → Floor M q
-floored M q rem h k = let s = square-one q in record { low = omega arith; high = omega arith }
+pub looped : (A i reg : ℕ) (s : Digits) → Going A i reg s → 7 ≤ i → DigitsOf A s
+looped A i reg s g l = record { value = whole (taken s) reg A (g .value ∙ ap (λ (n : ℕ). A * 4 ^ n) (at-end i (g .count) l)) (g .wide); rest = g .rest }
 
+-- ---- the steps that double the digits
+pub longer : (M N unit next : ℕ) (s r : Digits) → DigitsOf M s → DigitsOf (taken s * (unit * unit) + next) r → M * (unit * unit) + next ≡ N → DigitsOf N r
+longer M N unit next s r d e h = record { value = e .value ∙ ap (λ (x : ℕ). x * (unit * unit) + next) (d .value) ∙ h; rest = e .rest }
+
+-- a root from k on has enough digits for a unit of twice k
+pub ready-more : (M : ℕ) (s : Digits) (k unit high low : ℕ) → DigitsOf M s → M < 2 ^ 54 → k * k ≤ M → unit ≤ 2 * k → unit ≤ 2 ^ 26 → high < unit → low < unit → ReadyMore s unit high low
+ready-more M s k unit high low d m h u w x y =
+    let a = at-least M s d k h in
+    record { small = below M s d (2 ^ 27) m; rest = d .rest; narrow = w; enough = omega arith; first = x; second = y }
+
+-- ---- the nearest
 bounded : (a : ℕ) → a < 2 ^ 54 → a * 4 ^ 26 < 4 ^ 53
 bounded a h = omega arith
-
-more : (M q rem : ℕ) → M ≡ q * q + rem → q < rem → q * q + q < M
-more M q rem h k = omega arith
-
-less : (M q rem : ℕ) → M ≡ q * q + rem → rem ≤ q → M ≤ q * q + q
-less M q rem h k = omega arith
 
 pick-up : (M q : ℕ) → q * q + q < M → closer q M ≡ q + 1
 pick-up M q h = ap (λ (b : Bool). cond b (q + 1) q) (lt-ltb (q * q + q) M h)
@@ -72,13 +82,15 @@ pick-up M q h = ap (λ (b : Bool). cond b (q + 1) q) (lt-ltb (q * q + q) M h)
 pick-down : (M q : ℕ) → M ≤ q * q + q → closer q M ≡ q
 pick-down M q h = ap (λ (b : Bool). cond b (q + 1) q) (le-ltb (q * q + q) M h)
 
-module _ (a i : ℕ) (s : Digits) (g : Going a i s) (l : 53 ≤ i) (A : a < 2 ^ 54) where
+module _ (a : ℕ) (s : Digits) (d : DigitsOf (a * 4 ^ 26) s) (A : a < 2 ^ 54) where
+  nearest : near (a * 4 ^ 26) ≡ closer (s .q) (a * 4 ^ 26)
+  nearest = near-is (a * 4 ^ 26) (s .q) (bounded a A) (floored (a * 4 ^ 26) s d)
+
+  pub root-small : s .q < 2 ^ 53
+  root-small = below (a * 4 ^ 26) s d (2 ^ 53) (bounded a A)
+
   pub up : s .q < s .rem → s .q + 1 ≡ near (a * 4 ^ 26)
-  up h =
-      let e = ended a i s g l in
-      sym (near-is (a * 4 ^ 26) (s .q) (bounded a A) (floored (a * 4 ^ 26) (s .q) (s .rem) e (g .rest)) ∙ pick-up (a * 4 ^ 26) (s .q) (more (a * 4 ^ 26) (s .q) (s .rem) e h))
+  up h = let v = d .value in sym (nearest ∙ pick-up (a * 4 ^ 26) (s .q) (omega arith))
 
   pub down : s .rem ≤ s .q → s .q ≡ near (a * 4 ^ 26)
-  down h =
-      let e = ended a i s g l in
-      sym (near-is (a * 4 ^ 26) (s .q) (bounded a A) (floored (a * 4 ^ 26) (s .q) (s .rem) e (g .rest)) ∙ pick-down (a * 4 ^ 26) (s .q) (less (a * 4 ^ 26) (s .q) (s .rem) e h))
+  down h = let v = d .value in sym (nearest ∙ pick-down (a * 4 ^ 26) (s .q) (omega arith))

@@ -1,4 +1,4 @@
--- The square root: how it is found (Isqrt, Bits, Root), what one digit asks and gives (Step), and what 01 says of it (Rule).
+-- The square root: how it is found (Isqrt, Bits, Root), what taking digits asks and gives (Step), and what 01 says of it (Rule).
 pub mod Isqrt
 pub mod Bits
 pub mod Root

@@ -1,15 +1,27 @@
--- What one binary digit of the root asks of the numbers at hand, and what it makes of them. Assumes nothing: these are definitions.
+-- What taking more digits asks of the root so far, and what it makes of it. Assumes nothing: these are definitions.
 use mathlib.Core.Path.{_≡_}
-use Prim.Native.Nat.{_+_, _*_, _/_, _%_, _^_, _≤_, _<_}
+use Prim.Native.Nat.{ℕ, _+_, _*_, _^_, _≤_, _<_}
 use Rattle.root.specs.declared.Digits.{Digits}
 
-pub record ReadyDigits (s : Digits) : Type 0 where
+-- the part of the argument that was taken so far
+abbrev pub taken : Digits → ℕ
+taken s = s .q * s .q + s .rem
+
+-- q is the largest with q * q ≤ M, and rem is what is left of M
+pub record DigitsOf (M : ℕ) (s : Digits) : Type 0 where
+  pub value : taken s ≡ M
+  pub rest : s .rem ≤ 2 * s .q
+
+pub record ReadyOne (s : Digits) (two : ℕ) : Type 0 where
   pub small : s .q < 2 ^ 53
   pub rest : s .rem ≤ 2 * s .q
-  pub wide : s .reg < 2 ^ 54
+  pub next : two < 4
 
-pub record NextDigits (s r : Digits) : Type 0 where
-  pub value : r .q * r .q + r .rem ≡ 4 * (s .q * s .q + s .rem) + s .reg / 2 ^ 52
-  pub rest : r .rem ≤ 2 * r .q
-  pub reg : r .reg ≡ s .reg % 2 ^ 52 * 4
-  pub grown : r .q ≤ 2 * s .q + 1
+-- the root so far has as many digits as are asked for
+pub record ReadyMore (s : Digits) (unit high low : ℕ) : Type 0 where
+  pub small : s .q < 2 ^ 27
+  pub rest : s .rem ≤ 2 * s .q
+  pub narrow : unit ≤ 2 ^ 26
+  pub enough : unit ≤ 2 * s .q
+  pub first : high < unit
+  pub second : low < unit

@@ -1,57 +1,74 @@
-// The correctly rounded square root of an f64, found digit by digit over whole numbers.
+// The correctly rounded square root of an f64, found over whole numbers.
 ghost use mathlib.Core.Path.{_≡_};
 ghost use Prim.Native.Nat.{_+_, _*_, _/_, _%_, _^_, _≤_, _<_};
 ghost use Rattle.root.specs.Isqrt.{near};
-ghost use Rattle.root.specs.Step.{ReadyDigits, NextDigits};
+ghost use Rattle.root.specs.Step.{taken, ReadyOne, ReadyMore, DigitsOf};
 ghost use Rattle.root.specs.Bits.{bitsOfRoot, rootBits};
 ghost use Rattle.root.specs.Root.{rootOf};
 ghost use Rattle.root.specs.Rule.{RootRule};
 
-// The root so far, what is left of the digits that were taken, and the digits to come, 54 of them at a time.
+// The root so far, and what is left of the part of the argument that was taken.
 struct Digits {
     pub q: u64,
     pub rem: u64,
-    pub reg: u64,
 }
 
-// One binary digit of the root.
-fn step(s: Digits) -> Digits
-    requires { ⌜ ReadyDigits s ⌝ }
-    ensures { λ r. ⌜ NextDigits s r ⌝ }
+// One binary digit more, by the next two of the argument. It is a number: a branch could go either way, and processors would often guess it wrong.
+fn step(s: Digits, two: u64) -> Digits
+    requires { ⌜ ReadyOne s two ⌝ }
+    ensures { λ r. ⌜ DigitsOf (taken s * 4 + two) r ⌝ }
 {
-    let next = s.rem * 4 + s.reg / 4503599627370496;
-    let shifted = s.reg % 4503599627370496 * 4;
+    let next = s.rem * 4 + two;
     let one = s.q * 4 + 1;
-    if one <= next {
+    let digit: u64 = if one <= next { 1 } else { 0 };
+    Digits {
+        q: s.q * 2 + digit,
+        rem: next - digit * one,
+    }
+}
+
+// As many digits more as the unit has, by twice as many of the argument, in two halves. The division by twice the root gives them, or one too much.
+fn more(s: Digits, unit: u64, high: u64, low: u64) -> Digits
+    requires { ⌜ ReadyMore s unit high low ⌝ }
+    ensures { λ r. ⌜ DigitsOf (taken s * (unit * unit) + (high * unit + low)) r ⌝ }
+{
+    let next = s.rem * unit + high;
+    let twice = s.q * 2;
+    let digits = next / twice;
+    let left = next % twice * unit + low;
+    let square = digits * digits;
+    let q = s.q * unit + digits;
+    if left < square {
+        // the remainder is negative: one step back
         Digits {
-            q: s.q * 2 + 1,
-            rem: next - one,
-            reg: shifted,
+            q: q - 1,
+            rem: left + (q * 2 - 1) - square,
         }
     } else {
         Digits {
-            q: s.q * 2,
-            rem: next,
-            reg: shifted,
+            q: q,
+            rem: left - square,
         }
     }
 }
 
-// The whole number nearest to the square root of a * 4 ^ 26.
+// The whole number nearest to the square root of a * 4 ^ 26, which has a's 54 digits and 52 zeros. By the first 14 of them 7 digits of the root are found,
+// one by one; by the next 14, the last 26 and the zeros they become 14, 27 and 53.
 fn near_root(a: u64) -> u64
     requires { ⌜ (2 ^ 52 ≤ a) × (a < 2 ^ 54) ⌝ }
     ensures { λ r. ⌜ r ≡ near (a * 4 ^ 26) ⌝ }
 {
-    let mut s = Digits {
-        q: 0,
-        rem: 0,
-        reg: a,
-    };
+    let mut s = Digits { q: 0, rem: 0 };
+    let mut reg = a / 1099511627776;
     let mut i = 0usize;
-    while i < 53 {
-        s = step(s);
+    while i < 7 {
+        s = step(s, reg / 4096);
+        reg = reg % 4096 * 4;
         i += 1;
     }
+    s = more(s, 128, a / 8589934592 % 128, a / 67108864 % 128);
+    s = more(s, 8192, a / 8192 % 8192, a % 8192);
+    s = more(s, 67108864, 0, 0);
     if s.q < s.rem { s.q + 1 } else { s.q }
 }
 

@@ -3,9 +3,9 @@ use super::starts::cells;
 use super::values::{bound, float};
 use super::{Outcome, Trial};
 use crate::calls;
+use crate::square_roots::right;
 use crate::starts::one_of;
 use oracle::model::grid::box_in_range;
-use oracle::model::plan::root;
 use oracle::model::run::counts_in_range;
 use oracle::model::state::INPUTS;
 use oracle::tables::needed;
@@ -48,12 +48,8 @@ impl Trial<'_> {
         let r = &mut self.random;
         let d = float(r, 2., &[]);
         let d = if r.once_in(2) { d.abs() } else { d };
-        let expected = root(d).map_or_else(|number| (number, 0.), |found| (0, found));
         let told = calls::square_root(self.lent, d);
         self.tally.count("square root", told.0);
-        if (told.0, told.1.to_bits()) != (expected.0, expected.1.to_bits()) {
-            return Err(format!("square root of {d:?}: {told:?}, not {expected:?}"));
-        }
-        Ok(())
+        right(d, told)
     }
 }
