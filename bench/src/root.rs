@@ -1,4 +1,4 @@
-// How long one square root takes, by the kind of its argument: the compiled call's, and the processor's.
+// How long one square root takes, by the kind of its argument: the compiled call's, and the processor's. The roots must be equal.
 use crate::{timed, ROUNDS};
 use oracle::random::Random;
 use oracle::report::{head, row};
@@ -21,6 +21,8 @@ pub fn table() {
     head(&["Arguments", "Port, ns a root", "Processor, ns a root"]);
     for kind in &PLAIN {
         let arguments: Vec<f64> = (0..ARGUMENTS).map(|_| (kind.draw)(&mut random)).collect();
+        let same = |&d: &f64| fesolopi::square_root(d).map(f64::to_bits) == Some(d.sqrt().to_bits());
+        assert!(arguments.iter().all(same), "{}: the roots differ", kind.name);
         let port = nanoseconds(&arguments, fesolopi::square_root);
         let processor = nanoseconds(&arguments, f64::sqrt);
         row(&[kind.name, &format!("{port:.1}"), &format!("{processor:.1}")]);
