@@ -8,7 +8,7 @@ pub struct Kind {
 }
 
 /// The kinds that the benchmark tells apart.
-pub const PLAIN: [Kind; 4] = [
+pub static PLAIN: [Kind; 4] = [
     Kind { name: "random", draw: positive },
     Kind { name: "tiny", draw: tiny },
     Kind { name: "subnormal", draw: subnormal },
@@ -16,12 +16,16 @@ pub const PLAIN: [Kind; 4] = [
 ];
 
 /// Where a rounding, or a refusal, is decided.
-pub const HARD: [Kind; 4] = [
+static HARD: [Kind; 4] = [
     Kind { name: "beside a perfect square", draw: |r| beside(square(r), r) },
     Kind { name: "beside the middle of two roots", draw: |r| beside(middle(r), r) },
     Kind { name: "from 0 to 2^24, as collisions ask", draw: asked },
     Kind { name: "any bits, negative and NaN too", draw: |r| f64::from_bits(r.bits()) },
 ];
+
+pub fn kinds() -> impl Iterator<Item = &'static Kind> {
+    PLAIN.iter().chain(&HARD)
+}
 
 /// Where the bits of the normal floats begin, and those of infinity.
 const NORMAL: u64 = 1 << 52;

@@ -4,7 +4,7 @@ use crate::lent::Lent;
 use oracle::model::plan::root;
 use oracle::random::Random;
 use oracle::report::{head, parted, row};
-use oracle::root_arguments::{Kind, HARD, PLAIN};
+use oracle::root_arguments::kinds;
 use std::time::{Duration, Instant};
 
 /// So many arguments of one kind in a row.
@@ -26,12 +26,11 @@ pub fn right(d: f64, told: (u64, f64)) -> Result<(), String> {
 /// Compares for so many seconds; says if nothing differed.
 pub fn square_roots(seconds: u64, seed: u64) -> bool {
     let (mut random, mut lent) = (Random(seed), Lent::default());
-    let kinds: Vec<&Kind> = PLAIN.iter().chain(&HARD).collect();
-    let mut counts = vec![0; kinds.len()];
+    let mut counts: Vec<_> = kinds().map(|kind| (kind, 0)).collect();
     let mut differ = 0;
     let end = Instant::now() + Duration::from_secs(seconds);
     while Instant::now() < end && differ < ENOUGH {
-        for (kind, count) in kinds.iter().zip(&mut counts) {
+        for (kind, count) in &mut counts {
             for _ in 0..BLOCK {
                 let d = (kind.draw)(&mut random);
                 if let Err(what) = right(d, calls::square_root(&mut lent, d)) {
@@ -44,10 +43,10 @@ pub fn square_roots(seconds: u64, seed: u64) -> bool {
     }
     println!("seed {seed}, {seconds} seconds");
     head(&["Arguments", "How many"]);
-    for (kind, &count) in kinds.iter().zip(&counts) {
-        row(&[kind.name, &parted(count)]);
+    for (kind, count) in &counts {
+        row(&[kind.name, &parted(*count)]);
     }
-    row(&["all", &parted(counts.iter().sum())]);
+    row(&["all", &parted(counts.iter().map(|(_, count)| count).sum())]);
     println!("differences: {differ}");
     differ == 0
 }

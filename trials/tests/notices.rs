@@ -3,7 +3,7 @@
 use oracle::known::{grain, meeting};
 use oracle::model::state::Inputs;
 use oracle::random::Random;
-use oracle::root_arguments::{HARD, PLAIN};
+use oracle::root_arguments::kinds;
 use oracle::tables::Tables;
 use oracle::text::Start;
 use trials::calls::{square_root, Report, SPENT};
@@ -119,7 +119,7 @@ fn hostile_calls_notice_one_bit() {
 #[test]
 fn every_bit_of_a_root_is_compared() {
     let (mut lent, mut random) = (Lent::default(), Random(3));
-    for kind in PLAIN.iter().chain(&HARD) {
+    for kind in kinds() {
         let d = (kind.draw)(&mut random);
         let (number, root) = square_root(&mut lent, d);
         right(d, (number, root)).expect("the root is right");

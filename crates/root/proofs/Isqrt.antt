@@ -2,7 +2,7 @@
 -- Assumes nothing.
 use mathlib.Core.Path.{_≡_, sym, ap, _∙_, subst}
 use Prim.Native.Nat.{ℕ, zero, suc, _+_, _-_, _*_, _/_, _^_, _≤_, _<_}
-use native.Mathlib.Nat.{le-antisymm, lt-of-le-of-lt, lt-of-not-le, not-le-of-lt, mul-le-mul, mul-add, add-mul, mul-assoc, mul-left-comm, pow-suc, div-lt-iff-lt-mul}
+use native.Mathlib.Nat.{le-antisymm, lt-of-le-of-lt, lt-of-not-le, not-le-of-lt, mul-le-mul, mul-add, add-mul, mul-comm, mul-assoc, mul-left-comm, pow-suc, div-lt-iff-lt-mul}
 use native.Mathlib.Nat as N
 use native.Mathlib.Omega.{arith}
 use mathlib.Core.Bool.{Bool, true, false, not, cond}
@@ -14,11 +14,16 @@ use Rattle.root.specs.Rule.{Nearest}
 pub square-double : (q : ℕ) → 2 * q * (2 * q) ≡ 4 * (q * q)
 square-double q = mul-assoc 2 q (2 * q) ∙ ap (λ (x : ℕ). 2 * x) (mul-left-comm q 2 q) ∙ sym (mul-assoc 2 2 (q * q))
 
-pub square-one : (a : ℕ) → (a + 1) * (a + 1) ≡ a * a + 2 * a + 1
-square-one a =
-    let p : (a + 1) * (a + 1) ≡ a * (a + 1) + 1 * (a + 1) = add-mul a 1 (a + 1) in
-    let q : a * (a + 1) ≡ a * a + a * 1 = mul-add a a 1 in
+pub square-sum : (x y : ℕ) → (x + y) * (x + y) ≡ x * x + 2 * (x * y) + y * y
+square-sum x y =
+    let a = add-mul x y (x + y) in
+    let b = mul-add x x y in
+    let c = mul-add y x y in
+    let d = mul-comm y x in
     omega arith
+
+pub square-one : (a : ℕ) → (a + 1) * (a + 1) ≡ a * a + 2 * a + 1
+square-one a = let p = square-sum a 1 in omega arith
 
 pub square-odd : (q : ℕ) → (2 * q + 1) * (2 * q + 1) ≡ 4 * (q * q) + 4 * q + 1
 square-odd q = let p = square-one (2 * q) in let r = square-double q in omega arith

@@ -1,12 +1,12 @@
 -- More digits of a root, and what is left of the argument: one digit by a comparison, or as many as there are by a division. Assumes nothing.
 use mathlib.Core.Logic.{_⊎_, inl, inr}
 use mathlib.Core.Path.{_≡_, ap, _∙_}
-use Prim.Native.Nat.{ℕ, zero, suc, _+_, _-_, _*_, _/_, _%_, _^_, _≤_, _<_}
-use native.Mathlib.Nat.{le-trans, le-of-eq, mul-pos, mul-le-mul, mul-le-mul-right, mul-add, add-mul, mul-comm, mul-assoc, mul-right-comm, mul-mul-mul-comm, div-lt-iff-lt-mul, div-add-mod, mod-lt}
+use Prim.Native.Nat.{ℕ, _+_, _-_, _*_, _/_, _%_, _^_, _≤_, _<_}
+use native.Mathlib.Nat.{le-trans, le-of-eq, mul-pos, mul-le-mul, mul-le-mul-right, add-mul, mul-comm, mul-assoc, mul-right-comm, mul-mul-mul-comm, div-lt-iff-lt-mul, div-add-mod, mod-lt}
 use native.Mathlib.Omega.{arith}
 use Rattle.root.specs.declared.Digits.{Digits}
 use Rattle.root.specs.Step.{taken, DigitsOf, ReadyMore}
-use Rattle.root.proofs.Isqrt.{square-one, square-double, square-odd}
+use Rattle.root.proofs.Isqrt.{square-sum, square-one, square-double, square-odd, root-lt}
 
 -- ---- one digit: d is 1 where the part that is left reaches 4 * q + 1
 abbrev pub Picked : ℕ → ℕ → ℕ → Type 0
@@ -36,14 +36,6 @@ one-more q rem two d rest next (inr w) =
     record { value = omega arith; rest = omega arith }
 
 -- ---- as many as there are
-square-sum : (x y : ℕ) → (x + y) * (x + y) ≡ x * x + 2 * (x * y) + y * y
-square-sum x y =
-    let a = add-mul x y (x + y) in
-    let b = mul-add x x y in
-    let c = mul-add y x y in
-    let d = mul-comm y x in
-    omega arith
-
 -- with Q and U, the parts of a division by 2 * S, (S * B + Q)² is beside the number whose root is asked
 beside : (S R B h l Q U : ℕ) → S * 2 * Q + U ≡ R * B + h → (S * B + Q) * (S * B + Q) + (U * B + l) ≡ (S * S + R) * (B * B) + (h * B + l) + Q * Q
 beside S R B h l Q U e =
@@ -69,19 +61,14 @@ back P L K M e l k p =
 stays : (P L K M : ℕ) → P * P + L ≡ M + K → K ≤ L → L ≤ 2 * P → DigitsOf M (record { q = P; rem = L - K })
 stays P L K M e k l = record { value = omega arith; rest = omega arith }
 
--- a number whose square is above another is not 0
-above-zero : (n k : ℕ) → n < k * k → 0 < k
-above-zero n zero h = absurd (omega (arith, h))
-above-zero n (suc k) h = omega arith
-
 -- how large the numbers on the way are
 pub record Sizes (s : Digits) (unit N Q L : ℕ) : Type 0 where
   pub divisor : 0 < s .q * 2
-  pub next : N < 2 ^ 55
+  pub next : N < 2 ^ 57
   pub digits : Q ≤ unit
   pub square : Q * Q ≤ s .q * unit * 2
   pub left : L < s .q * unit * 2
-  pub root : s .q * unit ≤ 2 ^ 53
+  pub root : s .q * unit ≤ 2 ^ 55
   pub positive : 0 < s .q * unit
 
 module _ (s : Digits) (unit high low : ℕ) (r : ReadyMore s unit high low) where
@@ -130,16 +117,17 @@ module _ (s : Digits) (unit high low : ℕ) (r : ReadyMore s unit high low) wher
   sizes =
       let rem : s .rem ≤ 2 ^ 28 = let a = r .rest in let b = r .small in omega arith in
       let root : s .q ≤ 2 ^ 27 = let a = r .small in omega arith in
+      let narrow : unit ≤ 2 ^ 28 = let a = r .enough in let b = r .small in omega arith in
       let few : digits ≤ twice = let a = r .enough in let b = digits-within in omega arith in
       let some : 0 < s .q = let a = divisor in omega arith in
       let unit-some : 0 < unit = let a = r .first in omega arith in
       record {
         divisor = divisor;
-        next = let a = mul-le-mul rem (r .narrow) in let b = r .first in let c = r .narrow in omega arith;
+        next = let a = mul-le-mul rem narrow in let b = r .first in omega arith;
         digits = digits-within;
         square = le-trans (mul-le-mul few digits-within) (le-of-eq doubled);
         left = left-within;
-        root = mul-le-mul root (r .narrow);
+        root = mul-le-mul root narrow;
         positive = mul-pos some unit-some;
       }
 
@@ -148,7 +136,7 @@ module _ (s : Digits) (unit high low : ℕ) (r : ReadyMore s unit high low) wher
   beside-all = beside (s .q) (s .rem) unit high low digits (next % twice) (div-add-mod next twice)
 
   pub enough-left : left < digits * digits → digits * digits ≤ left + (q * 2 - 1)
-  enough-left h = let z = sizes in let a = above-zero left digits h in omega arith
+  enough-left h = let z = sizes in let a = root-lt 0 digits (omega arith) in omega arith
 
   pub step-back : left < digits * digits → DigitsOf (taken s * (unit * unit) + (high * unit + low)) (record { q = q - 1; rem = left + (q * 2 - 1) - digits * digits })
   step-back h = let z = sizes in back q left (digits * digits) (taken s * (unit * unit) + (high * unit + low)) beside-all h (enough-left h) (omega arith)

@@ -63,14 +63,14 @@ pub looped : (A i reg : ℕ) (s : Digits) → Going A i reg s → 7 ≤ i → Di
 looped A i reg s g l = record { value = whole (taken s) reg A (g .value ∙ ap (λ (n : ℕ). A * 4 ^ n) (at-end i (g .count) l)) (g .wide); rest = g .rest }
 
 -- ---- the steps that double the digits
-pub longer : (M N unit next : ℕ) (s r : Digits) → DigitsOf M s → DigitsOf (taken s * (unit * unit) + next) r → M * (unit * unit) + next ≡ N → DigitsOf N r
-longer M N unit next s r d e h = record { value = e .value ∙ ap (λ (x : ℕ). x * (unit * unit) + next) (d .value) ∙ h; rest = e .rest }
+pub goes-on : (M N unit next : ℕ) (s r : Digits) → DigitsOf M s → DigitsOf (taken s * (unit * unit) + next) r → M * (unit * unit) + next ≡ N → DigitsOf N r
+goes-on M N unit next s r d e h = record { value = e .value ∙ ap (λ (x : ℕ). x * (unit * unit) + next) (d .value) ∙ h; rest = e .rest }
 
 -- a root from k on has enough digits for a unit of twice k
-pub ready-more : (M : ℕ) (s : Digits) (k unit high low : ℕ) → DigitsOf M s → M < 2 ^ 54 → k * k ≤ M → unit ≤ 2 * k → unit ≤ 2 ^ 26 → high < unit → low < unit → ReadyMore s unit high low
-ready-more M s k unit high low d m h u w x y =
+pub ready-more : (M : ℕ) (s : Digits) (k unit high low : ℕ) → DigitsOf M s → M < 2 ^ 54 → k * k ≤ M → unit ≤ 2 * k → high < unit → low < unit → ReadyMore s unit high low
+ready-more M s k unit high low d m h u x y =
     let a = at-least M s d k h in
-    record { small = below M s d (2 ^ 27) m; rest = d .rest; narrow = w; enough = omega arith; first = x; second = y }
+    record { small = below M s d (2 ^ 27) m; rest = d .rest; enough = omega arith; first = x; second = y }
 
 -- ---- the nearest
 bounded : (a : ℕ) → a < 2 ^ 54 → a * 4 ^ 26 < 4 ^ 53

@@ -21,7 +21,6 @@ pub record ReadyOne (s : Digits) (two : ℕ) : Type 0 where
 pub record ReadyMore (s : Digits) (unit high low : ℕ) : Type 0 where
   pub small : s .q < 2 ^ 27
   pub rest : s .rem ≤ 2 * s .q
-  pub narrow : unit ≤ 2 ^ 26
   pub enough : unit ≤ 2 * s .q
   pub first : high < unit
   pub second : low < unit
