@@ -37,7 +37,7 @@ fn time_of(d: f64, a: f64, b: f64) -> Contact
 fn reach(p: Particle, q: Particle) -> f64
     ensures { λ r. ⌜ r ≡ collision.reach p q ⌝ }
 {
-    p.radius() + q.radius()
+    p.rad + q.rad
 }
 
 // The least a that gives an event: f64::EPSILON.

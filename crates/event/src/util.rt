@@ -32,7 +32,7 @@ impl Course {
             length: domain.lengths.along(dim),
             pos: p.pos.along(dim),
             vel: p.vel.along(dim),
-            rad: p.radius(),
+            rad: p.rad,
             cell: cell.along(dim),
         }
     }

@@ -8,12 +8,12 @@ listsHeadWide = 6
 abbrev pub grainsHeadWide : ℕ
 grainsHeadWide = 3
 
--- ---- a grain: position, velocity, time, value; and what it starts with, all but the time
+-- ---- a grain: position, velocity, time, value, radius; and what it starts with, all but the time
 abbrev pub grainWide : ℕ
-grainWide = 6
+grainWide = 7
 
 abbrev pub inputWide : ℕ
-inputWide = 5
+inputWide = 6
 
 -- ---- a row begins with its count, and its places follow
 abbrev pub countAt : ℕ

@@ -9,9 +9,9 @@ pub const LISTS_HEAD: usize = 6;
 pub const GRAINS_HEAD: usize = 3;
 
 // A grain's floats, and those that it starts with.
-pub const GRAIN: usize = 6;
+pub const GRAIN: usize = 7;
 
-pub const INPUT: usize = 5;
+pub const INPUT: usize = 6;
 
 // A row begins with its count, and its places follow.
 pub const COUNT: usize = 0;

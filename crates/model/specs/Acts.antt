@@ -16,7 +16,7 @@ use Rattle.model.specs.State.{Row, row, none, State, home, listed, queue
 
 -- storing a grain's new numbers: 5
 unfoldable pub fineGrain : Particle → Bool
-fineGrain p = fineV (p .pos) && (fineV (p .vel) && (finite (p .time) && finite (p .val)))
+fineGrain p = fineV (p .pos) && (fineV (p .vel) && (finite (p .time) && (finite (p .val) && finite (p .rad))))
 
 unfoldable pub store : ℕ → Particle → State → Out State
 store g p s = cond (fineGrain p) (out 0 (withGrains (set (s .grains) g p) s)) (out 5 s)

@@ -17,13 +17,13 @@ use Rattle.model.specs.declared.Contact.{Contact}
 use Rattle.model.specs.declared.Contact.the-variants as contact
 use Rattle.model.specs.declared.Plan.{Plan}
 use Rattle.model.specs.declared.Plan.the-variants.{Nothing, Refused}
-use Rattle.model.specs.Constants.{restitution, radiusOf, leastA, meanFactor, centreFactor, gravitySize, neutralVal}
+use Rattle.model.specs.Constants.{restitution, leastA, meanFactor, centreFactor, gravitySize, neutralVal}
 use Rattle.model.specs.Stepping.{newPos, due}
 use Rattle.model.specs.Periodic.{apart}
 
--- r + r
+-- r + r: the two radii
 abbrev pub reach : Particle → Particle → Float
-reach p q = add binary64 (radiusOf p) (radiusOf q)
+reach p q = add binary64 (p .rad) (q .rad)
 
 -- a = dvel·dvel, b = dvel·dpos, c = dpos·dpos - (r + r)², d = b² - a·c; rr is r + r
 abbrev pub aOf : MyVec → Float

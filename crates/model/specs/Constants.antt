@@ -1,17 +1,19 @@
--- The constants of 01, each by its role and once: the rules name the role. What belongs to a grain is asked of the grain, what belongs to a wall of the wall.
+-- The constants of 01, each by its role and once: the rules name the role. What belongs to a wall is asked of the wall.
 -- Assumes nothing: these are definitions.
 use Prim.Native.Nat.{ℕ}
 use mathlib.Core.Path.{_≡_, refl}
 use mathlib.Core.Bool.{Bool, false, cond}
 use lib.IntN.{pos, negsuc}
 use lib.Ieee.{Float, fin, binary64, ofBits, round}
-use Rattle.order.specs.Numbers.{fzero, half, one, three, nine, fortyeight}
+use Rattle.order.specs.Numbers.{fzero, oneQuarter, half, one, three, nine, fortyeight}
 use Rattle.model.specs.declared.Domain.{Domain}
-use Rattle.model.specs.declared.Particle.{Particle}
 
--- ---- "radius 0.5, cell size 3 and restitution 0.99 are constants that belong to their types"
-abbrev pub radius : Float
-radius = half
+-- ---- "constants that belong to their types": cell size 3 and restitution 0.99; and in place of a radius 0.5 the least and the greatest that a grain may bring (02, T-04), 0.25 and 0.5
+abbrev pub leastRadius : Float
+leastRadius = oneQuarter
+
+abbrev pub greatestRadius : Float
+greatestRadius = half
 
 abbrev pub cellSize : Float
 cellSize = three
@@ -23,10 +25,6 @@ restitution = ofBits binary64 0x3fef_ae14_7ae1_47ae
 restitution-is : restitution ≡ round binary64 false 99 100
 unfolding ofBits round
 restitution-is = refl
-
--- a grain's radius, whichever grain it is
-abbrev pub radiusOf : Particle → Float
-radiusOf p = radius
 
 -- ---- ranges: a box length, cells in a direction, the sync rate, a start velocity's component, a value
 abbrev pub shortest : Float

@@ -13,7 +13,7 @@ use Rattle.model.specs.declared.Place.{Place}
 use Rattle.model.specs.declared.Event.{Event}
 use Rattle.model.specs.declared.Event.the-variants.{InterParticleCollision, MoveToNeighbour, MoveOutOfCell, WallReflection, Synchronisation}
 use Rattle.model.specs.Grid.{cells}
-use Rattle.model.specs.Stepping.{grainOf, stepped, landed, atZero}
+use Rattle.model.specs.Stepping.{stepped, landed, renewed, atZero}
 use Rattle.model.specs.FromPToC.{cellsOfGrain}
 use Rattle.model.specs.Collision.{collision}
 use Rattle.model.specs.Moves.{toNeighbour, outOfCell}
@@ -82,10 +82,10 @@ unfoldable pub doSync : Float → State → Out State
 doSync rate s = then (each stepGrain (length (s .grains)) 0 s) (λ u. insert 0 (syncAt (add binary64 (s .clock) rate)) u)
 
 abbrev pub execution : Float → Event → State → Out State
-execution rate (InterParticleCollision p q x y v w k) s = doCollision p q (grainOf x v (s .clock) k) (grainOf y w (s .clock) k) s
+execution rate (InterParticleCollision p q x y v w k) s = doCollision p q (renewed x v (s .clock) k (grain s p)) (renewed y w (s .clock) k (grain s q)) s
 execution rate (MoveToNeighbour p x k) s = doNeighbour p x k s
 execution rate (MoveOutOfCell p x k) s = doOut p x k s
-execution rate (WallReflection p x v w) s = doWall p (grainOf x v (s .clock) w) s
+execution rate (WallReflection p x v w) s = doWall p (renewed x v (s .clock) w (grain s p)) s
 execution rate Synchronisation s = doSync rate s
 
 -- ---- a start

@@ -7,7 +7,6 @@ use lib.Ieee.{Float, binary64, add, sub, div, lt, toUnsigned, ofInt}
 use Rattle.order.specs.Numbers.{fzero, one, maxOf, minOf}
 use Rattle.model.specs.declared.Domain.{Domain}
 use Rattle.model.specs.declared.Particle.{Particle}
-use Rattle.model.specs.Constants.{radiusOf}
 use Rattle.model.specs.Grid.{lengthOf, across, cellAt}
 
 -- k numbers from i on, and the numbers from lo to below hi
@@ -46,4 +45,4 @@ cellsAt b is [] = []
 cellsAt b is (j ∷ js) = map (λ (i : ℕ). cellAt b i j) is ++ cellsAt b is js
 
 unfoldable pub cellsOfGrain : Domain → Particle → List ℕ
-cellsOfGrain b p = cellsAt b (reached (lengthOf 0 b) (across 0 b) (radiusOf p) (p .pos .x)) (reached (lengthOf 1 b) (across 1 b) (radiusOf p) (p .pos .y))
+cellsOfGrain b p = cellsAt b (reached (lengthOf 0 b) (across 0 b) (p .rad) (p .pos .x)) (reached (lengthOf 1 b) (across 1 b) (p .rad) (p .pos .y))

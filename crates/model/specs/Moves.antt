@@ -11,7 +11,6 @@ use Rattle.model.specs.declared.Event.{Event}
 use Rattle.model.specs.declared.Event.the-variants.{MoveToNeighbour, MoveOutOfCell}
 use Rattle.model.specs.declared.Plan.{Plan}
 use Rattle.model.specs.declared.Plan.the-variants.{Nothing}
-use Rattle.model.specs.Constants.{radiusOf}
 use Rattle.model.specs.Grid.{periodic, lengthOf, low, high, below, above, position, isLow, isHigh}
 use Rattle.model.specs.Stepping.{newPos, due}
 use Rattle.model.specs.Periodic.{corrected}
@@ -50,11 +49,11 @@ later t dt e = cond (le dt fzero) Nothing (due t dt e)
 
 unfoldable pub toNeighbour : ℕ → Domain → Float → ℕ → ℕ → Particle → Plan
 toNeighbour d b t c i p =
-    let dt = moveDt d b c (radiusOf p) p in
+    let dt = moveDt d b c (p .rad) p in
     cond (shut d b c p) Nothing (later t dt (MoveToNeighbour i (newPos b (p .pos) (p .vel) dt) (aside d b c p)))
 
 -- out of cell, rad's sign flips
 unfoldable pub outOfCell : ℕ → Domain → Float → ℕ → ℕ → Particle → Plan
 outOfCell d b t c i p =
-    let dt = moveDt d b c (neg (radiusOf p)) p in
+    let dt = moveDt d b c (neg (p .rad)) p in
     cond (shut d b c p) Nothing (later t dt (MoveOutOfCell i (newPos b (p .pos) (p .vel) dt) c))

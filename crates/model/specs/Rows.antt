@@ -16,7 +16,7 @@ use Rattle.model.specs.declared.Plan.{Plan}
 use Rattle.model.specs.declared.Plan.the-variants.{Due}
 use Rattle.model.specs.declared.Event.{Event}
 use Rattle.model.specs.declared.Event.the-variants.{InterParticleCollision, MoveToNeighbour, MoveOutOfCell, WallReflection, Synchronisation}
-use Rattle.model.specs.Stepping.{grainOf, newPos, landed, atZero}
+use Rattle.model.specs.Stepping.{newPos, landed, renewed, atZero}
 use Rattle.model.specs.Collision.{collision}
 use Rattle.model.specs.Moves.{toNeighbour, outOfCell}
 use Rattle.model.specs.Walls.{wall}
@@ -45,7 +45,7 @@ finder ToNeighbour = toNeighbour
 finder OutOfCell = outOfCell
 finder Wall = wall
 
--- ---- the acts. Storing a grain's new numbers is two: a move gives a place and a time and keeps velocity and value, a turn gives all four;
+-- ---- the acts. Storing a grain's new numbers is two: a move gives a place and a time and keeps velocity, value and radius, a turn gives all five;
 -- a try puts in what a rule found; then cancelling in one cell, an entry in both lists, a leaving
 pub data Act : Type 0 where
   moving : ℕ → MyVec → Float → Act
@@ -134,10 +134,10 @@ syncing t = trying 0 sync (Due (record { time = t; event = Synchronisation }))
 -- the five executions
 abbrev pub actsOf : Float → Event → State → Acts
 actsOf rate (InterParticleCollision p q x y v w k) s =
-    (only (turning p (grainOf x v (s .clock) k)) ⨟ only (turning q (grainOf y w (s .clock) k)) ⨟ forgets p ⨟ forgets q ⨟ reschedules p ⨟ reschedules q) s
+    (only (turning p (renewed x v (s .clock) k (grain s p))) ⨟ only (turning q (renewed y w (s .clock) k (grain s q))) ⨟ forgets p ⨟ forgets q ⨟ reschedules p ⨟ reschedules q) s
 actsOf rate (MoveToNeighbour p x k) s = (only (moving p x (s .clock)) ⨟ only (entering p k) ⨟ scheduling p k) s
 actsOf rate (MoveOutOfCell p x k) s = (only (moving p x (s .clock)) ⨟ only (cancelling p k) ⨟ only (leaving p k)) s
-actsOf rate (WallReflection p x v w) s = (only (turning p (grainOf x v (s .clock) w)) ⨟ forgets p ⨟ reschedules p) s
+actsOf rate (WallReflection p x v w) s = (only (turning p (renewed x v (s .clock) w (grain s p))) ⨟ forgets p ⨟ reschedules p) s
 actsOf rate Synchronisation s = (inTurn stepping (length (s .grains)) 0 ⨟ only (syncing (add binary64 (s .clock) rate))) s
 
 -- ---- the acts of a start, in 01's order

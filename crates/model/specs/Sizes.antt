@@ -8,7 +8,7 @@ use Rattle.order.specs.Numbers.{fzero}
 use Rattle.myvec.specs.Vec.{along}
 use Rattle.model.specs.declared.Domain.{Domain}
 use Rattle.model.specs.declared.Particle.{Particle}
-use Rattle.model.specs.Constants.{shortest, longest, finest, coarsest, radiusOf, fastest, leastVal, greatestVal}
+use Rattle.model.specs.Constants.{shortest, longest, finest, coarsest, leastRadius, greatestRadius, fastest, leastVal, greatestVal}
 use Rattle.model.specs.Grid.{periodic, lengthOf}
 
 abbrev pub within : Float → Float → Float → Bool
@@ -50,20 +50,20 @@ cellsOk n = leb fewestCells n && leb n mostCells
 abbrev pub rated : Float → Bool
 rated rate = within finest coarsest rate
 
--- start position: 0 to length where periodic; 0.5 to length - 0.5 (by the grain's radius) where wall-bounded
+-- start position: 0 to length where periodic; the grain's radius to length - radius where wall-bounded
 abbrev pub placeOk : ℕ → Domain → Particle → Bool
 placeOk d b p =
     let x = along d (p .pos) in
-    cond (periodic d b) (within fzero (lengthOf d b) x) (within (radiusOf p) (sub binary64 (lengthOf d b) (radiusOf p)) x)
+    cond (periodic d b) (within fzero (lengthOf d b) x) (within (p .rad) (sub binary64 (lengthOf d b) (p .rad)) x)
 
--- start velocity, each component: -1024 to 1024; value: 0 to 1
+-- start velocity, each component: -1024 to 1024; value: 0 to 1; radius: 0.25 to 0.5
 abbrev pub speedOk : Float → Bool
 speedOk v = within (neg fastest) fastest v
 
 abbrev pub grainOk : Domain → Particle → Bool
 grainOk b p =
     (placeOk 0 b p && placeOk 1 b p) &&
-    ((speedOk (p .vel .x) && speedOk (p .vel .y)) && within leastVal greatestVal (p .val))
+    ((speedOk (p .vel .x) && speedOk (p .vel .y)) && (within leastVal greatestVal (p .val) && within leastRadius greatestRadius (p .rad)))
 
 -- the lowest grain whose numbers are out of range, and how many there are if none is
 unfoldable pub firstBad : Domain → List Particle → ℕ

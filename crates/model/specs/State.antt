@@ -39,7 +39,7 @@ pub record State : Type 0 where
   pub sched : Scheduler
 
 abbrev pub zeroG : Particle
-zeroG = grainOf zeroV zeroV fzero fzero
+zeroG = grainOf zeroV zeroV fzero fzero fzero
 
 -- reading
 abbrev pub grain : State → ℕ → Particle

@@ -11,12 +11,16 @@ use Rattle.model.specs.declared.Plan.{Plan}
 use Rattle.model.specs.declared.Plan.the-variants.{Due}
 use Rattle.model.specs.Grid.{lengthOf}
 
-abbrev pub grainOf : MyVec → MyVec → Float → Float → Particle
-grainOf x v t w = record { pos = x; vel = v; time = t; val = w }
+abbrev pub grainOf : MyVec → MyVec → Float → Float → Float → Particle
+grainOf x v t w r = record { pos = x; vel = v; time = t; val = w; rad = r }
 
 -- a grain at another place and time: what else it has stays
 abbrev pub landed : MyVec → Float → Particle → Particle
-landed x t p = grainOf x (p .vel) t (p .val)
+landed x t p = grainOf x (p .vel) t (p .val) (p .rad)
+
+-- a grain to which an event gives place, velocity, time and value: its radius stays
+abbrev pub renewed : MyVec → MyVec → Float → Float → Particle → Particle
+renewed x v t w p = grainOf x v t w (p .rad)
 
 -- a grain as a start stores it, at time 0
 abbrev pub atZero : Particle → Particle

@@ -8,7 +8,7 @@ use Rattle.model.specs.declared.Particle.{Particle}
 use Rattle.model.specs.declared.Event.the-variants.{WallReflection}
 use Rattle.model.specs.declared.Plan.{Plan}
 use Rattle.model.specs.declared.Plan.the-variants.{Nothing}
-use Rattle.model.specs.Constants.{radiusOf, wallOf, wallFactor}
+use Rattle.model.specs.Constants.{wallOf, wallFactor}
 use Rattle.model.specs.Grid.{periodic}
 use Rattle.model.specs.Stepping.{newPos}
 use Rattle.model.specs.Moves.{still, sideLow, atEdge, gap, later}
@@ -24,5 +24,5 @@ noWall d b c p = periodic d b || (still d p || not (atEdge d b c p))
 -- dpos as to neighbour, uncorrected; only dt > 0; the velocity component negated
 unfoldable pub wall : ℕ → Domain → Float → ℕ → ℕ → Particle → Plan
 wall d b t c i p =
-    let dt = div binary64 (gap d b c (radiusOf p) p) (along d (p .vel)) in
+    let dt = div binary64 (gap d b c (p .rad) p) (along d (p .vel)) in
     cond (noWall d b c p) Nothing (later t dt (WallReflection i (newPos b (p .pos) (p .vel) dt) (bent d (neg (along d (p .vel))) (p .vel)) (wallVal d b p)))

@@ -1,6 +1,5 @@
 // The types of document 01 that code and definitions share: the box, a grain, a pending event, the place that holds one, and the answers.
 ghost use mathlib.Core.Path.{_≡_};
-ghost use Rattle.model.specs.Constants.{radiusOf};
 ghost use Rattle.model.specs.Grid.{boxOf};
 ghost use Rattle.model.specs.Stepping.{grainOf, landed};
 use myvec::MyVec;
@@ -27,26 +26,30 @@ impl Domain {
     }
 }
 
-// A grain: where it was, how fast, at what time, and its value.
+// A grain: where it was, how fast, at what time, its value, and its radius, which it keeps for life.
 pub struct Particle {
     pub pos: MyVec,
     pub vel: MyVec,
     pub time: f64,
     pub val: f64,
+    pub rad: f64,
 }
 
 impl Particle {
-    // Every grain's radius.
-    pub const RADIUS: f64 = 0.5;
+    // The radii that a grain may bring.
+    pub const LEAST_RADIUS: f64 = 0.25;
 
-    pub fn new(pos: MyVec, vel: MyVec, time: f64, val: f64) -> Self
-        ensures { λ r. ⌜ r ≡ grainOf pos vel time val ⌝ }
+    pub const GREATEST_RADIUS: f64 = 0.5;
+
+    pub fn new(pos: MyVec, vel: MyVec, time: f64, val: f64, rad: f64) -> Self
+        ensures { λ r. ⌜ r ≡ grainOf pos vel time val rad ⌝ }
     {
         Self {
             pos,
             vel,
             time,
             val,
+            rad,
         }
     }
 
@@ -60,14 +63,8 @@ impl Particle {
             vel,
             time,
             val: self.val,
+            rad: self.rad,
         }
-    }
-
-    // The radius of this grain.
-    pub fn radius(self) -> f64
-        ensures { λ r. ⌜ r ≡ radiusOf self ⌝ }
-    {
-        Self::RADIUS
     }
 }
 

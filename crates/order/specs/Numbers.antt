@@ -8,6 +8,9 @@ use lib.Ieee.{Float, fin, binary64, lt, ofBits}
 abbrev pub fzero : Float
 fzero = ofBits binary64 0
 
+abbrev pub oneQuarter : Float
+oneQuarter = ofBits binary64 0x3fd0_0000_0000_0000
+
 abbrev pub half : Float
 half = ofBits binary64 0x3fe0_0000_0000_0000
 
@@ -34,6 +37,10 @@ f64Max = ofBits binary64 0x7fef_ffff_ffff_ffff
 fzero-is : fzero ≡ fin false 0 (pos 0)
 unfolding ofBits
 fzero-is = refl
+
+oneQuarter-is : oneQuarter ≡ fin false 1 (negsuc 1)
+unfolding ofBits
+oneQuarter-is = refl
 
 half-is : half ≡ fin false 1 (negsuc 0)
 unfolding ofBits

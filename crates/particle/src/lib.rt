@@ -7,7 +7,8 @@ ghost use Rattle.order.specs.Numbers.{maxOf, minOf};
 ghost use Rattle.model.specs.Stepping as stepping;
 ghost use Rattle.model.specs.Events.{fineV};
 ghost use Rattle.model.specs.Acts.{fineGrain};
-ghost use Rattle.model.specs.Sizes.{placeOk, speedOk, grainOk};
+ghost use Rattle.model.specs.Constants.{leastRadius, greatestRadius};
+ghost use Rattle.model.specs.Sizes.{within, placeOk, speedOk, grainOk};
 ghost use Rattle.particle.specs.Spans.{spanOf, spansOf};
 ghost use Rattle.particle.specs.Spans as spans;
 use model::Domain;
@@ -67,7 +68,8 @@ pub fn fine_vec(v: MyVec) -> bool
 pub fn fine_grain(p: Particle) -> bool
     ensures { λ r. ⌜ r ≡ fineGrain p ⌝ }
 {
-    fine_vec(p.pos) && (fine_vec(p.vel) && (is_finite(p.time) && is_finite(p.val)))
+    fine_vec(p.pos)
+        && (fine_vec(p.vel) && (is_finite(p.time) && (is_finite(p.val) && is_finite(p.rad))))
 }
 
 // ---- what may be started
@@ -81,8 +83,7 @@ fn place_ok(domain: Domain, dim: usize, p: Particle) -> bool
     if cell::periodic(domain, dim) {
         return cell::within(0.0, length, x);
     }
-    let rad = p.radius();
-    cell::within(rad, length - rad, x)
+    cell::within(p.rad, length - p.rad, x)
 }
 
 fn pos_ok(domain: Domain, p: Particle) -> bool
@@ -105,11 +106,18 @@ const LEAST_VAL: f64 = 0.0;
 
 const GREATEST_VAL: f64 = 1.0;
 
+fn rad_ok(rad: f64) -> bool
+    ensures { λ r. ⌜ r ≡ within leastRadius greatestRadius rad ⌝ }
+{
+    cell::within(Particle::LEAST_RADIUS, Particle::GREATEST_RADIUS, rad)
+}
+
 // Whether all start numbers of a grain are in range: refusal 4 where not.
 pub fn grain_ok(domain: Domain, p: Particle) -> bool
     ensures { λ r. ⌜ r ≡ grainOk domain p ⌝ }
 {
-    pos_ok(domain, p) && (vel_ok(p.vel) && cell::within(LEAST_VAL, GREATEST_VAL, p.val))
+    pos_ok(domain, p)
+        && (vel_ok(p.vel) && (cell::within(LEAST_VAL, GREATEST_VAL, p.val) && rad_ok(p.rad)))
 }
 
 // ---- from_p_to_c

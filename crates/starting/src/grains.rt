@@ -30,9 +30,8 @@ fn goes_in(
     if stored != 0 {
         return stored;
     }
-    let rad = p.radius();
-    let x = particle::touched(domain.lengths.x, grid.n0, rad, p.pos.x);
-    let y = particle::touched(domain.lengths.y, grid.n1, rad, p.pos.y);
+    let x = particle::touched(domain.lengths.x, grid.n0, p.rad, p.pos.x);
+    let y = particle::touched(domain.lengths.y, grid.n1, p.rad, p.pos.y);
     entries::enter_all(lists, z, i, grid.n0, x, y)
 }
 

@@ -1,4 +1,4 @@
-// The start numbers of the grains: position, velocity, value of each.
+// The start numbers of the grains: position, velocity, value and radius of each.
 ghost use mathlib.Core.Path.{_≡_};
 ghost use Prim.Native.Nat.{_*_, _<_, _≤_};
 ghost use lib.ListN.{length, getD};

@@ -2,7 +2,7 @@
 ghost use mathlib.Core.Path.{_≡_};
 ghost use Prim.Native.Nat.{_<_};
 ghost use Rattle.halting.specs.Out.{then};
-ghost use Rattle.model.specs.Stepping.{landed};
+ghost use Rattle.model.specs.Stepping.{landed, renewed as renewedIn};
 ghost use Rattle.model.specs.State.{State, grain};
 ghost use Rattle.model.specs.Acts.{store as storeAct};
 ghost use Rattle.model.specs.Doing.{again as againIn, forget as forgetIn, doCollision, doNeighbour, doOut, doWall, doSync, execution as executeIn};
@@ -15,6 +15,25 @@ use model::Event;
 use model::Particle;
 use myvec::MyVec;
 use tables::Sizes;
+
+// ---- what an event gives a grain
+
+// Its place, velocity and value at the clock; its radius stays.
+fn renewed(
+    grains: &[f64],
+    z: Sizes,
+    clock: f64,
+    p: usize,
+    pos: MyVec,
+    vel: MyVec,
+    val: f64,
+) -> Particle
+    requires { ⌜ Grains z (now grains) × Ranged z × (p < z .grains) ⌝ }
+    ensures { λ r. ⌜ ((s : State) → InGrains z (now (grains .entry)) s → s .clock ≡ clock → r ≡ renewedIn pos vel (s .clock) val (grain s p)) ⌝ }
+{
+    let a = tables::grains::get_grain(grains, p);
+    Particle::new(pos, vel, clock, val, a.rad)
+}
 
 // ---- a collision
 
@@ -271,8 +290,8 @@ pub fn execute(
             q_vel,
             val,
         } => {
-            let x = Particle::new(p_pos, p_vel, w.clock, val);
-            let y = Particle::new(q_pos, q_vel, w.clock, val);
+            let x = renewed(grains, z, w.clock, p as usize, p_pos, p_vel, val);
+            let y = renewed(grains, z, w.clock, q as usize, q_pos, q_vel, val);
             do_collision(
                 lists,
                 grains,
@@ -311,17 +330,10 @@ pub fn execute(
             pos,
             cell as usize,
         ),
-        Event::WallReflection { p, pos, vel, val } => do_wall(
-            lists,
-            grains,
-            queue,
-            events,
-            order,
-            z,
-            w,
-            p as usize,
-            Particle::new(pos, vel, w.clock, val),
-        ),
+        Event::WallReflection { p, pos, vel, val } => {
+            let x = renewed(grains, z, w.clock, p as usize, pos, vel, val);
+            do_wall(lists, grains, queue, events, order, z, w, p as usize, x)
+        }
         Event::Synchronisation => do_sync(grains, queue, events, order, z, w, rate),
     }
 }

@@ -62,7 +62,7 @@ rowOf n xs = row (take n xs) (drop n xs)
 
 -- ---- grains
 abbrev pub grainAt : List Float → Particle
-grainAt g = grainOf (vec (getD g 0 nan) (getD g 1 nan)) (vec (getD g 2 nan) (getD g 3 nan)) (getD g 4 nan) (getD g 5 nan)
+grainAt g = grainOf (vec (getD g 0 nan) (getD g 1 nan)) (vec (getD g 2 nan) (getD g 3 nan)) (getD g 4 nan) (getD g 5 nan) (getD g 6 nan)
 
 abbrev pub grainsOf : ℕ → List Float → List Particle
 grainsOf n g = cut grainAt grainWide n g

@@ -1,6 +1,6 @@
 -- What each place of the lent tables is. Behind their headers:
 --   lists   for each grain a count and its cells, then for each cell a count and its grains
---   grains  for each grain position, velocity, time, value
+--   grains  for each grain position, velocity, time, value, radius
 --   queue   for each cell a count, then for each place kind, two grains, a cell
 --   events  for each cell's places time, four pairs, a value
 --   order   the heap's bytes, then the lookups'
@@ -22,7 +22,7 @@ places r = r .live ++ r .spare
 
 -- a grain's floats
 abbrev pub grainReals : Particle → List Float
-grainReals p = p .pos .x ∷ p .pos .y ∷ p .vel .x ∷ p .vel .y ∷ p .time ∷ p .val ∷ []
+grainReals p = p .pos .x ∷ p .pos .y ∷ p .vel .x ∷ p .vel .y ∷ p .time ∷ p .val ∷ p .rad ∷ []
 
 -- a row of numbers: its count, then its places
 abbrev pub rowNums : Row ℕ → List ℕ

@@ -1,4 +1,4 @@
-// The grains' floats: position, velocity, time and value of each; and those that it starts with, all but the time.
+// The grains' floats: position, velocity, time, value and radius of each; and those that it starts with, all but the time.
 ghost use mathlib.Core.Path.{_≡_};
 ghost use Prim.Native.Nat.{_+_, _*_, _<_, _≤_};
 ghost use mathlib.Core.List.{List};
@@ -24,6 +24,7 @@ pub fn read_grain(s: &[f64]) -> Particle
         vel: MyVec { x: s[2], y: s[3] },
         time: s[4],
         val: s[5],
+        rad: s[6],
     }
 }
 
@@ -37,6 +38,7 @@ pub fn write_grain(s: &mut [f64], p: Particle)
     s[3] = p.vel.y;
     s[4] = p.time;
     s[5] = p.val;
+    s[6] = p.rad;
 }
 
 // The first grain of the start numbers, at time 0.
@@ -55,6 +57,7 @@ pub fn read_input(inputs: &[f64]) -> Particle
         },
         time: 0.0,
         val: inputs[4],
+        rad: inputs[5],
     }
 }
 
