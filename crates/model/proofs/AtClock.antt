@@ -21,7 +21,7 @@ use Rattle.model.specs.declared.Plan.the-variants.{Due}
 use Rattle.model.specs.declared.Event.{Event}
 use Rattle.model.specs.declared.Event.the-variants.{InterParticleCollision, MoveToNeighbour, MoveOutOfCell, WallReflection, Synchronisation}
 use Rattle.model.specs.Grid.{cells}
-use Rattle.model.specs.Stepping.{grainOf, landed, atZero, stepped}
+use Rattle.model.specs.Stepping.{renewed, landed, atZero, stepped}
 use Rattle.model.specs.Collision.{collision}
 use Rattle.model.specs.FromPToC.{cellsOfGrain}
 use Rattle.model.specs.State.{Row, none, State, zeroG, grain, home, listed, has, pushed, requeued}
@@ -203,10 +203,10 @@ neighbour-honest s p k x r P =
     (λ v i. honest-to (scheduling p k v) v (Carried v) Any (scheduling-honest v p k (i .0) (i .1) v (carried-refl v)) (λ x k. tt)))
 
 pub acts-honest : (rate : Float) (e : Event) (n c : ℕ) (s : State) → Ranges s → Named n c (listed s c) e → Honestly (actsOf rate e s) s Any
-acts-honest rate (InterParticleCollision p q x y v w k) n c s r m = collision-honest s p q (grainOf x v (s .clock) k) (grainOf y w (s .clock) k) r (r c p (m .0)) (r c q (m .1)) refl refl
+acts-honest rate (InterParticleCollision p q x y v w k) n c s r m = collision-honest s p q (renewed x v (s .clock) k (grain s p)) (renewed y w (s .clock) k (grain s q)) r (r c p (m .0)) (r c q (m .1)) refl refl
 acts-honest rate (MoveToNeighbour p x k) n c s r m = neighbour-honest s p k x r (r c p (m .0))
 acts-honest rate (MoveOutOfCell p x k) n c s r m = then-honest _ _ s Any Any (tt, λ z. tt) (λ u i. then-honest _ _ u Any Any (tt, λ z. tt) (λ v i. (tt, λ z. tt)))
-acts-honest rate (WallReflection p x v w) n c s r m = wall-honest s p (grainOf x v (s .clock) w) r (r c p (m .0)) refl
+acts-honest rate (WallReflection p x v w) n c s r m = wall-honest s p (renewed x v (s .clock) w (grain s p)) r (r c p (m .0)) refl
 acts-honest rate Synchronisation n c s r m =
     then-honest _ _ s Any Any (turn-honest Any stepping (length (s .grains)) (λ g u G i. (tt, λ z. tt)) (length (s .grains)) 0 (omega arith) s tt) (λ u i. (((_, refl), λ g e. clash e), λ z. tt))
 

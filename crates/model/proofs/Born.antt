@@ -13,7 +13,7 @@ use lib.Ieee.Fits.{down-pos}
 use lib.Ieee.Order.{round-mono}
 use lib.Ieee.Positive.{num, den, positive, den-pos}
 use Rattle.order.specs.Numbers.{fzero, one}
-use Rattle.model.specs.Constants.{radius, radiusOf, shortest, longest}
+use Rattle.model.specs.Constants.{greatestRadius as radius, shortest, longest}
 use Rattle.model.specs.Grid.{cellsOf, lengthOf, across, cells}
 use Rattle.model.specs.FromPToC.{width, firstCell, endCell, kernel, reached, cellsOfGrain}
 use Rattle.order.proofs.Mono.{plain, positive-plain, fr→le, sub-is, round-plain, add-mono, sub-mono, add-plain, sub-plain, not-inf, sub-under, div-minus, round-cut, sub-le-add, add-minus-zero, sub-minus-zero}
@@ -321,6 +321,6 @@ pub born : (b : Domain) (p : Particle) → Fits b → boxOk b ≡ true → grain
 unfolding cellsOfGrain across
 born b p f box ok =
     let place = and-l (placeOk 0 b p && placeOk 1 b p) _ ok in
-    product b (reached (lengthOf 0 b) (cellsOf (lengthOf 0 b)) (radiusOf p) (p .pos .x)) (reached (lengthOf 1 b) (cellsOf (lengthOf 1 b)) (radiusOf p) (p .pos .y))
+    product b (reached (lengthOf 0 b) (cellsOf (lengthOf 0 b)) (p .rad) (p .pos .x)) (reached (lengthOf 1 b) (cellsOf (lengthOf 1 b)) (p .rad) (p .pos .y))
     (direction-placed (lengthOf 0 b) (p .pos .x) (b .periodic0) (f .first) (and-l (lengthOk (lengthOf 0 b)) _ box) (and-l (placeOk 0 b p) _ place))
     (direction-placed (lengthOf 1 b) (p .pos .y) (b .periodic1) (f .second) (and-r (lengthOk (lengthOf 0 b)) _ box) (and-r (placeOk 0 b p) _ place))

@@ -14,7 +14,7 @@ use lib.Ieee.Positive.{num, den, positive, den-pos, through}
 use Rattle.order.proofs.Order as O
 use Rattle.order.proofs.Cut.{cut-mono}
 use Rattle.order.specs.Numbers.{one, two}
-use Rattle.model.specs.Constants.{radius, longest}
+use Rattle.model.specs.Constants.{greatestRadius as radius, longest}
 use Rattle.model.specs.FromPToC.{width, firstCell, endCell}
 use Rattle.order.proofs.Mono.{plain, positive-plain, le→fr, div-is, add-mono, sub-mono, div-mono, num-pos}
 use Rattle.root.proofs.Cases.{no-nan}

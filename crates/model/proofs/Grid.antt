@@ -12,7 +12,7 @@ use Rattle.model.specs.declared.Domain.{Domain}
 use Rattle.model.specs.declared.Particle.{Particle}
 use Rattle.model.specs.Grid.{cellsOf, across, cells, cellAt, lengthOf}
 use Rattle.order.specs.Numbers.{fzero}
-use Rattle.model.specs.Constants.{radiusOf, shortest, longest}
+use Rattle.model.specs.Constants.{shortest, longest}
 use Rattle.order.proofs.Cut.{cut-capped}
 use Rattle.model.specs.FromPToC.{upFrom, firstCell, endCell, kernel, reached, cellsAt, cellsOfGrain}
 use Rattle.model.specs.State.{has}
@@ -85,4 +85,4 @@ rows-under b is (j ∷ js) a c x h = under-append (cells b) (map (λ (i : ℕ). 
 
 pub cells-under : (b : Domain) (p : Particle) → boxOk b ≡ true → Under (cells b) (cellsOfGrain b p)
 unfolding cellsOfGrain
-cells-under b p h = let m = across-max b h in rows-under b _ _ (reached-under (lengthOf 0 b) (across 0 b) (radiusOf p) (p .pos .x) (m .0)) (reached-under (lengthOf 1 b) (across 1 b) (radiusOf p) (p .pos .y) (m .1))
+cells-under b p h = let m = across-max b h in rows-under b _ _ (reached-under (lengthOf 0 b) (across 0 b) (p .rad) (p .pos .x) (m .0)) (reached-under (lengthOf 1 b) (across 1 b) (p .rad) (p .pos .y) (m .1))

@@ -15,7 +15,7 @@ use Rattle.order.proofs.Order as O
 use Rattle.order.proofs.Cut.{cut-mono, cut-capped}
 use Rattle.order.proofs.Finite.{round-zero}
 use Rattle.order.specs.Numbers.{fzero, one, two, maxOf, minOf}
-use Rattle.model.specs.Constants.{radius, shortest, longest}
+use Rattle.model.specs.Constants.{greatestRadius as radius, shortest, longest}
 use Rattle.model.specs.FromPToC.{width, firstCell, endCell}
 use Rattle.order.proofs.Mono.{plain, positive-plain, fr→le, add-is, div-is, add-mono, div-mono, div-plain, num-pos}
 use Rattle.model.proofs.Quarters.{more, four, cnt, Facts}

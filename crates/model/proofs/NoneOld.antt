@@ -20,8 +20,8 @@ use Rattle.model.specs.declared.Event.{Event}
 use Rattle.model.specs.declared.Event.the-variants.{InterParticleCollision, MoveToNeighbour, MoveOutOfCell, WallReflection, Synchronisation}
 use Rattle.model.specs.Grid.{cells}
 use Rattle.model.specs.Events.{names, eventOf}
-use Rattle.model.specs.Stepping.{grainOf}
-use Rattle.model.specs.State.{State, queue, listed}
+use Rattle.model.specs.Stepping.{renewed}
+use Rattle.model.specs.State.{State, grain, queue, listed}
 use Rattle.model.specs.Acts.{first, taken}
 use Rattle.model.specs.Execute.{headEvent, step}
 use Rattle.model.specs.Start.{clear, begin}
@@ -103,10 +103,10 @@ module _ (n g p : ℕ) (x : Particle) (s : State) (h : History) (sound : Sound s
 module _ (n g : ℕ) (rate : Float) (c : ℕ) (s : State) (h : History) (sound : Sound s) (t : Tells h s) (N : n ≡ cells (s .box)) (C : c < cells (s .box)) where
   execute-fresh : (e : Event) → Named (cells (s .box)) c (listed s c) e → (doing (actsOf rate e s) s) .num ≡ 0 → Fresh n g h → Fresh n g (rowDone (actsOf rate e s) s h)
   execute-fresh (InterParticleCollision p q x y v w k) m z f =
-      collision-fresh n g p (grainOf x v (s .clock) k) s h sound t N ((in-cell p c s sound C (m .0)) .grain) refl q (grainOf y w (s .clock) k) ((in-cell q c s sound C (m .1)) .grain) refl z f
+      collision-fresh n g p (renewed x v (s .clock) k (grain s p)) s h sound t N ((in-cell p c s sound C (m .0)) .grain) refl q (renewed y w (s .clock) k (grain s q)) ((in-cell q c s sound C (m .1)) .grain) refl z f
   execute-fresh (MoveToNeighbour p x k) m z f = row-fresh n g _ s h (acts-calm g rate (MoveToNeighbour p x k) s refl) f
   execute-fresh (MoveOutOfCell p x k) m z f = row-fresh n g _ s h (acts-calm g rate (MoveOutOfCell p x k) s refl) f
-  execute-fresh (WallReflection p x v w) m z f = wall-fresh n g p (grainOf x v (s .clock) w) s h sound t N ((in-cell p c s sound C (m .0)) .grain) refl z f
+  execute-fresh (WallReflection p x v w) m z f = wall-fresh n g p (renewed x v (s .clock) w (grain s p)) s h sound t N ((in-cell p c s sound C (m .0)) .grain) refl z f
   execute-fresh Synchronisation m z f = row-fresh n g _ s h (acts-calm g rate Synchronisation s refl) f
 
 -- ---- a step

@@ -20,7 +20,7 @@ use Rattle.model.specs.declared.Particle.{Particle}
 use Rattle.model.specs.declared.Event.{Event}
 use Rattle.model.specs.declared.Event.the-variants.{InterParticleCollision, MoveToNeighbour, MoveOutOfCell, WallReflection, Synchronisation}
 use Rattle.model.specs.Grid.{cells}
-use Rattle.model.specs.Stepping.{grainOf, landed}
+use Rattle.model.specs.Stepping.{renewed, landed}
 use Rattle.model.specs.Events.{names, eventOf}
 use Rattle.model.specs.State.{State, Row, liveAt, grain, listed, queue, has, requeued}
 use Rattle.model.specs.Acts.{store, cancelled, enter, gone, first, taken}
@@ -228,14 +228,14 @@ module _ (n : ℕ) (rate : Float) (c₀ : ℕ) (s : State) (h : History) (sound 
   execute-mine (InterParticleCollision p q x y v w k) m i z =
       let P = (in-cell p c₀ s sound C (m .0)) .grain in
       let Q = (in-cell q c₀ s sound C (m .1)) .grain in
-      as-lists (InterParticleCollision p q x y v w k) (collision-goes p q (grainOf x v (s .clock) k) (grainOf y w (s .clock) k) s sound P Q refl refl .frame .members)
-      (collision-mine n p (grainOf x v (s .clock) k) s h sound t N P refl mine q (grainOf y w (s .clock) k) Q refl (m .2) z)
+      as-lists (InterParticleCollision p q x y v w k) (collision-goes p q (renewed x v (s .clock) k (grain s p)) (renewed y w (s .clock) k (grain s q)) s sound P Q refl refl .frame .members)
+      (collision-mine n p (renewed x v (s .clock) k (grain s p)) s h sound t N P refl mine q (renewed y w (s .clock) k (grain s q)) Q refl (m .2) z)
   execute-mine (MoveToNeighbour p x k) m i z = neighbour-mine n p x k s h sound N ((in-cell p c₀ s sound C (m .0)) .grain) (m .1) mine t z
   execute-mine (MoveOutOfCell p x k) m i z = out-mine n p x k s h sound N ((in-cell p c₀ s sound C (m .0)) .grain) (rw (m .1) C) mine z
   execute-mine (WallReflection p x v w) m i z =
       let P = (in-cell p c₀ s sound C (m .0)) .grain in
-      as-lists (WallReflection p x v w) (wall-goes p (grainOf x v (s .clock) w) s sound P refl .frame .members)
-      (wall-mine n p (grainOf x v (s .clock) w) s h sound t N P refl mine z)
+      as-lists (WallReflection p x v w) (wall-goes p (renewed x v (s .clock) w (grain s p)) s sound P refl .frame .members)
+      (wall-mine n p (renewed x v (s .clock) w (grain s p)) s h sound t N P refl mine z)
   execute-mine Synchronisation m i z = sync-mine (omega (arith, i))
 
 -- ---- a step

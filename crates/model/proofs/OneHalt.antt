@@ -9,8 +9,8 @@ use Rattle.myvec.specs.declared.MyVec.{MyVec}
 use Rattle.halting.specs.Out.{Out, out}
 use Rattle.halting.proofs.Laws.{then-go, then-stop}
 use Rattle.model.specs.declared.Event.the-variants.{InterParticleCollision}
-use Rattle.model.specs.Stepping.{grainOf}
-use Rattle.model.specs.State.{State, marked}
+use Rattle.model.specs.Stepping.{renewed}
+use Rattle.model.specs.State.{State, grain, marked}
 use Rattle.model.specs.Rows.{Act, turning, perform, Acts, ended, act, doing, before, actsOf}
 use Rattle.model.proofs.Halts.{Begins, HaltIn}
 
@@ -71,5 +71,5 @@ first-first w r s v h = begins-first (h .acts) w s (h .refused-act) (h .later) (
 
 -- so a collision that halts stored the first grain's numbers before all else, or halted at that: leaving it out fits no halt
 pub collision-stores-first : (rate : Float) (p q : ℕ) (x y v w : MyVec) (k : Float) (r : ℕ) (s u : State) (h : HaltIn (actsOf rate (InterParticleCollision p q x y v w k) s) r s u)
-    → firstOf (h .acts) (h .refused-act) ≡ turning p (grainOf x v (s .clock) k)
+    → firstOf (h .acts) (h .refused-act) ≡ turning p (renewed x v (s .clock) k (grain s p))
 collision-stores-first rate p q x y v w k r s u h = first-first (actsOf rate (InterParticleCollision p q x y v w k) s) r s u h ∙ (unfold before in refl)

@@ -14,7 +14,7 @@ use Rattle.model.specs.declared.Place.{Place}
 use Rattle.model.specs.declared.Plan.the-variants.{Nothing, Due, Refused}
 use Rattle.halting.specs.Out.{Out, out, next, then, each, eachOf}
 use Rattle.order.specs.Numbers.{fzero}
-use Rattle.model.specs.Stepping.{grainOf, landed, newPos}
+use Rattle.model.specs.Stepping.{renewed, landed, newPos}
 use Rattle.model.specs.Collision.{collision}
 use Rattle.model.specs.Grid.{cells}
 use Rattle.model.specs.FromPToC.{cellsOfGrain}
@@ -162,11 +162,11 @@ forget-is p = record { same = λ s. unfold forget in is-each (λ c. is-one (canc
 pub execute-is : (rate : Float) (e : Event) (s : State) → execute rate e s ≡ execution rate e s
 unfolding doCollision doNeighbour doOut doWall doSync
 execute-is rate (InterParticleCollision p q x y v w k) s =
-    is-then (is-one (turning p (grainOf x v (s .clock) k))) (is-then (is-one (turning q (grainOf y w (s .clock) k)))
+    is-then (is-one (turning p (renewed x v (s .clock) k (grain s p)))) (is-then (is-one (turning q (renewed y w (s .clock) k (grain s q))))
     (is-then (forget-is p) (is-then (forget-is q) (is-then (again-is p) (again-is q))))) .same s
 execute-is rate (MoveToNeighbour p x k) s = is-then (is-one (moving p x (s .clock))) (is-then (is-one (entering p k)) (schedule-is p k)) .same s
 execute-is rate (MoveOutOfCell p x k) s = is-then (is-one (moving p x (s .clock))) (is-then (is-one (cancelling p k)) (is-one (leaving p k))) .same s
-execute-is rate (WallReflection p x v w) s = is-then (is-one (turning p (grainOf x v (s .clock) w))) (is-then (forget-is p) (again-is p)) .same s
+execute-is rate (WallReflection p x v w) s = is-then (is-one (turning p (renewed x v (s .clock) w (grain s p)))) (is-then (forget-is p) (again-is p)) .same s
 execute-is rate Synchronisation s = is-then (is-turns step-is (length (s .grains)) 0) (is-one (syncing (add binary64 (s .clock) rate))) .same s
 
 goes-is : (gs : List Particle) (i : ℕ) → Is (goesIn gs i) (goes gs i)

@@ -23,7 +23,6 @@ use Rattle.model.specs.declared.Event.the-variants.{InterParticleCollisi
 use Rattle.model.specs.declared.Plan.{Plan}
 use Rattle.model.specs.declared.Plan.the-variants.{Nothing, Refused, Due}
 use Rattle.order.specs.Numbers.{fzero}
-use Rattle.model.specs.Constants.{radiusOf}
 use Rattle.myvec.specs.Vec.{vsub}
 use Rattle.order.proofs.Order.{lt→le}
 use Rattle.order.proofs.Clock.{clock-on}
@@ -125,7 +124,7 @@ module _ (n c : ℕ) (l : List ℕ) (t : Float) (F : T (finite t)) (f : T (fits 
   pub toNeighbour-apt : (d : ℕ) (b : Domain) (i : ℕ) (p : Particle) → cells b ≡ n → c < n → has i l ≡ true → AptPlan n c l t (toNeighbour d b t c i p)
   unfolding toNeighbour
   toNeighbour-apt d b i p e C hi =
-      on-test (AptPlan n c l t) (shut d b c p) Nothing _ (λ h. tt) (λ h. later-apt _ (MoveToNeighbour i (newPos b (p .pos) (p .vel) (moveDt d b c (radiusOf p) p)) (aside d b c p)) (hi, beside) refl)
+      on-test (AptPlan n c l t) (shut d b c p) Nothing _ (λ h. tt) (λ h. later-apt _ (MoveToNeighbour i (newPos b (p .pos) (p .vel) (moveDt d b c (p .rad) p)) (aside d b c p)) (hi, beside) refl)
     where
       in′ : c < cells b
       in′ = rw e C
@@ -135,7 +134,7 @@ module _ (n c : ℕ) (l : List ℕ) (t : Float) (F : T (finite t)) (f : T (fits 
 
   pub outOfCell-apt : (d : ℕ) (b : Domain) (i : ℕ) (p : Particle) → has i l ≡ true → AptPlan n c l t (outOfCell d b t c i p)
   unfolding outOfCell
-  outOfCell-apt d b i p hi = on-test (AptPlan n c l t) (shut d b c p) Nothing _ (λ h. tt) (λ h. later-apt _ (MoveOutOfCell i (newPos b (p .pos) (p .vel) (moveDt d b c (neg (radiusOf p)) p)) c) (hi, refl) refl)
+  outOfCell-apt d b i p hi = on-test (AptPlan n c l t) (shut d b c p) Nothing _ (λ h. tt) (λ h. later-apt _ (MoveOutOfCell i (newPos b (p .pos) (p .vel) (moveDt d b c (neg (p .rad)) p)) c) (hi, refl) refl)
 
   pub wall-apt : (d : ℕ) (b : Domain) (i : ℕ) (p : Particle) → has i l ≡ true → AptPlan n c l t (wall d b t c i p)
   unfolding wall

@@ -15,7 +15,7 @@ use lib.Ieee.Positive.{positive, between}
 use Rattle.order.proofs.Order as O
 use Rattle.order.proofs.Cut.{cut-mono}
 use Rattle.order.specs.Numbers.{one, two}
-use Rattle.model.specs.Constants.{radius, cellSize, shortest, longest}
+use Rattle.model.specs.Constants.{greatestRadius as radius, cellSize, shortest, longest}
 use Rattle.model.specs.FromPToC.{width}
 use Rattle.model.specs.Grid.{cellsOf}
 use Rattle.order.proofs.Mono.{plain, positive-plain, add-mono, sub-mono, div-mono}

@@ -19,7 +19,6 @@ use Rattle.order.specs.Numbers.{fzero}
 use Rattle.scheduler.specs.declared.head.Head.{Head}
 use Rattle.scheduler.specs.declared.head.Head.the-variants.{At}
 use Rattle.scheduler.specs.Head.{earlier}
-use Rattle.model.specs.Constants.{radiusOf}
 use Rattle.order.proofs.Order.{lt→le, lt-left, lt-not-le}
 use Rattle.order.proofs.Compare.{lt-irrefl, le-of-not-lt, fails}
 use Rattle.order.proofs.Clock.{clock-on}
@@ -205,11 +204,11 @@ Finds f = (d : ℕ) (b : Domain) (c i : ℕ) (p : Particle) → FromZero (f d b 
 
 neighbour-from : Finds toNeighbour
 unfolding toNeighbour
-neighbour-from d b c i p = on-test FromZero (shut d b c p) Nothing _ (λ h. tt) (λ h. later-from _ (MoveToNeighbour i (newPos b (p .pos) (p .vel) (moveDt d b c (radiusOf p) p)) (aside d b c p)))
+neighbour-from d b c i p = on-test FromZero (shut d b c p) Nothing _ (λ h. tt) (λ h. later-from _ (MoveToNeighbour i (newPos b (p .pos) (p .vel) (moveDt d b c (p .rad) p)) (aside d b c p)))
 
 out-from : Finds outOfCell
 unfolding outOfCell
-out-from d b c i p = on-test FromZero (shut d b c p) Nothing _ (λ h. tt) (λ h. later-from _ (MoveOutOfCell i (newPos b (p .pos) (p .vel) (moveDt d b c (neg (radiusOf p)) p)) c))
+out-from d b c i p = on-test FromZero (shut d b c p) Nothing _ (λ h. tt) (λ h. later-from _ (MoveOutOfCell i (newPos b (p .pos) (p .vel) (moveDt d b c (neg (p .rad)) p)) c))
 
 wall-from : Finds wall
 unfolding wall

@@ -40,12 +40,15 @@ walledBox = boxOf (vec nine nine) false true
 abbrev pub flooredBox : Domain
 flooredBox = boxOf (vec nine nine) true false
 
--- a grain that moves in direction 0; one in the middle row
+-- a grain of radius 0.5 that moves in direction 0; one in the middle row; a grain with another radius
 abbrev pub slider : Float → Float → Float → Particle
-slider x y v = grainOf (vec x y) (vec v fzero) fzero half
+slider x y v = grainOf (vec x y) (vec v fzero) fzero half half
 
 abbrev pub mover : Float → Float → Particle
 mover x v = slider x (plus 9 2) v
+
+abbrev pub sized : Float → Particle → Particle
+sized r p = grainOf (p .pos) (p .vel) (p .time) (p .val) r
 
 -- the dt of a plan at the clock 0, and the event's place, with the cell and the floats that it carries
 abbrev pub dt : Plan → Contact

@@ -12,7 +12,7 @@ use lib.Ieee.Bits.{is-true}
 use Rattle.root.specs.Isqrt.{near, root}
 use Rattle.root.specs.Root.{rootOf, sqrtOf}
 use Rattle.halting.specs.Every.{every}
-use Rattle.order.specs.Numbers.{fzero}
+use Rattle.order.specs.Numbers.{fzero, half}
 use Rattle.myvec.specs.Vec.{vec}
 use Rattle.scheduler.specs.Heap.{timeIn, swapAt, childIn, down, downshifted, parentIn, up, upshifted, updated, numbered, startHeap}
 use Rattle.model.specs.declared.Domain.{Domain}
@@ -44,8 +44,8 @@ box = boxOf (vec (ofBits binary64 0x402299999999999a) (ofBits binary64 0x4023666
 
 abbrev pub grains : List Particle
 grains =
-    grainOf (vec (ofBits binary64 0x4010666666666666) (ofBits binary64 0x400199999999999a)) (vec (ofBits binary64 0x3fc0a3d70a3d70a4) (ofBits binary64 0x3ff199999999999a)) fzero (ofBits binary64 0x3fd3333333333333) ∷
-    grainOf (vec (ofBits binary64 0x401199999999999a) (ofBits binary64 0x4015333333333333)) (vec (ofBits binary64 0x3fb1eb851eb851ec) (ofBits binary64 0xbfeccccccccccccd)) fzero (ofBits binary64 0x3fe6666666666666) ∷
+    grainOf (vec (ofBits binary64 0x4010666666666666) (ofBits binary64 0x400199999999999a)) (vec (ofBits binary64 0x3fc0a3d70a3d70a4) (ofBits binary64 0x3ff199999999999a)) fzero (ofBits binary64 0x3fd3333333333333) half ∷
+    grainOf (vec (ofBits binary64 0x401199999999999a) (ofBits binary64 0x4015333333333333)) (vec (ofBits binary64 0x3fb1eb851eb851ec) (ofBits binary64 0xbfeccccccccccccd)) fzero (ofBits binary64 0x3fe6666666666666) half ∷
     []
 
 abbrev pub rate : Float

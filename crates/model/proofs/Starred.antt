@@ -1,5 +1,5 @@
--- 01, "Marked examples": the 14 starred ones as one table with one claim over its rows (`starred-hold`), and the others, with examples of what
--- those leave out, as a second (`unstarred-hold`). Each row goes through the definitions that the contracts cite. Assumes nothing.
+-- 01, "Marked examples": the 14 starred ones, at radius 0.5, as one table with one claim over its rows (`starred-hold`); three beside them at other radii (`sized-hold`);
+-- and the others, with examples of what those leave out (`unstarred-hold`). Each row goes through the definitions that the contracts cite. Assumes nothing.
 use Prim.Native.Nat.{ℕ, _^_}
 use mathlib.Core.Path.{_≡_, refl, ap}
 use mathlib.Core.List.{List, [], _∷_}
@@ -10,7 +10,7 @@ use lib.ListN.{length}
 use lib.Count.{leadingZeros}
 use lib.Ieee.{Float, nan, inf, fin, binary64, ofBits, toBits, round, add, sub, mul, div, neg, lt, le, eq, ofInt, toUnsigned}
 use lib.Ieee.Fits.{and-l, and-r}
-use Rattle.order.specs.Numbers.{fzero, half, one, two, nine}
+use Rattle.order.specs.Numbers.{fzero, oneQuarter, half, one, two, nine}
 use Rattle.model.specs.Constants.{restitution}
 use Rattle.root.specs.Isqrt.{near, root}
 use Rattle.root.specs.Root.{rootOf, sqrtOf}
@@ -31,7 +31,7 @@ use Rattle.model.specs.Events.{zeroV, insertBy}
 use Rattle.model.specs.Start.{start}
 use Rattle.halting.specs.Every.{All}
 use Rattle.model.specs.Check.{all}
-use Rattle.model.proofs.Scenes.{plus, minus, periodicBox, walledBox, flooredBox, slider, mover, dt, place, entering, leaving, reflecting, dpos, dvel, colliding, grains, ofGrain, refusal, startIn, outward, inward}
+use Rattle.model.proofs.Scenes.{plus, minus, periodicBox, walledBox, flooredBox, slider, mover, sized, dt, place, entering, leaving, reflecting, dpos, dvel, colliding, grains, ofGrain, refusal, startIn, outward, inward}
 
 -- ---- what an example says: one or more equations, between numbers, lists of them, floats, pairs of floats, tests, or times
 pub data Fact : Type 0 where
@@ -106,6 +106,24 @@ fourteen : length starred ≡ 14
 unfolding starred
 fourteen = refl
 
+-- ---- three at other radii (02, T-04)
+unfoldable pub otherRadii : List Row
+otherRadii =
+    -- a grain of radius 1/4 at x = 1/4 touches the edge at 0 and is in column 0 alone; at 11/4 it touches the border at 3 and is in columns 0 and 1
+    (numbers (cellsOfGrain periodicBox (sized oneQuarter (mover (plus 1 4) fzero))) (3 ∷ []) ∷ numbers (cellsOfGrain periodicBox (sized oneQuarter (mover (plus 11 4) fzero))) (3 ∷ 4 ∷ []) ∷ [])
+    -- radii 1/4 and 1/2, 3 apart, nearing by 2 in a unit of time: c = 9 - 9/16, d = 36 - 4·c = 9/4; they are 3/4 apart after 9/8
+    ∷ (let x = vec (plus 3 1) fzero in
+    let v = vec (minus 2 1) fzero in
+    let p = sized oneQuarter (mover (plus 3 1) one) in
+    let q = mover (plus 6 1) (minus 1 1) in
+    let c = cOf (reach p q) x in
+    float (reach p q) (plus 3 4) ∷ float c (plus 135 16) ∷ float (dOf (aOf v) (bOf x v) c) (plus 9 4) ∷ touch p q x v (After (plus 9 8)))
+    -- radius 1/4 from 9/2 on at speed 1: into the cell that begins at 6 after 5/4, out of its own after 7/4; at the wall at 9 from 15/2 on after 5/4
+    ∷ (let p = sized oneQuarter (mover (plus 9 2) one) in
+    when (dt (entering periodicBox 4 p)) (After (plus 5 4)) ∷ when (dt (leaving periodicBox 4 p)) (After (plus 7 4))
+    ∷ when (dt (reflecting walledBox 5 (sized oneQuarter (mover (plus 15 2) one)))) (After (plus 5 4)) ∷ [])
+    ∷ []
+
 -- ---- the others
 unfoldable pub unstarred : List Row
 unstarred =
@@ -124,8 +142,8 @@ unstarred =
     -- an event goes after one that is as early, and before a later one
     ∷ (numbers (grains (insertBy (ofGrain 2 one) (ofGrain 0 one ∷ ofGrain 1 two ∷ []))) (0 ∷ 2 ∷ 1 ∷ []) ∷ [])
     -- two grains of value 1 that touch in direction 1 bounce by the restitution there, and half of gravity pulls both in direction 0, which has walls
-    ∷ (let p = grainOf (vec (plus 9 2) (plus 4 1)) (vec fzero one) fzero one in
-    let q = grainOf (vec (plus 9 2) (plus 5 1)) (vec fzero (minus 1 1)) fzero one in
+    ∷ (let p = grainOf (vec (plus 9 2) (plus 4 1)) (vec fzero one) fzero one half in
+    let q = grainOf (vec (plus 9 2) (plus 5 1)) (vec fzero (minus 1 1)) fzero one half in
     vector ((place (colliding walledBox p q)) .c) (vec (minus 1 4) (neg restitution)) ∷ vector ((place (colliding walledBox p q)) .d) (vec (minus 1 4) restitution) ∷ [])
     -- a grain of value 0.5 at the low wall and at the high one: its velocity and its value afterwards
     ∷ (let e = place (reflecting walledBox 3 (mover (plus 3 2) (minus 1 1))) in
@@ -140,10 +158,12 @@ unstarred =
     ∷ ends (λ x. grainOk flooredBox (mover x fzero)) (outward (neg fzero)) fzero nine (outward nine)
     ∷ ends (λ y. grainOk flooredBox (slider one y fzero)) (inward half) half (plus 17 2) (outward (plus 17 2))
     ∷ ends (λ y. grainOk walledBox (slider one y fzero)) (outward (neg fzero)) fzero nine (outward nine)
-    -- start velocities, values, sync rates
+    ∷ ends (λ x. grainOk walledBox (sized oneQuarter (mover x fzero))) (inward oneQuarter) oneQuarter (plus 35 4) (outward (plus 35 4))
+    -- start velocities, values, radii, sync rates
     ∷ ends (λ v. grainOk periodicBox (mover one v)) (outward (minus 1024 1)) (minus 1024 1) (plus 1024 1) (outward (plus 1024 1))
-    ∷ ends (λ v. grainOk periodicBox (grainOf (vec one one) (vec fzero v) fzero half)) (outward (minus 1024 1)) (minus 1024 1) (plus 1024 1) (outward (plus 1024 1))
-    ∷ ends (λ w. grainOk periodicBox (grainOf (vec one one) zeroV fzero w)) (outward (neg fzero)) fzero one (outward one)
+    ∷ ends (λ v. grainOk periodicBox (grainOf (vec one one) (vec fzero v) fzero half half)) (outward (minus 1024 1)) (minus 1024 1) (plus 1024 1) (outward (plus 1024 1))
+    ∷ ends (λ w. grainOk periodicBox (grainOf (vec one one) zeroV fzero w half)) (outward (neg fzero)) fzero one (outward one)
+    ∷ ends (λ r. grainOk walledBox (sized r (mover one fzero))) (inward oneQuarter) oneQuarter half (outward half)
     ∷ ends rated (inward (plus 1 (2 ^ 20))) (plus 1 (2 ^ 20)) (plus (2 ^ 20) 1) (outward (plus (2 ^ 20) 1))
     ∷ []
 
@@ -270,6 +290,13 @@ starred-good = tt
 
 pub starred-hold : All Claim starred
 starred-hold = good-rows starred starred-good
+
+radii-good : T (all (all good) otherRadii)
+unfolding otherRadii round add sub mul div neg lt le eq ofInt toUnsigned ofBits toBits rootOf sqrtOf near root leadingZeros across position newPos upFrom reached cellsAt cellsOfGrain apart collision later toNeighbour outOfCell wall
+radii-good = tt
+
+pub sized-hold : All Claim otherRadii
+sized-hold = good-rows otherRadii radii-good
 
 unstarred-good : T (all (all good) unstarred)
 unfolding unstarred round add sub mul div neg lt le eq ofInt toUnsigned ofBits toBits rootOf sqrtOf near root leadingZeros across position newPos apart collision later toNeighbour outOfCell wall insertBy start

@@ -23,7 +23,7 @@ use Rattle.model.specs.State.{State, Row, row, grain, home, listed, queu
 use Rattle.model.specs.Acts.{insert, inserted, first, head, taken, queueRow}
 use Rattle.model.specs.Doing.{stepGrain, doSync, syncAt, execution}
 use Rattle.model.specs.Execute.{Stepped, done, synchronised, halted, finish, headEvent, event, step}
-use Rattle.model.specs.Stepping.{grainOf}
+use Rattle.model.specs.Stepping.{renewed}
 use Rattle.model.specs.Standing.{syncs, one-if}
 use Rattle.model.proofs.Sound.{Sound, Stands, Named, Held}
 use Rattle.model.proofs.Lists.{live-same, live-other}
@@ -120,10 +120,10 @@ module _ (rate : Float) (later : lt rate fzero ≡ false) where
   -- ---- any event of a cell
   pub execute-ends : (e : Event) (c : ℕ) (s : State) → Sound s → c < cells (s .box) → Named (cells (s .box)) c (listed s c) e → Ends (one-if e) s (execution rate e s)
   execute-ends (InterParticleCollision p q x y v w k) c s sound C n =
-      goes-ends s _ (keeps-goes s _ (collision-goes p q (grainOf x v (s .clock) k) (grainOf y w (s .clock) k) s sound ((in-cell p c s sound C (n .0)) .grain) ((in-cell q c s sound C (n .1)) .grain) refl refl))
+      goes-ends s _ (keeps-goes s _ (collision-goes p q (renewed x v (s .clock) k (grain s p)) (renewed y w (s .clock) k (grain s q)) s sound ((in-cell p c s sound C (n .0)) .grain) ((in-cell q c s sound C (n .1)) .grain) refl refl))
   execute-ends (MoveToNeighbour p x k) c s sound C n = goes-ends s _ (neighbour-goes p x k s sound ((in-cell p c s sound C (n .0)) .grain) (n .1))
   execute-ends (MoveOutOfCell p x k) c s sound C n = goes-ends s _ (out-goes p x k s sound (subst (λ (j : ℕ). In p j s) (sym (n .1)) (in-cell p c s sound C (n .0))))
-  execute-ends (WallReflection p x v w) c s sound C n = goes-ends s _ (keeps-goes s _ (wall-goes p (grainOf x v (s .clock) w) s sound ((in-cell p c s sound C (n .0)) .grain) refl))
+  execute-ends (WallReflection p x v w) c s sound C n = goes-ends s _ (keeps-goes s _ (wall-goes p (renewed x v (s .clock) w (grain s p)) s sound ((in-cell p c s sound C (n .0)) .grain) refl))
   execute-ends Synchronisation c s sound C n = sync-ends s sound
 
 -- ---- there is a first event

@@ -15,7 +15,7 @@ use lib.Ieee.{binary64, ofBits, round, add, sub, mul, div, neg, lt, le, eq, ofIn
 use Rattle.root.specs.Isqrt.{near, root}
 use Rattle.root.specs.Root.{rootOf, sqrtOf}
 use Rattle.halting.specs.Every.{every, All}
-use Rattle.order.specs.Numbers.{fzero}
+use Rattle.order.specs.Numbers.{fzero, half}
 use Rattle.myvec.specs.Vec.{vec}
 use Rattle.scheduler.specs.Heap.{timeIn, swapAt, childIn, down, downshifted, parentIn, up, upshifted, updated, numbered, startHeap}
 use Rattle.model.specs.declared.Particle.{Particle}
@@ -236,9 +236,9 @@ rowsOfTwo =
 -- three grains in cell 1, at a wall, at (5.53, 1.66), (4.94, 0.58) and (3.62, 2.01) with velocities (-1.03, -1.45), (-1.22, 0.68) and (0.58, -0.15)
 abbrev pub three : List Particle
 three =
-    grainOf (vec (ofBits binary64 0x40161eb851eb851f) (ofBits binary64 0x3ffa8f5c28f5c28f)) (vec (ofBits binary64 0xbff07ae147ae147b) (ofBits binary64 0xbff7333333333333)) fzero (ofBits binary64 0x3fe999999999999a) ∷
-    grainOf (vec (ofBits binary64 0x4013c28f5c28f5c3) (ofBits binary64 0x3fe28f5c28f5c28f)) (vec (ofBits binary64 0xbff3851eb851eb85) (ofBits binary64 0x3fe5c28f5c28f5c3)) fzero (ofBits binary64 0x3fd3333333333333) ∷
-    grainOf (vec (ofBits binary64 0x400cf5c28f5c28f6) (ofBits binary64 0x4000147ae147ae14)) (vec (ofBits binary64 0x3fe28f5c28f5c28f) (ofBits binary64 0xbfc3333333333333)) fzero (ofBits binary64 0x3fe3333333333333) ∷
+    grainOf (vec (ofBits binary64 0x40161eb851eb851f) (ofBits binary64 0x3ffa8f5c28f5c28f)) (vec (ofBits binary64 0xbff07ae147ae147b) (ofBits binary64 0xbff7333333333333)) fzero (ofBits binary64 0x3fe999999999999a) half ∷
+    grainOf (vec (ofBits binary64 0x4013c28f5c28f5c3) (ofBits binary64 0x3fe28f5c28f5c28f)) (vec (ofBits binary64 0xbff3851eb851eb85) (ofBits binary64 0x3fe5c28f5c28f5c3)) fzero (ofBits binary64 0x3fd3333333333333) half ∷
+    grainOf (vec (ofBits binary64 0x400cf5c28f5c28f6) (ofBits binary64 0x4000147ae147ae14)) (vec (ofBits binary64 0x3fe28f5c28f5c28f) (ofBits binary64 0xbfc3333333333333)) fzero (ofBits binary64 0x3fe3333333333333) half ∷
     []
 
 -- its start finds that 0 will meet 1, and 1 will meet 2; a synchronisation; 0 meets 1, and is found to meet 2 next; 1 comes to the wall, enters cell 0, leaves cell 1; 0 meets 2

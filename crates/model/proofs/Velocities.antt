@@ -14,7 +14,7 @@ use Rattle.model.specs.declared.Particle.{Particle}
 use Rattle.model.specs.declared.Event.{Event}
 use Rattle.model.specs.declared.Event.the-variants.{InterParticleCollision, MoveToNeighbour, MoveOutOfCell, WallReflection, Synchronisation}
 use Rattle.model.specs.State.{State, zeroG, grain, home, listed, requeued}
-use Rattle.model.specs.Stepping.{grainOf, landed}
+use Rattle.model.specs.Stepping.{renewed, landed}
 use Rattle.model.specs.Acts.{cancelled, taken}
 use Rattle.model.specs.Execute.{finish, execute, headEvent, event, step}
 use Rattle.model.specs.Rows.{Act, moving, turning, trying, cancelling, entering, leaving, perform, Acts, ended, act, doing, only, _⨟_, stepping, colliding, finding, bounding, scheduling, reschedules, forgets, actsOf, pairing, firstSync, initiates}
@@ -80,10 +80,10 @@ module _ (g : ℕ) where
       (λ u. every-before (Calm g) _ _ u (calm-forget q u) (calm-both p q))))
 
   pub acts-calm : (rate : Float) (e : Event) (s : State) → turnedBy e g ≡ false → Every (Calm g) (actsOf rate e s)
-  acts-calm rate (InterParticleCollision p q x y v w k) s n = calm-collision p (grainOf x v (s .clock) k) q (grainOf y w (s .clock) k) s (or-false-l (eqb p g) (eqb q g) n) (or-false-r (eqb p g) (eqb q g) n)
+  acts-calm rate (InterParticleCollision p q x y v w k) s n = calm-collision p (renewed x v (s .clock) k (grain s p)) q (renewed y w (s .clock) k (grain s q)) s (or-false-l (eqb p g) (eqb q g) n) (or-false-r (eqb p g) (eqb q g) n)
   acts-calm rate (MoveToNeighbour p x k) s n = every-before (Calm g) _ _ s (refl, λ u. tt) (λ u. every-before (Calm g) _ _ u (refl, λ v. tt) (calm-schedule p k))
   acts-calm rate (MoveOutOfCell p x k) s n = every-before (Calm g) _ _ s (refl, λ u. tt) (λ u. every-before (Calm g) _ _ u (refl, λ v. tt) (λ v. (refl, λ w. tt)))
-  acts-calm rate (WallReflection p x v w) s n = calm-wall p (grainOf x v (s .clock) w) s n
+  acts-calm rate (WallReflection p x v w) s n = calm-wall p (renewed x v (s .clock) w (grain s p)) s n
   acts-calm rate Synchronisation s n = every-before (Calm g) _ _ s (every-turn (Calm g) stepping (length (s .grains)) 0 s (λ i u. (refl, λ v. tt))) (λ u. (refl, λ v. tt))
 
 -- ---- EVERY ACT BUT A TURN KEEPS EVERY VELOCITY, done or refused

@@ -20,7 +20,7 @@ use Rattle.model.specs.declared.Event.the-variants.{InterParticleCollisi
 use Rattle.model.specs.declared.Place.{Place}
 use Rattle.model.specs.Events.{eventOf, names, headPlace}
 use Rattle.model.specs.State.{State, Row, liveAt, grain, home, listed, queue, has, requeued}
-use Rattle.model.specs.Stepping.{grainOf, landed}
+use Rattle.model.specs.Stepping.{renewed, landed}
 use Rattle.model.specs.declared.Bound.{Bound}
 use Rattle.model.specs.declared.Bound.the-variants.{ToNeighbour, OutOfCell, Wall}
 use Rattle.model.specs.Rows.{Rule, pair, bound, sync, about, moving, cancelling, entering, leaving, Acts, doing, only, _⨟_, ofEach, inTurn, stepping, colliding, bounding, scheduling, reschedules, forgets, actsOf, pairing, firstSync, initiates}
@@ -233,14 +233,14 @@ module _ (n : ℕ) (rate : Float) (c₀ : ℕ) (s : State) (h : History) (sound 
   execute-kept (InterParticleCollision p q x y v w k) m z prior =
       let P = (in-cell p c₀ s sound C (m .0)) .grain in
       let Q = (in-cell q c₀ s sound C (m .1)) .grain in
-      as-lists (InterParticleCollision p q x y v w k) (collision-goes p q (grainOf x v (s .clock) k) (grainOf y w (s .clock) k) s sound P Q refl refl .frame .members)
-      (collision-kept n p (grainOf x v (s .clock) k) s h sound t N P refl q (grainOf y w (s .clock) k) Q refl (λ c D r o e f. prior c D r o (e, f)) z)
+      as-lists (InterParticleCollision p q x y v w k) (collision-goes p q (renewed x v (s .clock) k (grain s p)) (renewed y w (s .clock) k (grain s q)) s sound P Q refl refl .frame .members)
+      (collision-kept n p (renewed x v (s .clock) k (grain s p)) s h sound t N P refl q (renewed y w (s .clock) k (grain s q)) Q refl (λ c D r o e f. prior c D r o (e, f)) z)
   execute-kept (MoveToNeighbour p x k) m z prior = neighbour-kept n p x k s h sound N ((in-cell p c₀ s sound C (m .0)) .grain) (m .1) (λ c D r o. prior c D r o tt) z
   execute-kept (MoveOutOfCell p x k) m z prior = out-kept n p x k s h sound N ((in-cell p c₀ s sound C (m .0)) .grain) (rw (m .1) C) prior z
   execute-kept (WallReflection p x v w) m z prior =
       let P = (in-cell p c₀ s sound C (m .0)) .grain in
-      as-lists (WallReflection p x v w) (wall-goes p (grainOf x v (s .clock) w) s sound P refl .frame .members)
-      (wall-kept n p (grainOf x v (s .clock) w) s h sound t N P refl (λ c D r o e. prior c D r o (e, tt)) z)
+      as-lists (WallReflection p x v w) (wall-goes p (renewed x v (s .clock) w (grain s p)) s sound P refl .frame .members)
+      (wall-kept n p (renewed x v (s .clock) w (grain s p)) s h sound t N P refl (λ c D r o e. prior c D r o (e, tt)) z)
   execute-kept Synchronisation m z prior =
       let mild : Every Mild (actsOf rate Synchronisation s) = every-before Mild _ _ s (every-turn Mild stepping (length (s .grains)) 0 s mild-step) (λ u. ((refl, λ g. refl), λ v. tt)) in
       λ c D r o. row-mild c r (actsOf rate Synchronisation s) s h mild (prior c D r (same-concerns s ((doing (actsOf rate Synchronisation s) s) .st) c r (row-lists (actsOf rate Synchronisation s) s mild .0) o) tt)
