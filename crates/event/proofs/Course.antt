@@ -9,7 +9,6 @@ use Rattle.myvec.specs.Vec.{along}
 use Rattle.model.specs.declared.Domain.{Domain}
 use Rattle.model.specs.declared.Particle.{Particle}
 use Rattle.model.specs.declared.CellPosition.the-variants.{NegativeEdge, Centre, PositiveEdge}
-use Rattle.model.specs.Constants.{radiusOf}
 use Rattle.model.specs.Grid.{lengthOf, periodic}
 use Rattle.model.specs.Moves.{shut, moveDt, aside, gap}
 use Rattle.model.specs.Walls.{noWall, wallVal}
@@ -22,7 +21,7 @@ use Rattle.event.specs.Course.{courseOf, lowIn, stillIn, edgeIn, shutIn,
 
 -- ---- a course, from what is read of the box, the cell and the grain
 pub course-by : (b : Domain) (k : Cell) (d : ℕ) (p : Particle) (per : Bool) (l x v rad : Float) (a : CellAlong) → IsCell b k
-    → per ≡ periodic d b → l ≡ lengthOf d b → x ≡ along d (p .pos) → v ≡ along d (p .vel) → rad ≡ radiusOf p → a ≡ alongIn k d
+    → per ≡ periodic d b → l ≡ lengthOf d b → x ≡ along d (p .pos) → v ≡ along d (p .vel) → rad ≡ p .rad → a ≡ alongIn k d
     → record { periodic = per; length = l; pos = x; vel = v; rad = rad; cell = a } ≡ courseOf d b (k .index) p
 unfolding courseOf
 course-by b k d p per l x v rad a h e f g i r j =
@@ -69,7 +68,7 @@ module _ (d : ℕ) (b : Domain) (c : ℕ) (p : Particle) (m : Course) (M : m ≡
   shut-is = ap shutIn M
 
   -- to the neighbour with the radius, out of the cell with its sign flipped
-  pub dt-is : (f : Float → Float) → dtIn m (f (m .rad)) ≡ moveDt d b c (f (radiusOf p)) p
+  pub dt-is : (f : Float → Float) → dtIn m (f (m .rad)) ≡ moveDt d b c (f (p .rad)) p
   unfolding courseOf cellAlong
   dt-is f = ap (λ (m : Course). dtIn m (f (m .rad))) M
 
@@ -85,7 +84,7 @@ module _ (d : ℕ) (b : Domain) (c : ℕ) (p : Particle) (m : Course) (M : m ≡
   unfolding courseOf
   vel-is = ap (λ (m : Course). m .vel) M
 
-  pub wall-dt-is : div binary64 (gapIn m (m .rad)) (m .vel) ≡ div binary64 (gap d b c (radiusOf p) p) (along d (p .vel))
+  pub wall-dt-is : div binary64 (gapIn m (m .rad)) (m .vel) ≡ div binary64 (gap d b c (p .rad) p) (along d (p .vel))
   unfolding courseOf cellAlong
   wall-dt-is = ap (λ (m : Course). div binary64 (gapIn m (m .rad)) (m .vel)) M
 

@@ -12,7 +12,6 @@ use Rattle.model.specs.declared.Event.{Event}
 use Rattle.model.specs.declared.Event.the-variants.{MoveToNeighbour, MoveOutOfCell, WallReflection}
 use Rattle.model.specs.declared.Plan.{Plan}
 use Rattle.model.specs.declared.Plan.the-variants.{Nothing}
-use Rattle.model.specs.Constants.{radiusOf}
 use Rattle.model.specs.Stepping.{newPos, due}
 use Rattle.model.specs.Moves.{later, shut, moveDt, aside, gap, toNeighbour, outOfCell}
 use Rattle.model.specs.Walls.{noWall, wallVal, wall}
@@ -44,38 +43,38 @@ module _ (d : ℕ) (b : Domain) (t : Float) (c i : ℕ) (p : Particle) (m : Cour
 
   pub neighbour-none : s ≡ shutIn m → s ≡ true → Nothing ≡ toNeighbour d b t c i p
   unfolding toNeighbour
-  neighbour-none n e = none (shut d b c p) t (moveDt d b c (radiusOf p) p) entering s (n ∙ shut-is d b c p m M) e
+  neighbour-none n e = none (shut d b c p) t (moveDt d b c (p .rad) p) entering s (n ∙ shut-is d b c p m M) e
 
   pub neighbour-early : (dt : Float) → s ≡ shutIn m → s ≡ false → dt ≡ dtIn m (m .rad) → le dt fzero ≡ true → Nothing ≡ toNeighbour d b t c i p
   unfolding toNeighbour
-  neighbour-early dt n e f g = early (shut d b c p) t (moveDt d b c (radiusOf p) p) entering s dt (n ∙ shut-is d b c p m M) e (f ∙ dt-is d b c p m M (λ r. r)) g
+  neighbour-early dt n e f g = early (shut d b c p) t (moveDt d b c (p .rad) p) entering s dt (n ∙ shut-is d b c p m M) e (f ∙ dt-is d b c p m M (λ r. r)) g
 
   pub neighbour-found : (dt : Float) (x : MyVec) (k : ℕ) (r : Plan) → s ≡ shutIn m → s ≡ false → dt ≡ dtIn m (m .rad) → le dt fzero ≡ false
       → x ≡ newPos b (p .pos) (p .vel) dt → k ≡ asideIn m → r ≡ due t dt (MoveToNeighbour i x k) → r ≡ toNeighbour d b t c i p
   unfolding toNeighbour
   neighbour-found dt x k r n e f g h j q =
       let w : k ≡ aside d b c p = j ∙ aside-is d b c p m M in
-      found (shut d b c p) t (moveDt d b c (radiusOf p) p) entering s dt r (n ∙ shut-is d b c p m M) e (f ∙ dt-is d b c p m M (λ r. r)) g (q ∙ (λ u. due t dt (MoveToNeighbour i (h u) (w u))))
+      found (shut d b c p) t (moveDt d b c (p .rad) p) entering s dt r (n ∙ shut-is d b c p m M) e (f ∙ dt-is d b c p m M (λ r. r)) g (q ∙ (λ u. due t dt (MoveToNeighbour i (h u) (w u))))
 
   abbrev leaving : Float → Event
   leaving dt = MoveOutOfCell i (newPos b (p .pos) (p .vel) dt) c
 
   pub out-none : s ≡ shutIn m → s ≡ true → Nothing ≡ outOfCell d b t c i p
   unfolding outOfCell
-  out-none n e = none (shut d b c p) t (moveDt d b c (neg (radiusOf p)) p) leaving s (n ∙ shut-is d b c p m M) e
+  out-none n e = none (shut d b c p) t (moveDt d b c (neg (p .rad)) p) leaving s (n ∙ shut-is d b c p m M) e
 
   pub out-early : (dt : Float) → s ≡ shutIn m → s ≡ false → dt ≡ dtIn m (neg (m .rad)) → le dt fzero ≡ true → Nothing ≡ outOfCell d b t c i p
   unfolding outOfCell
-  out-early dt n e f g = early (shut d b c p) t (moveDt d b c (neg (radiusOf p)) p) leaving s dt (n ∙ shut-is d b c p m M) e (f ∙ dt-is d b c p m M neg) g
+  out-early dt n e f g = early (shut d b c p) t (moveDt d b c (neg (p .rad)) p) leaving s dt (n ∙ shut-is d b c p m M) e (f ∙ dt-is d b c p m M neg) g
 
   pub out-found : (dt : Float) (x : MyVec) (r : Plan) → s ≡ shutIn m → s ≡ false → dt ≡ dtIn m (neg (m .rad)) → le dt fzero ≡ false
       → x ≡ newPos b (p .pos) (p .vel) dt → r ≡ due t dt (MoveOutOfCell i x c) → r ≡ outOfCell d b t c i p
   unfolding outOfCell
   out-found dt x r n e f g h q =
-      found (shut d b c p) t (moveDt d b c (neg (radiusOf p)) p) leaving s dt r (n ∙ shut-is d b c p m M) e (f ∙ dt-is d b c p m M neg) g (q ∙ ap (λ (x : MyVec). due t dt (MoveOutOfCell i x c)) h)
+      found (shut d b c p) t (moveDt d b c (neg (p .rad)) p) leaving s dt r (n ∙ shut-is d b c p m M) e (f ∙ dt-is d b c p m M neg) g (q ∙ ap (λ (x : MyVec). due t dt (MoveOutOfCell i x c)) h)
 
   abbrev wallDt : Float
-  wallDt = div binary64 (gap d b c (radiusOf p) p) (along d (p .vel))
+  wallDt = div binary64 (gap d b c (p .rad) p) (along d (p .vel))
 
   abbrev reflecting : Float → Event
   reflecting dt = WallReflection i (newPos b (p .pos) (p .vel) dt) (bent d (neg (along d (p .vel))) (p .vel)) (wallVal d b p)

@@ -7,7 +7,7 @@ use Rattle.order.specs.Numbers.{fzero}
 use Rattle.myvec.specs.Vec.{along}
 use Rattle.model.specs.declared.Domain.{Domain}
 use Rattle.model.specs.declared.Particle.{Particle}
-use Rattle.model.specs.Constants.{radiusOf, wallOf, wallFactor}
+use Rattle.model.specs.Constants.{wallOf, wallFactor}
 use Rattle.model.specs.Grid.{lengthOf, periodic, isLow, isHigh}
 use Rattle.model.specs.Periodic.{corrected}
 use Rattle.cell.specs.Cell.{cellAlong}
@@ -15,7 +15,7 @@ use Rattle.event.specs.declared.util.Course.{Course}
 
 unfoldable pub courseOf : ℕ → Domain → ℕ → Particle → Course
 courseOf d b c p =
-    record { periodic = periodic d b; length = lengthOf d b; pos = along d (p .pos); vel = along d (p .vel); rad = radiusOf p; cell = cellAlong d b c }
+    record { periodic = periodic d b; length = lengthOf d b; pos = along d (p .pos); vel = along d (p .vel); rad = p .rad; cell = cellAlong d b c }
 
 abbrev pub lowIn : Course → Bool
 lowIn m = lt (m .vel) fzero

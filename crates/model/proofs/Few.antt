@@ -1,4 +1,4 @@
--- Inside the box a grain touches at most two cells of a direction (`few-inside`): the kernel's span of [x - 1/2, x + 1/2] has at most two. Assumes nothing.
+-- Inside the box a grain touches at most two cells of a direction (`few-inside`): the kernel's span of [x - r, x + r] has at most two, for every radius r up to 1/2. Assumes nothing.
 use mathlib.Core.Path.{_≡_, refl, sym, ap, _∙_, subst}
 use mathlib.Core.Logic.{inl, inr}
 use mathlib.Core.List.{List, [], _∷_}
@@ -14,12 +14,12 @@ use lib.Ieee.Positive.{num, den, positive, den-pos, through}
 use Rattle.order.proofs.Order as O
 use Rattle.order.proofs.Cut.{cut-mono}
 use Rattle.order.specs.Numbers.{one, two}
-use Rattle.model.specs.Constants.{greatestRadius as radius, longest}
+use Rattle.model.specs.Constants.{greatestRadius, longest}
 use Rattle.model.specs.FromPToC.{width, firstCell, endCell}
 use Rattle.order.proofs.Mono.{plain, positive-plain, le→fr, div-is, add-mono, sub-mono, div-mono, num-pos}
 use Rattle.root.proofs.Cases.{no-nan}
-use Rattle.model.proofs.Quarters.{cnt, Facts, passed, tested, nth, quarter, high-end, half-plain}
-use Rattle.model.proofs.Kernels.{cut, half-self, two-positive, max-cut-ge, min-cut-le, cut-count, cnt-is, quotient-plain, one-plain, fortyeight-plain}
+use Rattle.model.proofs.Quarters.{cnt, Facts, passed, tested, nth, half-plain}
+use Rattle.model.proofs.Kernels.{cut, sum-mono, two-positive, max-cut-ge, min-cut-le, cut-count, cnt-is, quotient-plain, one-plain, fortyeight-plain}
 
 -- ---- fractions: A/P ≤ (i+5)/4, i/4 ≤ a/p, a/p < (k+1) c/d, 2 ≤ c/d: then A/P ≤ (k + 15/8) c/d
 far-enough : (A P a p c d i k : ℕ) → 0 < p → A * 4 ≤ (i + 5) * P → i * p ≤ a * 4 → a * d ≤ suc k * (c * p) → 2 * d ≤ c → A * d * 8 ≤ (8 * k + 15) * (c * P)
@@ -125,15 +125,18 @@ module _ (l : Float) (n : ℕ) (F : Facts l n) (m k : Float) (pm : T (plain m)) 
       last h p q lo c a b d e = omega arith
 
 -- ---- the two ends of a grain are at most 5/4 apart: by quarters of a position, 1/2 to 48
+abbrev quarter : ℕ → Float
+quarter k = round binary64 false k 4
+
 abbrev ends2 : Float → Float → ℕ → List Bool
 ends2 a b j =
     positive a
     ∷ positive b
-    ∷ le radius a
-    ∷ plain (add binary64 b radius)
-    ∷ plain (sub binary64 a radius)
-    ∷ leb (num (add binary64 b radius) * 4) ((j - 2 + 5) * den (add binary64 b radius))
-    ∷ leb ((j - 2) * den (sub binary64 a radius)) (num (sub binary64 a radius) * 4)
+    ∷ le greatestRadius a
+    ∷ plain (add binary64 b greatestRadius)
+    ∷ plain (sub binary64 a greatestRadius)
+    ∷ leb (num (add binary64 b greatestRadius) * 4) ((j - 2 + 5) * den (add binary64 b greatestRadius))
+    ∷ leb ((j - 2) * den (sub binary64 a greatestRadius)) (num (sub binary64 a greatestRadius) * 4)
     ∷ []
 
 abbrev row2 : ℕ → Bool
@@ -147,46 +150,50 @@ checked2 : T (rows2 190 2)
 unfolding round add sub le ofBits
 checked2 = tt
 
-pub record Near (x : Float) : Type 0 where
+pub record Near (x r : Float) : Type 0 where
   pub i : ℕ
-  pub high : num (add binary64 x radius) * 4 ≤ (i + 5) * den (add binary64 x radius)
-  pub deep : i * den (sub binary64 x radius) ≤ num (sub binary64 x radius) * 4
+  pub high : num (add binary64 x r) * 4 ≤ (i + 5) * den (add binary64 x r)
+  pub deep : i * den (sub binary64 x r) ≤ num (sub binary64 x r) * 4
 
-module _ (x : Float) (px : T (plain x)) (hx : T (le radius x)) (M : T (plain (add binary64 x radius))) (N : T (plain (sub binary64 x radius))) (x48 : T (le x (quarter 192))) where
-  at2 : (j : ℕ) → T (row2 j) → T (le (quarter j) x) → T (le x (quarter (suc j))) → Near x
-  at2 j r ha hb =
+module _ (x r : Float) (px : T (plain x)) (pr : T (plain r)) (hr : T (le r greatestRadius)) (hx : T (le greatestRadius x)) (M : T (plain (add binary64 x r))) (N : T (plain (sub binary64 x r))) (x48 : T (le x (quarter 192))) where
+  at2 : (j : ℕ) → T (row2 j) → T (le (quarter j) x) → T (le x (quarter (suc j))) → Near x r
+  at2 j t ha hb =
       let a = quarter j in
       let b = quarter (suc j) in
-      let e : (k : ℕ) → T (nth (ends2 a b j) k) = passed (ends2 a b j) r in
-      let u = add binary64 b radius in
-      let v = sub binary64 a radius in
+      let e : (k : ℕ) → T (nth (ends2 a b j) k) = passed (ends2 a b j) t in
+      let u = add binary64 b greatestRadius in
+      let v = sub binary64 a greatestRadius in
       record {
         i = j - 2;
-        high = through (num (add binary64 x radius)) (num u) (j - 2 + 5) (den (add binary64 x radius)) (den u) 4 (den-pos u)
-            (le→fr (add binary64 x radius) u M (e 3) (add-mono binary64 x b radius px (positive-plain b (e 1)) half-plain hb))
+        high = through (num (add binary64 x r)) (num u) (j - 2 + 5) (den (add binary64 x r)) (den u) 4 (den-pos u)
+            (le→fr (add binary64 x r) u M (e 3) (sum-mono x b r greatestRadius px (positive-plain b (e 1)) pr half-plain hb hr))
             (leb→le (num u * 4) ((j - 2 + 5) * den u) (e 5));
-        deep = through (j - 2) (num v) (num (sub binary64 x radius)) 4 (den v) (den (sub binary64 x radius)) (den-pos v)
+        deep = through (j - 2) (num v) (num (sub binary64 x r)) 4 (den v) (den (sub binary64 x r)) (den-pos v)
             (leb→le ((j - 2) * den v) (num v * 4) (e 6))
-            (le→fr v (sub binary64 x radius) (e 4) N (sub-mono binary64 a x radius radius (positive-plain a (e 0)) px half-plain half-plain (e 2) hx ha half-self));
+            (le→fr v (sub binary64 x r) (e 4) N (sub-mono binary64 a x greatestRadius r (positive-plain a (e 0)) px half-plain pr (e 2) (O.le-trans r greatestRadius x hr hx) ha hr));
       }
 
-  next2 : (j : ℕ) (b : Bool) → le x (quarter (suc j)) ≡ b → T (row2 j) → T (le (quarter j) x) → (T (le (quarter (suc j)) x) → Near x) → Near x
-  next2 j true h r a again = at2 j r a (subst T (sym h) tt)
-  next2 j false h r a again = again (elim (O.le-total x (quarter (suc j)) (O.le-left x (quarter 192) x48) (no-nan (quarter (suc j)) (passed (ends2 (quarter j) (quarter (suc j)) j) r 1))) [ inl t ↦ absurd (subst T h t) | inr t ↦ t ])
+  next2 : (j : ℕ) (b : Bool) → le x (quarter (suc j)) ≡ b → T (row2 j) → T (le (quarter j) x) → (T (le (quarter (suc j)) x) → Near x r) → Near x r
+  next2 j true h t a again = at2 j t a (subst T (sym h) tt)
+  next2 j false h t a again = again (elim (O.le-total x (quarter (suc j)) (O.le-left x (quarter 192) x48) (no-nan (quarter (suc j)) (passed (ends2 (quarter j) (quarter (suc j)) j) t 1))) [ inl s ↦ absurd (subst T h s) | inr s ↦ s ])
 
-  walk2 : (c j : ℕ) → j + suc c ≡ 192 → T (rows2 (suc c) j) → T (le (quarter j) x) → Near x
-  walk2 zero j e r a = at2 j (and-l (row2 j) true r) a (subst (λ (k : ℕ). T (le x (quarter k))) (sym e ∙ add-suc j 0 ∙ ap suc (add-zero j)) x48)
-  walk2 (suc c) j e r a = next2 j (le x (quarter (suc j))) refl (and-l (row2 j) (rows2 (suc c) (suc j)) r) a (walk2 c (suc j) (suc-add j (suc c) ∙ sym (add-suc j (suc c)) ∙ e) (and-r (row2 j) (rows2 (suc c) (suc j)) r))
+  walk2 : (c j : ℕ) → j + suc c ≡ 192 → T (rows2 (suc c) j) → T (le (quarter j) x) → Near x r
+  walk2 zero j e t a = at2 j (and-l (row2 j) true t) a (subst (λ (k : ℕ). T (le x (quarter k))) (sym e ∙ add-suc j 0 ∙ ap suc (add-zero j)) x48)
+  walk2 (suc c) j e t a = next2 j (le x (quarter (suc j))) refl (and-l (row2 j) (rows2 (suc c) (suc j)) t) a (walk2 c (suc j) (suc-add j (suc c) ∙ sym (add-suc j (suc c)) ∙ e) (and-r (row2 j) (rows2 (suc c) (suc j)) t))
 
-half-quarter : quarter 2 ≡ radius
+half-quarter : quarter 2 ≡ greatestRadius
 unfolding round ofBits
 half-quarter = refl
 
-pub near : (x : Float) → T (plain x) → T (le radius x) → T (le x longest) → T (plain (add binary64 x radius)) → T (plain (sub binary64 x radius)) → Near x
-near x px hx x48 M N = walk2 x px hx M N (subst (λ (z : Float). T (le x z)) (sym high-end) x48) 189 2 refl checked2 (subst (λ (z : Float). T (le z x)) (sym half-quarter) hx)
+high-end : quarter 192 ≡ longest
+unfolding round ofBits
+high-end = refl
 
--- inside the box: at most two cells
-pub few-inside : (l : Float) (n : ℕ) (F : Facts l n) (x : Float) → T (plain x) → T (le radius x) → T (le x longest) → T (plain (add binary64 x radius)) → T (plain (sub binary64 x radius))
-    → T (le (sub binary64 x radius) longest) → T (le (add binary64 x radius) longest)
-    → endCell l n (add binary64 x radius) ≤ suc (suc (firstCell l n (sub binary64 x radius)))
-few-inside l n F x px hx x48 M N m48 k48 = let q = near x px hx x48 M N in few l n F (sub binary64 x radius) (add binary64 x radius) N M m48 k48 (q .i) (q .high) (q .deep)
+near : (x r : Float) → T (plain x) → T (plain r) → T (le r greatestRadius) → T (le greatestRadius x) → T (le x longest) → T (plain (add binary64 x r)) → T (plain (sub binary64 x r)) → Near x r
+near x r px pr hr hx x48 M N = walk2 x r px pr hr hx M N (subst (λ (z : Float). T (le x z)) (sym high-end) x48) 189 2 refl checked2 (subst (λ (z : Float). T (le z x)) (sym half-quarter) hx)
+
+-- inside the box, from 1/2 on: at most two cells
+pub few-inside : (l : Float) (n : ℕ) (F : Facts l n) (x r : Float) → T (plain x) → T (plain r) → T (le r greatestRadius) → T (le greatestRadius x) → T (le x longest) → T (plain (add binary64 x r)) → T (plain (sub binary64 x r))
+    → T (le (sub binary64 x r) longest) → T (le (add binary64 x r) longest)
+    → endCell l n (add binary64 x r) ≤ suc (suc (firstCell l n (sub binary64 x r)))
+few-inside l n F x r px pr hr hx x48 M N m48 k48 = let q = near x r px pr hr hx x48 M N in few l n F (sub binary64 x r) (add binary64 x r) N M m48 k48 (q .i) (q .high) (q .deep)

@@ -1,7 +1,7 @@
 -- The theorems over the definitions of document 01, and what leads to them.
 -- What is claimed: demand 3 (Demand3) of what is reached (Reached), shown not to be empty (Shown); halts (Halts, OneHalt), the numbers given exactly if (Exactly, Refusals), the
 -- grain named and the budgets (Allowed), what counts are (Counts), what cannot happen (Never); an equal waits (Inserts), a cancelling forgets (Forgets), no grain is born outside
--- every cell (Born); 01's examples (Starred, over the boxes and grains of Scenes).
+-- every cell (Born), a radius is for life (Radii); 01's examples (Starred, over the boxes and grains of Scenes).
 pub mod Demand3
 pub mod Reached
 pub mod Shown
@@ -15,6 +15,7 @@ pub mod Never
 pub mod Inserts
 pub mod Forgets
 pub mod Born
+pub mod Radii
 pub mod Starred
 pub mod Scenes
 -- That the heap does, and check 10 answers, what they did when an empty list read as a time (AsBefore), and so every start and every run (Results).

@@ -192,6 +192,13 @@ pub begin-is : (b : Domain) (room : ℕ) (gs : List Particle) → begin b room g
 unfolding begin beginning
 begin-is b room gs = is-then (is-turns (goes-is gs) (length gs) 0) (is-turns init-is (cells b) 0) .same (clear b room (length gs))
 
+-- a start's first part so, and its second by its row
+pub begin-parts : (b : Domain) (room : ℕ) (gs : List Particle) → begin b room gs ≡ then (each (goesIn gs) (length gs) 0 (clear b room (length gs))) (λ u. doing (inTurn initiates (cells b) 0 u) u)
+unfolding begin
+begin-parts b room gs =
+    let s = clear b room (length gs) in
+    before-is (inTurn (goes gs) (length gs) 0 s) (inTurn initiates (cells b) 0) s ∙ ap (λ (o : Out State). then o (λ u. doing (inTurn initiates (cells b) 0 u) u)) (is-turns (goes-is gs) (length gs) 0 .same s)
+
 -- ---- so each did acts, up to one that is refused
 doing-acted : (w : Acts) (s : State) → Acted s (doing w s)
 unfolding doing

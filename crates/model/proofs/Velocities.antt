@@ -51,7 +51,7 @@ module _ (g : ℕ) where
   pub calm-again : (p : ℕ) (s : State) → Every (Calm g) (reschedules p s)
   calm-again p s = every-each (Calm g) (scheduling p) (home s p) s (calm-schedule p)
 
-  calm-forget : (p : ℕ) (s : State) → Every (Calm g) (forgets p s)
+  pub calm-forget : (p : ℕ) (s : State) → Every (Calm g) (forgets p s)
   calm-forget p s = every-each (Calm g) (λ c. only (cancelling p c)) (home s p) s (λ c u. (refl, λ v. tt))
 
   calm-pairs : (c : ℕ) (l : List ℕ) (s : State) → Every (Calm g) (pairing c l s)

@@ -10,7 +10,6 @@ use Rattle.myvec.specs.declared.MyVec.{MyVec}
 use Rattle.myvec.specs.Vec.{vec, vadd, vscale}
 use Rattle.model.specs.declared.Domain.{Domain}
 use Rattle.model.specs.declared.Particle.{Particle}
-use Rattle.model.specs.Constants.{radiusOf}
 use Rattle.model.specs.Grid.{lengthOf, across, cellAt}
 use Rattle.model.specs.Stepping.{wrapped, newPos}
 use Rattle.model.specs.FromPToC.{upFrom, between, reached, cellsAt, cellsOfGrain}
@@ -46,11 +45,11 @@ spans-list l n rad x = by-tests (lt (sub binary64 x rad) fzero) (lt l (add binar
 
 -- each span of direction 1, and in it each span of direction 0
 pub grain-list : (b : Domain) (p : Particle)
-    → cellsAt b (cellsIn (spansOf (lengthOf 0 b) (across 0 b) (radiusOf p) (p .pos .x))) (cellsIn (spansOf (lengthOf 1 b) (across 1 b) (radiusOf p) (p .pos .y)))
+    → cellsAt b (cellsIn (spansOf (lengthOf 0 b) (across 0 b) (p .rad) (p .pos .x))) (cellsIn (spansOf (lengthOf 1 b) (across 1 b) (p .rad) (p .pos .y)))
     ≡ cellsOfGrain b p
 unfolding cellsOfGrain
 grain-list b p = λ i.
-    cellsAt b (spans-list (lengthOf 0 b) (across 0 b) (radiusOf p) (p .pos .x) i) (spans-list (lengthOf 1 b) (across 1 b) (radiusOf p) (p .pos .y) i)
+    cellsAt b (spans-list (lengthOf 0 b) (across 0 b) (p .rad) (p .pos .x) i) (spans-list (lengthOf 1 b) (across 1 b) (p .rad) (p .pos .y) i)
 
 pub rows-append : (b : Domain) (is js ks : List ℕ) → cellsAt b is (js ++ ks) ≡ cellsAt b is js ++ cellsAt b is ks
 unfolding cellsAt

@@ -11,7 +11,6 @@ use Rattle.halting.specs.Every.{All}
 use Rattle.halting.specs.Out.{Out, then, eachOf}
 use Rattle.model.specs.declared.Domain.{Domain}
 use Rattle.model.specs.declared.Particle.{Particle}
-use Rattle.model.specs.Constants.{radiusOf}
 use Rattle.model.specs.Grid.{lengthOf, across, cells}
 use Rattle.model.specs.Stepping.{atZero}
 use Rattle.model.specs.FromPToC.{cellsOfGrain}
@@ -33,12 +32,12 @@ use Rattle.starting.specs.Grains.{InBoth, BothTold, Going}
 use Rattle.starting.proofs.EntryLaws.{rows-grid}
 
 -- ---- the cells
-pub cells-are : (b : Domain) (g : Grid) (p : Particle) (rad : Float) (x y : Spans) → g ≡ gridOf b → rad ≡ radiusOf p
-    → x ≡ spansOf (lengthOf 0 b) (g .n0) rad (p .pos .x) → y ≡ spansOf (lengthOf 1 b) (g .n1) rad (p .pos .y) → gridCells (g .n0) (cellsIn x) (cellsIn y) ≡ cellsOfGrain b p
-cells-are b g p rad x y e f h k =
+pub cells-are : (b : Domain) (g : Grid) (p : Particle) (x y : Spans) → g ≡ gridOf b
+    → x ≡ spansOf (lengthOf 0 b) (g .n0) (p .rad) (p .pos .x) → y ≡ spansOf (lengthOf 1 b) (g .n1) (p .rad) (p .pos .y) → gridCells (g .n0) (cellsIn x) (cellsIn y) ≡ cellsOfGrain b p
+cells-are b g p x y e h k =
     (λ i. gridCells (g .n0) (cellsIn (h i)) (cellsIn (k i)))
-    ∙ (λ i. gridCells (e i .n0) (cellsIn (spansOf (lengthOf 0 b) (e i .n0) (f i) (p .pos .x))) (cellsIn (spansOf (lengthOf 1 b) (e i .n1) (f i) (p .pos .y))))
-    ∙ sym (rows-grid b (cellsIn (spansOf (lengthOf 0 b) (across 0 b) (radiusOf p) (p .pos .x))) (cellsIn (spansOf (lengthOf 1 b) (across 1 b) (radiusOf p) (p .pos .y))))
+    ∙ (λ i. gridCells (e i .n0) (cellsIn (spansOf (lengthOf 0 b) (e i .n0) (p .rad) (p .pos .x))) (cellsIn (spansOf (lengthOf 1 b) (e i .n1) (p .rad) (p .pos .y))))
+    ∙ sym (rows-grid b (cellsIn (spansOf (lengthOf 0 b) (across 0 b) (p .rad) (p .pos .x))) (cellsIn (spansOf (lengthOf 1 b) (across 1 b) (p .rad) (p .pos .y))))
     ∙ grain-list b p
 
 under-every : (n : ℕ) (l : List ℕ) → Under n l → All (λ (c : ℕ). c < n) l
@@ -57,14 +56,14 @@ under-every n (x ∷ l) u = (u x (first x), under-every n l (λ y h. u y (later 
         or-yes mathlib.Core.Bool.false = refl
 
 module _ {z : Sizes} {b : Domain} {g : Grid} {inputs : List Float} {l : List ℕ} {t : List Float} (G : Going z b g inputs l t) where
-  pub enters-all : (i : ℕ) (p : Particle) (rad : Float) (x y : Spans) → i < z .grains → rad ≡ radiusOf p
-      → x ≡ spansOf (lengthOf 0 b) (g .n0) rad (p .pos .x) → y ≡ spansOf (lengthOf 1 b) (g .n1) rad (p .pos .y) → Enters z l i (gridCells (g .n0) (cellsIn x) (cellsIn y))
-  enters-all i p rad x y h f j k = record {
+  pub enters-all : (i : ℕ) (p : Particle) (x y : Spans) → i < z .grains
+      → x ≡ spansOf (lengthOf 0 b) (g .n0) (p .rad) (p .pos .x) → y ≡ spansOf (lengthOf 1 b) (g .n1) (p .rad) (p .pos .y) → Enters z l i (gridCells (g .n0) (cellsIn x) (cellsIn y))
+  enters-all i p x y h j k = record {
     lists = (G .held .0, G .held .1 .lists);
     ranged = G .ranged;
     known = h;
     below = subst (λ (n : ℕ). All (λ (c : ℕ). c < n) (gridCells (g .n0) (cellsIn x) (cellsIn y))) (sym (G .cells-are))
-        (subst (All (λ (c : ℕ). c < cells b)) (sym (cells-are b g p rad x y (G .laid .grid) f j k)) (under-every (cells b) (cellsOfGrain b p) (cells-under b p (G .laid .box))));
+        (subst (All (λ (c : ℕ). c < cells b)) (sym (cells-are b g p x y (G .laid .grid) j k)) (under-every (cells b) (cellsOfGrain b p) (cells-under b p (G .laid .box))));
   }
 
 pub grid-few : (b : Domain) (g : Grid) → Laid b g → (g .n0 ≤ 16) × (g .n1 ≤ 16)

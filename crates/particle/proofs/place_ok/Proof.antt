@@ -19,9 +19,6 @@ within-requires c κs = search needs
 returns : tie.Need-returns
 returns c = simp (sym (c .before .before .periodic .ensures) ∙ c .before .if1 .taken) (cc)
 
-radius-requires : tie.Need-radius-requires
-radius-requires c κs = search needs
-
 within-requires-2 : tie.Need-within-requires-2
 within-requires-2 c κs = search needs
 
@@ -31,4 +28,4 @@ returns-2 c = simp (sym (c .before .before .before .periodic .ensures) ∙ c .be
 pub place-ok-spec : {M : Type 1} → statement M
 place-ok-spec =
     tie.close
-    (tie.spec along-requires along-requires-2 periodic-requires within-requires returns radius-requires within-requires-2 returns-2)
+    (tie.spec along-requires along-requires-2 periodic-requires within-requires returns within-requires-2 returns-2)

@@ -35,9 +35,6 @@ returns c =
     let G = b .pre .0 in
     λ s S. goes-stop (inputsOf (a .z .grains) (a .inputs .now)) (a .i) (gi .get-input .result) (gi .get-input .ensures) (input-timed (a .z .grains) (a .inputs .now) (a .i) (gi .get-input .result) (b .pre .1) (gi .get-input .ensures)) (st .store .ensures) (c .if1 .taken) s S
 
-radius-requires : tie.Need-radius-requires
-radius-requires c κs = search needs
-
 touched-requires : tie.Need-touched-requires
 touched-requires c κs =
     let b : tie.Start = search in
@@ -58,12 +55,11 @@ enter-all-requires : tie.Need-enter-all-requires
 enter-all-requires c κs =
     let t2 : tie.After-touched2 = search in
     let t : tie.After-touched = search in
-    let ra : tie.After-radius = search in
     let gi : tie.After-get-input = search in
     let b : tie.Start = search in
     let a = b .args in
     let G = b .pre .0 in
-    enters-all G (a .i) (gi .get-input .result) (ra .radius .result) (t .touched .result) (t2 .touched2 .result) (b .pre .1) (ra .radius .ensures) (t .touched .ensures) (t2 .touched2 .ensures)
+    enters-all G (a .i) (gi .get-input .result) (t .touched .result) (t2 .touched2 .result) (b .pre .1) (t .touched .ensures) (t2 .touched2 .ensures)
 
 same-length-2 : tie.Need-same-length-2
 same-length-2 c = search needs
@@ -76,7 +72,6 @@ returns-2 c =
     let ea : tie.After-enter-all = search in
     let t2 : tie.After-touched2 = search in
     let t : tie.After-touched = search in
-    let ra : tie.After-radius = search in
     let else1 : tie.Else1 = search in
     let st : tie.After-store = search in
     let gi : tie.After-get-input = search in
@@ -89,7 +84,7 @@ returns-2 c =
     let y = t2 .touched2 .result in
     λ s S.
     goes-on (inputsOf (a .z .grains) (a .inputs .now)) (a .i) p pe (input-timed (a .z .grains) (a .inputs .now) (a .i) p (b .pre .1) pe) (gridCells (a .grid .n0) (cellsIn x) (cellsIn y))
-    (cells-are (a .domain) (a .grid) p (ra .radius .result) x y (G .laid .grid) (ra .radius .ensures) (t .touched .ensures) (t2 .touched2 .ensures)) (st .store .ensures) (else1 .if1 .left) (ea .enter-all .ensures) s S
+    (cells-are (a .domain) (a .grid) p x y (G .laid .grid) (t .touched .ensures) (t2 .touched2 .ensures)) (st .store .ensures) (else1 .if1 .left) (ea .enter-all .ensures) s S
 
 pub goes-in-spec : {M : Type 1} → statement M
 goes-in-spec =
@@ -99,7 +94,6 @@ goes-in-spec =
     store-requires
     same-length
     returns
-    radius-requires
     touched-requires
     touched-requires-2
     enter-all-requires

@@ -14,11 +14,21 @@ entry c = search
 enum-known-e : tie.Need-enum-known-e
 enum-known-e c = search needs
 
-new-requires : tie.Need-new-requires
-new-requires c κs = search needs
+renewed-requires : tie.Need-renewed-requires
+renewed-requires c κs =
+    let e : tie.After-e = search in
+    let b : tie.Start = search in
+    let o = b .pre .0 in
+    let k = subst (λ (f : Event). Apt (b .args .z) f (o .0)) (e .e .given .1) (o .1 .1) in
+    ((o .0, o .1 .0 .seen .grained), o .1 .0 .seen .queued .ranged, k .0)
 
-new-requires-2 : tie.Need-new-requires-2
-new-requires-2 c κs = search needs
+renewed-requires-2 : tie.Need-renewed-requires-2
+renewed-requires-2 c κs =
+    let e : tie.After-e = search in
+    let b : tie.Start = search in
+    let o = b .pre .0 in
+    let k = subst (λ (f : Event). Apt (b .args .z) f (o .0)) (e .e .given .1) (o .1 .1) in
+    ((o .0, o .1 .0 .seen .grained), o .1 .0 .seen .queued .ranged, k .1)
 
 do-collision-requires : tie.Need-do-collision-requires
 do-collision-requires c κs =
@@ -56,8 +66,13 @@ do-out-requires c κs =
 enum-known-e-4 : tie.Need-enum-known-e-4
 enum-known-e-4 c = search needs
 
-new-requires-3 : tie.Need-new-requires-3
-new-requires-3 c κs = search needs
+renewed-requires-3 : tie.Need-renewed-requires-3
+renewed-requires-3 c κs =
+    let e4 : tie.After-e4 = search in
+    let b : tie.Start = search in
+    let o = b .pre .0 in
+    let k = subst (λ (f : Event). Apt (b .args .z) f (o .0)) (e4 .e4 .given .1) (o .1 .1) in
+    ((o .0, o .1 .0 .seen .grained), o .1 .0 .seen .queued .ranged, k .0)
 
 do-wall-requires : tie.Need-do-wall-requires
 do-wall-requires c κs =
@@ -98,12 +113,12 @@ same-length-5 c = search
 returns : tie.Need-returns
 returns c =
     let dc : tie.After-do-collision = search in
-    let n2 : tie.After-new2 = search in
-    let n : tie.After-new = search in
+    let r2 : tie.After-renewed2 = search in
+    let r : tie.After-renewed = search in
     let e : tie.After-e = search in
     let b = entry e in
     let a = b .args in
-    as-collision (a .rate) (e .e .given .1) (n .new .ensures) (n2 .new2 .ensures) (dc .do-collision .ensures)
+    as-collision (a .rate) (e .e .given .1) (r .renewed .ensures) (r2 .renewed2 .ensures) (dc .do-collision .ensures)
 
 same-length-6 : tie.Need-same-length-6
 same-length-6 c = search
@@ -169,11 +184,11 @@ same-length-20 c = search
 returns-4 : tie.Need-returns-4
 returns-4 c =
     let dw : tie.After-do-wall = search in
-    let n3 : tie.After-new3 = search in
+    let r3 : tie.After-renewed3 = search in
     let e4 : tie.After-e4 = search in
     let b : tie.Start = search in
     let a = b .args in
-    as-wall (a .rate) (e4 .e4 .given .1) (n3 .new3 .ensures) (dw .do-wall .ensures)
+    as-wall (a .rate) (e4 .e4 .given .1) (r3 .renewed3 .ensures) (dw .do-wall .ensures)
 
 same-length-21 : tie.Need-same-length-21
 same-length-21 c = search
@@ -200,15 +215,15 @@ execute-spec =
     tie.close
     (tie.spec
     enum-known-e
-    new-requires
-    new-requires-2
+    renewed-requires
+    renewed-requires-2
     do-collision-requires
     enum-known-e-2
     do-neighbour-requires
     enum-known-e-3
     do-out-requires
     enum-known-e-4
-    new-requires-3
+    renewed-requires-3
     do-wall-requires
     enum-told
     do-sync-requires

@@ -1,4 +1,5 @@
 -- A course is read off the box, the cell and the grain in the direction. Assumes nothing.
+use mathlib.Core.Path.{refl}
 use borrow.Author.Needs.{needs}
 use Rattle.event.proofs.Course.{course-by}
 use Rattle.event.proofs.util.Course.new.Statement.{statement}
@@ -16,22 +17,17 @@ along-requires-2 c κs = search needs
 along-requires-3 : tie.Need-along-requires-3
 along-requires-3 c κs = search needs
 
-radius-requires : tie.Need-radius-requires
-radius-requires c κs = search needs
-
 along-requires-4 : tie.Need-along-requires-4
 along-requires-4 c κs = search needs
 
 returns : tie.Need-returns
 returns c =
-    let c1 = c .before in
-    let c2 = c1 .before in
-    let c3 = c2 .before in
-    let c4 = c3 .before in
-    let c5 = c4 .before in
-    let b = c5 .before in
-    course-by _ (b .args .cell) _ _ _ _ _ _ _ _ (b .pre) (c5 .periodic .ensures) (c4 .along .ensures) (c3 .along2 .ensures) (c2 .along3 .ensures) (c1 .radius .ensures)
-    (c .along4 .ensures)
+    let a3 : tie.After-along3 = search in
+    let a2 : tie.After-along2 = search in
+    let a1 : tie.After-along = search in
+    let pe : tie.After-periodic = search in
+    let b : tie.Start = search in
+    course-by _ (b .args .cell) _ _ _ _ _ _ _ _ (b .pre) (pe .periodic .ensures) (a1 .along .ensures) (a2 .along2 .ensures) (a3 .along3 .ensures) refl (c .along4 .ensures)
 
 pub new-spec : {M : Type 1} → statement M
 new-spec =
@@ -41,6 +37,5 @@ new-spec =
     along-requires
     along-requires-2
     along-requires-3
-    radius-requires
     along-requires-4
     returns)

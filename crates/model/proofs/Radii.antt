@@ -1,0 +1,202 @@
+-- A GRAIN KEEPS ITS RADIUS FOR LIFE (02, T-04): every step of any state keeps every radius (`step-keeps-radius`); so in every state that an accepted start and any runs reach
+-- a grain has the radius that the start stored (`radius-for-life`), which is the one that it brought where the start did not halt (`radius-given`), from 0.25 to 0.5. Assumes nothing.
+use Prim.Native.Nat.{ℕ, zero, suc, _≤_, _<_}
+use mathlib.Core.Path.{_≡_, refl, sym, ap, subst, _∙_}
+use mathlib.Core.List.{List, [], _∷_}
+use mathlib.Core.Bool.{true}
+use native.Mathlib.Omega.{arith}
+use native.Mathlib.Decide.{ℕ-discrete}
+use lib.ListN.{length, getD, length-set}
+use lib.Seq.{getD-set-same, getD-set-other}
+use lib.Ieee.{Float}
+use borrow.Author.Tests.{eq-eqb}
+use Rattle.halting.specs.Out.{Out, out, next, then, each, eachOf}
+use Rattle.halting.proofs.Bools.{clash}
+use Rattle.halting.proofs.Laws.{then-keeps}
+use Rattle.model.specs.declared.Domain.{Domain}
+use Rattle.model.specs.declared.Particle.{Particle}
+use Rattle.model.specs.declared.Event.{Event}
+use Rattle.model.specs.declared.Event.the-variants.{InterParticleCollision, MoveToNeighbour, MoveOutOfCell, WallReflection, Synchronisation}
+use Rattle.model.specs.Constants.{leastRadius, greatestRadius}
+use Rattle.model.specs.Sizes.{within, boxOk}
+use Rattle.model.specs.Grid.{cells}
+use Rattle.model.specs.Stepping.{landed, atZero}
+use Rattle.model.specs.FromPToC.{cellsOfGrain}
+use Rattle.model.specs.State.{State, zeroG, grain, requeued}
+use Rattle.model.specs.Acts.{store, enter, cancelled, taken}
+use Rattle.model.specs.Rows.{Act, moving, turning, trying, cancelling, entering, leaving, perform, Acts, ended, act, doing, inTurn, _⨟_, forgets, reschedules, actsOf, initiates}
+use Rattle.model.specs.Execute.{Stepped, done, synchronised, halted, finish, headEvent, event, step}
+use Rattle.model.specs.Run.{Ran, runFrom, onward}
+use Rattle.model.specs.Doing.{goesIn}
+use Rattle.model.specs.Start.{clear, begin}
+use Rattle.model.specs.Check.{runAll, refusal}
+use Rattle.model.specs.Reached.{Call, after, Reached}
+use Rattle.model.proofs.Cases.{store-case, put-case, enter-case, leave-case}
+use Rattle.model.proofs.Lists.{set-case}
+use Rattle.model.proofs.Frame.{of-sound}
+use Rattle.model.proofs.Told.{Every, every-before, every-turn}
+use Rattle.model.proofs.Velocities.{Calm, calm-both, calm-forget, calm-again, calm-init, acts-calm}
+use Rattle.model.proofs.Performs.{begin-parts}
+use Rattle.model.proofs.Refusals.{run-case}
+use Rattle.model.proofs.Born.{size-ok}
+use Rattle.model.proofs.Starts.{each-upto, given, first-good, clear-few}
+use Rattle.model.proofs.Halts.{accepted, reached-halted}
+
+abbrev rad : State → ℕ → Float
+rad s g = (grain s g) .rad
+
+-- ---- rows of acts
+module _ (r : ℕ → Float) where
+  -- a turn gives a grain its radius by r
+  abbrev Gives : Act → Type 0
+  Gives (moving i x t) = Unit {0}
+  Gives (turning i p) = p .rad ≡ r i
+  Gives (trying c q x) = Unit {0}
+  Gives (cancelling i c) = Unit {0}
+  Gives (entering i c) = Unit {0}
+  Gives (leaving i c) = Unit {0}
+
+  -- the first k grains have it
+  abbrev Have : ℕ → State → Type 0
+  Have k s = (g : ℕ) → g < k → rad s g ≡ r g
+
+  -- every act, done or refused
+  act-has : (k : ℕ) (a : Act) (s : State) → Gives a → Have k s → Have k ((perform a s) .st)
+  act-has k (moving i x t) s e h g G =
+      store-case (λ o. rad (o .st) g ≡ r g) s i (landed x t (grain s i)) (h g G) (λ f. set-case (λ p. p .rad ≡ r g) zeroG (s .grains) i g (landed x t (grain s i)) (λ j. ap (rad s) j ∙ h g G) (h g G))
+  act-has k (turning i x) s e h g G = store-case (λ o. rad (o .st) g ≡ r g) s i x (h g G) (λ f. set-case (λ p. p .rad ≡ r g) zeroG (s .grains) i g x (λ j. e ∙ ap r j) (h g G))
+  act-has k (trying c q x) s e h g G = put-case (λ o. rad (o .st) g ≡ r g) s c x (λ n. h g G) (λ n f. h g G)
+  act-has k (cancelling i c) s e h g G = unfold cancelled requeued in h g G
+  act-has k (entering i c) s e h g G = enter-case (λ o. rad (o .st) g ≡ r g) s i c (λ a. h g G) (h g G) (λ a b d. h g G)
+  act-has k (leaving i c) s e h g G = leave-case (λ o. rad (o .st) g ≡ r g) s i c (h g G) (λ a. h g G)
+
+  row-has : (k : ℕ) (w : Acts) (s : State) → Every Gives w → Have k s → Have k ((doing w s) .st)
+  unfolding doing
+  row-has k ended s e h = h
+  row-has k (act a f) s e h = let j = act-has k a s (e .0) h in by ((perform a s) .num) j (row-has k (f ((perform a s) .st)) ((perform a s) .st) (e .1 ((perform a s) .st)) j)
+    where
+      by : (n : ℕ) → let u = (perform a s) .st in Have k u → Have k ((doing (f u) u) .st) → Have k ((next n u (λ v. doing (f v) v)) .st)
+      by zero j i = i
+      by (suc n) j i = j
+
+  -- a row that turns no grain
+  quiet : (w : Acts) → ((g : ℕ) → Every (Calm g) w) → Every Gives w
+  quiet ended c = tt
+  quiet (act a f) c = (by a (λ g. c g .0), λ u. quiet (f u) (λ g. c g .1 u))
+    where
+      by : (a : Act) → ((g : ℕ) → Calm g a) → Gives a
+      by (moving i x t) n = tt
+      by (turning i p) n = clash (sym (n i) ∙ eq-eqb i i refl)
+      by (trying c q x) n = tt
+      by (cancelling i c) n = tt
+      by (entering i c) n = tt
+      by (leaving i c) n = tt
+
+-- ---- every event gives the grains that it turns the radii that they have
+event-gives : (rate : Float) (e : Event) (s : State) → Every (Gives (rad s)) (actsOf rate e s)
+event-gives rate (InterParticleCollision p q x y v w k) s =
+    let G = Gives (rad s) in
+    every-before G _ _ s (refl, λ u. tt) (λ u. every-before G _ _ u (refl, λ t. tt) (λ u. every-before G _ _ u (quiet (rad s) (forgets p u) (λ g. calm-forget g p u))
+    (λ u. every-before G _ _ u (quiet (rad s) (forgets q u) (λ g. calm-forget g q u)) (λ u. quiet (rad s) ((reschedules p ⨟ reschedules q) u) (λ g. calm-both g p q u)))))
+event-gives rate (MoveToNeighbour p x k) s = quiet (rad s) (actsOf rate (MoveToNeighbour p x k) s) (λ g. acts-calm g rate (MoveToNeighbour p x k) s refl)
+event-gives rate (MoveOutOfCell p x k) s = quiet (rad s) (actsOf rate (MoveOutOfCell p x k) s) (λ g. acts-calm g rate (MoveOutOfCell p x k) s refl)
+event-gives rate (WallReflection p x v w) s =
+    let G = Gives (rad s) in
+    every-before G _ _ s (refl, λ u. tt) (λ u. every-before G _ _ u (quiet (rad s) (forgets p u) (λ g. calm-forget g p u)) (λ u. quiet (rad s) (reschedules p u) (λ g. calm-again g p u)))
+event-gives rate Synchronisation s = quiet (rad s) (actsOf rate Synchronisation s) (λ g. acts-calm g rate Synchronisation s refl)
+
+-- A STEP KEEPS EVERY RADIUS, of any state, halted or not
+pub step-keeps-radius : (rate : Float) (s : State) (g : ℕ) → (grain ((step rate s) .state) g) .rad ≡ (grain s g) .rad
+unfolding step event taken requeued
+step-keeps-radius rate s g = by ((event rate s) .num) (row-has (rad s) (suc g) (actsOf rate (headEvent s) (taken s)) (taken s) (event-gives rate (headEvent s) (taken s)) (λ i I. refl) g (omega arith))
+  where
+    by : (n : ℕ) → rad ((event rate s) .st) g ≡ rad s g → rad ((finish n ((event rate s) .st) (headEvent s)) .state) g ≡ rad s g
+    by zero i = i
+    by (suc n) i = i
+
+-- so does a run, whatever its budget, and so do runs
+run-keeps-radius : (rate : Float) (b d : ℕ) (s : State) (g : ℕ) → rad ((runFrom rate b d s) .state) g ≡ rad s g
+unfolding runFrom
+run-keeps-radius rate zero d s g = refl
+run-keeps-radius rate (suc b) d s g = by ((step rate s) .how) (step-keeps-radius rate s g) (run-keeps-radius rate b (suc d) ((step rate s) .state) g)
+  where
+    by : (h : Stepped) → let u = (step rate s) .state in rad u g ≡ rad s g → rad ((runFrom rate b (suc d) u) .state) g ≡ rad u g → rad ((onward h u d (runFrom rate b)) .state) g ≡ rad s g
+    by done i j = j ∙ i
+    by synchronised i j = i
+    by (halted n) i j = i
+
+after-keeps-radius : (ks : List Call) (s : State) (g : ℕ) → rad (after ks s) g ≡ rad s g
+unfolding after
+after-keeps-radius [] s g = refl
+after-keeps-radius (k ∷ ks) s g =
+    after-keeps-radius ks ((runAll (k .rate) (k .budget) s) .state) g
+    ∙ run-case (λ f. rad ((f (k .budget)) .state) g ≡ rad s g) (k .rate) s refl (λ h. refl) refl refl (λ h R t. run-keeps-radius (k .rate) (k .budget) 0 s g)
+
+-- IN EVERY REACHED STATE, HALTED OR NOT, A GRAIN HAS THE RADIUS THAT THE START STORED
+pub radius-for-life : (s : State) (r : Reached s) (g : ℕ) → (grain s g) .rad ≡ (grain (r .begun) g) .rad
+radius-for-life s r g = subst (λ (u : State). rad u g ≡ rad (r .begun) g) (r .there) (after-keeps-radius (r .calls) (r .begun) g)
+
+-- ---- a start stores the radius that a grain brings
+module _ (b : Domain) (room : ℕ) (gs : List Particle) (box : boxOk b ≡ true) where
+  abbrev brought : ℕ → Float
+  brought g = (given gs g) .rad
+
+  -- the first k grains are stored
+  abbrev Stored : ℕ → State → Type 0
+  Stored k u = (length (u .grains) ≡ length gs) × Have brought k u
+
+  store-one : (i : ℕ) (u : State) → i < length gs → Stored i u → (store i (atZero (given gs i)) u) .num ≡ 0 → Stored (suc i) ((store i (atZero (given gs i)) u) .st)
+  store-one i u I h =
+      let x = atZero (given gs i) in
+      store-case (λ o. o .num ≡ 0 → Stored (suc i) (o .st)) u i x (λ z. absurd (omega (arith, z)))
+      (λ f z. (
+        length-set (u .grains) i x ∙ h .0,
+        λ g G. elim (ℕ-discrete g i) [
+          | yes e ↦ rw e (ap (λ (p : Particle). p .rad) (getD-set-same (u .grains) i x zeroG (rw (h .0) I)))
+          | no n ↦ ap (λ (p : Particle). p .rad) (getD-set-other (u .grains) i g x zeroG n) ∙ h .1 g (omega arith)
+        ],
+      ))
+
+  enter-keeps : (k i c : ℕ) (u : State) → Stored k u → Stored k ((enter i c u) .st)
+  enter-keeps k i c u h = enter-case (λ o. Stored k (o .st)) u i c (λ a. h) h (λ a d e. h)
+
+  goes-one : (i : ℕ) (u : State) → i < length gs → Stored i u → (goesIn gs i u) .num ≡ 0 → Stored (suc i) ((goesIn gs i u) .st)
+  unfolding goesIn
+  goes-one i u I h =
+      then-keeps (Stored (suc i)) (Stored (suc i)) (store i (atZero (given gs i)) u) (λ w. eachOf (λ c. enter i c) (cellsOfGrain (w .box) (given gs i)) w) (store-one i u I h)
+      (λ w k z. of-sound (Stored (suc i)) (λ c. enter i c) (cellsOfGrain (w .box) (given gs i)) (λ c v m l. enter-keeps (suc i) i c v l) w k)
+
+  begin-stores : (begin b room gs) .num ≡ 0 → Have brought (length gs) ((begin b room gs) .st)
+  begin-stores = subst (λ (o : Out State). o .num ≡ 0 → Have brought (length gs) (o .st)) (sym (begin-parts b room gs))
+      (then-keeps (Stored (length gs)) (Have brought (length gs)) (each (goesIn gs) (length gs) 0 (clear b room (length gs))) (λ u. doing (inTurn initiates (cells b) 0 u) u)
+      (λ z. subst (λ (k : ℕ). Stored k ((each (goesIn gs) (length gs) 0 (clear b room (length gs))) .st)) (omega arith)
+      (each-upto (goesIn gs) Stored (length gs) (λ i u I h y. goes-one i u I h y) (length gs) 0 (clear b room (length gs)) (omega arith) (clear-few b room gs box, λ g G. absurd (omega arith)) z))
+      (λ u h z. row-has brought (length gs) (inTurn initiates (cells b) 0 u) u (quiet brought (inTurn initiates (cells b) 0 u) (λ g. every-turn (Calm g) initiates (cells b) 0 u (calm-init g))) (h .1)))
+
+-- WHERE THE START DID NOT HALT, EVERY REACHED STATE HAS EACH GRAIN WITH THE RADIUS THAT IT BROUGHT
+pub radius-given : (s : State) (r : Reached s) → (r .begun) .mark ≡ 0 → (g : ℕ) → g < length (r .grains) → (grain s g) .rad ≡ (getD (r .grains) g zeroG) .rad
+radius-given s r m g G =
+    let a = accepted (r .box) (r .room) (r .grains) (r .begun) (r .accepted) in
+    radius-for-life s r g
+    ∙ ap (λ (u : State). rad u g) (a .is)
+    ∙ begin-stores (r .box) (r .room) (r .grains) (a .box) (ap (λ (u : State). u .mark) (sym (a .is)) ∙ m) g G
+
+-- which is from 0.25 to 0.5
+pub radius-in-range : (s : State) (r : Reached s) → (r .begun) .mark ≡ 0 → (g : ℕ) → g < length (r .grains) → within leastRadius greatestRadius ((grain s g) .rad) ≡ true
+radius-in-range s r m g G =
+    let a = accepted (r .box) (r .room) (r .grains) (r .begun) (r .accepted) in
+    ap (within leastRadius greatestRadius) (radius-given s r m g G) ∙ size-ok (r .box) (getD (r .grains) g zeroG) (first-good (r .box) (r .grains) (a .good) g G)
+
+-- a reached state that is not halted comes from a start that did not halt
+after-same : (ks : List Call) (s : State) → ((rate : Float) (b : ℕ) → runAll rate b s ≡ refusal (s .mark) s) → after ks s ≡ s
+unfolding after
+after-same [] s h = refl
+after-same (k ∷ ks) s h = ap (after ks) (ap (λ (x : Ran). x .state) (h (k .rate) (k .budget))) ∙ after-same ks s h
+
+pub begun-unhalted : (s : State) (r : Reached s) → s .mark ≡ 0 → (r .begun) .mark ≡ 0
+begun-unhalted s r m = elim (ℕ-discrete ((r .begun) .mark) 0) [
+  | yes z ↦ z
+  | no n ↦
+      let b : Reached (r .begun) = record { box = r .box; fits = r .fits; room = r .room; grains = r .grains; begun = r .begun; accepted = r .accepted; calls = []; there = unfold after in refl } in
+      ap (λ (u : State). u .mark) (sym (after-same (r .calls) (r .begun) (reached-halted (r .begun) b n)) ∙ r .there) ∙ m
+]
