@@ -78,7 +78,7 @@ inside n w i l h g = let s = suc-mul i w in let m = mul-le-mul-right w g in let 
 
 -- ---- each record
 grain-read : (l : List Float) → grainWide ≤ length l → grainReals (grainAt l) ≡ take grainWide l
-grain-read l h = sym (take-tab l nan 6 0 h)
+grain-read l h = sym (take-tab l nan grainWide 0 h)
 
 places-nums : (n : ℕ) (q : List ℕ) (e : List Float) → n * placeNumsWide ≤ length q → flat placeNums (placesOf n q e) ≡ take (n * placeNumsWide) q
 places-nums n q e h = both-first placeAt placeNumsWide placeRealsWide placeNums n q e (λ i g. sym (take-tab (drop (i * placeNumsWide) q) 0 placeNumsWide 0 (inside n placeNumsWide i q h g)))

@@ -4,9 +4,9 @@ use mathlib.Core.Path.{_≡_, refl, sym, ap, _∙_, subst}
 use mathlib.Core.Logic.{_⊎_, inl, inr}
 use mathlib.Core.List.{List, [], _∷_}
 use Prim.Native.Nat.{ℕ, zero, suc, _+_, _≤_, max}
-use native.Mathlib.Nat.{le-trans, add-suc, suc-add, eq-or-lt-of-le, add-zero}
+use native.Mathlib.Nat.{le-trans, le-antisymm, add-suc, suc-add, eq-or-lt-of-le, add-zero}
 use native.Mathlib.Omega.{arith}
-use mathlib.Core.Bool.{Bool, true, false, not, _&&_}
+use mathlib.Core.Bool.{Bool, true, false, not, cond, _&&_}
 use lib.IntN.{pos}
 use lib.Dec.{T, leb, leb→le}
 use lib.Ieee.{Float, binary64, round, add, sub, div, lt, le, isNan, ofInt, ofBits, toUnsigned}
@@ -60,6 +60,7 @@ tests a b n =
     ∷ leb n (suc (toUnsigned 64 (div binary64 (sub binary64 (sub binary64 a greatestRadius) greatestRadius) (width b n))))
     ∷ []
 
+-- the ends' own tests, and those of the cells: at b only where it has more cells than a
 abbrev ends : Float → Float → List Bool
 ends a b =
     positive a
@@ -72,7 +73,7 @@ ends a b =
     ∷ le (sub binary64 (add binary64 b greatestRadius) a) one
     ∷ leb (cellsOf b) (suc (cellsOf a))
     ∷ tested (tests a b (cellsOf a))
-    ∷ tested (tests a b (cellsOf b))
+    ∷ cond (leb (cellsOf b) (cellsOf a)) true (tested (tests a b (cellsOf b)))
     ∷ plain (sub binary64 a greatestRadius)
     ∷ le greatestRadius (sub binary64 a greatestRadius)
     ∷ plain (sub binary64 (sub binary64 a greatestRadius) greatestRadius)
@@ -201,11 +202,21 @@ module _ (l : Float) (a b : Float) (E : T (tested (ends a b))) (ha : T (le a l))
   one-of : (c d n : ℕ) → c ≤ n → n ≤ d → d ≤ suc c → (n ≡ c) ⊎ (n ≡ d)
   one-of c d n h k j = elim (eq-or-lt-of-le h) [ inl p ↦ inl (sym p) | inr p ↦ inr (omega arith) ]
 
+  for : (n : ℕ) → cellsOf l ≡ n → T (tested (tests a b n)) → Facts l (cellsOf l)
+  for n p t = with (cellsOf l) (subst (λ (k : ℕ). T (tested (tests a b k))) (sym p) t)
+
   at-row : Facts l (cellsOf l)
-  at-row = elim (one-of (cellsOf a) (cellsOf b) (cellsOf l) (cells-mono a l (e 0) pl ha) (cells-mono l b pl (e 1) hb) (leb→le (cellsOf b) (suc (cellsOf a)) (e 8))) [
-    | inl p ↦ with (cellsOf l) (subst (λ (n : ℕ). T (tested (tests a b n))) (sym p) (e 9))
-    | inr p ↦ with (cellsOf l) (subst (λ (n : ℕ). T (tested (tests a b n))) (sym p) (e 10))
-  ]
+  at-row = go (leb (cellsOf b) (cellsOf a)) refl (e 10)
+    where
+      up : cellsOf a ≤ cellsOf l
+      up = cells-mono a l (e 0) pl ha
+
+      down : cellsOf l ≤ cellsOf b
+      down = cells-mono l b pl (e 1) hb
+
+      go : (t : Bool) → leb (cellsOf b) (cellsOf a) ≡ t → T (cond t true (tested (tests a b (cellsOf b)))) → Facts l (cellsOf l)
+      go true h q = for (cellsOf a) (le-antisymm (le-trans down (leb→le (cellsOf b) (cellsOf a) (subst T (sym h) tt))) up) (e 9)
+      go false h q = elim (one-of (cellsOf a) (cellsOf b) (cellsOf l) up down (leb→le (cellsOf b) (suc (cellsOf a)) (e 8))) [ inl p ↦ for (cellsOf a) p (e 9) | inr p ↦ for (cellsOf b) p q ]
 
 -- ---- every length
 nan-of : (x y : Float) → le x y ≡ false → T (not (isNan x)) → T (not (isNan y)) → T (le y x)

@@ -47,8 +47,12 @@ landed-told {z} {g₁ = g₁} {r = r} p x t {a} {b} e f k s h c =
     let m : a ≡ grain s p = f z (s .grains) h in
     subst (λ (y : Particle). GrainsTold z g₁ r (store p y s)) (e ∙ rw (← m, c)) (k s h)
 
+-- a is grain i with what an event gives it at the clock t
+abbrev pub Renewed : Sizes → List Float → Float → MyVec → MyVec → Float → ℕ → Particle → Type 0
+Renewed z g t x v k i a = (s : State) → InGrains z g s → s .clock ≡ t → a ≡ renewed x v (s .clock) k (grain s i)
+
 pub renewed-told : {z : Sizes} {g : List Float} (p : ℕ) (x v : MyVec) (t k : Float) {a b : Particle} → b ≡ grainOf x v t k (a .rad) → ((z : Sizes) (gs : List Particle) → Grained z g gs → a ≡ getD gs p zeroG)
-    → (s : State) → InGrains z g s → s .clock ≡ t → b ≡ renewed x v (s .clock) k (grain s p)
+    → Renewed z g t x v k p b
 renewed-told {z} p x v t k {a} e f s h c = let m : a ≡ grain s p = f z (s .grains) h in e ∙ (λ i. grainOf x v (sym c i) k (m i .rad))
 
 module _ {z : Sizes} {w : World} where
@@ -193,11 +197,7 @@ lists-then {z} {l} rate s =
     (λ u h. queues-along (InLists z l) u ((insert 0 (syncAt (add binary64 (s .clock) rate)) u) .st) (insert-only 0 (syncAt (add binary64 (s .clock) rate)) u) h)
 
 module _ {z : Sizes} {w : World} {l : List ℕ} {g : List Float} {q : List ℕ} {e : List Float} {o : List ℕ} {Q : State → Type 0} {r : ℕ} (rate : Float) {ev : Event} where
-  -- a is grain i with what an event gives it at the clock
-  abbrev Renewed : MyVec → MyVec → Float → ℕ → Particle → Type 0
-  Renewed x v k i a = (s : State) → InGrains z g s → s .clock ≡ w .clock → a ≡ renewed x v (s .clock) k (grain s i)
-
-  pub as-collision : {i j : ℕ} {x y v u : MyVec} {k : Float} {a b : Particle} → ev ≡ InterParticleCollision i j x y v u k → Renewed x v k i a → Renewed y u k j b
+  pub as-collision : {i j : ℕ} {x y v u : MyVec} {k : Float} {a b : Particle} → ev ≡ InterParticleCollision i j x y v u k → Renewed z g (w .clock) x v k i a → Renewed z g (w .clock) y u k j b
       → Does (Held z w l g q e o) Q r (doCollision i j a b) → Does (λ s. Held z w l g q e o s × Apt z ev s) Q r (execution rate ev)
   as-collision {i} {j} {x} {y} {v} {u} {k} {a} {b} is A B d =
       subst (λ (f : Event). Does (λ s. Held z w l g q e o s × Apt z f s) Q r (execution rate f)) (sym is) (record {
@@ -212,7 +212,7 @@ module _ {z : Sizes} {w : World} {l : List ℕ} {g : List Float} {q : List ℕ} 
   pub as-out : {i : ℕ} {x : MyVec} {k : ℕ} → ev ≡ MoveOutOfCell i x k → Does (λ s. Held z w l g q e o s × Pair i k s) Q r (doOut i x k) → Does (λ s. Held z w l g q e o s × Apt z ev s) Q r (execution rate ev)
   as-out is d = subst (λ (f : Event). Does (λ s. Held z w l g q e o s × Apt z f s) Q r (execution rate f)) (sym is) (record { says = λ s h. d .says s (h .0, h .1 .2) })
 
-  pub as-wall : {i : ℕ} {x v : MyVec} {k : Float} {a : Particle} → ev ≡ WallReflection i x v k → Renewed x v k i a → Does (Held z w l g q e o) Q r (doWall i a)
+  pub as-wall : {i : ℕ} {x v : MyVec} {k : Float} {a : Particle} → ev ≡ WallReflection i x v k → Renewed z g (w .clock) x v k i a → Does (Held z w l g q e o) Q r (doWall i a)
       → Does (λ s. Held z w l g q e o s × Apt z ev s) Q r (execution rate ev)
   as-wall {i} {x} {v} {k} is A d =
       subst (λ (f : Event). Does (λ s. Held z w l g q e o s × Apt z f s) Q r (execution rate f)) (sym is) (record {

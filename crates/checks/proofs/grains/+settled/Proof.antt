@@ -63,9 +63,9 @@ settled-returns-2 t c =
     let b = c4 .before .before in
     let l = b .args .reals .now in
     let n = b .args .n in
-    let d = less-rows n 6 (length l) (c4 .if1 .left) (b .pre .1) in
+    let d = less-rows n grainWide (length l) (c4 .if1 .left) (b .pre .1) in
     let p = c2 .read-grain in
-    all-no (timely (b .args .t)) _ _ (cut-step grainAt grainWide n l (c4 .if1 .left)) (ap (timely (b .args .t)) (sym (p .ensures (grainAt l) (take-tab l nan 6 0 (d .0)))) ∙ rw (sym (c1 .fine-grain .ensures) ∙ not-true _ (c .if2 .taken)))
+    all-no (timely (b .args .t)) _ _ (cut-step grainAt grainWide n l (c4 .if1 .left)) (ap (timely (b .args .t)) (sym (p .ensures (grainAt l) (take-tab l nan grainWide 0 (d .0)))) ∙ rw (sym (c1 .fine-grain .ensures) ∙ not-true _ (c .if2 .taken)))
 
 settled-sub-settled : (t : ℕ) → settled-lts.Need-sub-settled (Rd t) (settled-at t) settled.Post
 settled-sub-settled t c = search needs
@@ -92,9 +92,9 @@ settled-returns-3 t c =
     let b = c8 .before .before in
     let l = b .args .reals .now in
     let n = b .args .n in
-    let d = less-rows n 6 (length l) (c8 .if1 .left) (b .pre .1) in
+    let d = less-rows n grainWide (length l) (c8 .if1 .left) (b .pre .1) in
     let p = c6 .read-grain in
-    all-more (timely (b .args .t)) _ _ (cut-step grainAt grainWide n l (c8 .if1 .left)) (ap (timely (b .args .t)) (sym (p .ensures (grainAt l) (take-tab l nan 6 0 (d .0)))) ∙ rw (sym (c5 .fine-grain .ensures) ∙ not-false _ (c4 .if2 .left), c2 .if3 .taken)) (c .settled .ensures)
+    all-more (timely (b .args .t)) _ _ (cut-step grainAt grainWide n l (c8 .if1 .left)) (ap (timely (b .args .t)) (sym (p .ensures (grainAt l) (take-tab l nan grainWide 0 (d .0)))) ∙ rw (sym (c5 .fine-grain .ensures) ∙ not-false _ (c4 .if2 .left), c2 .if3 .taken)) (c .settled .ensures)
 
 settled-returns-4 : (t : ℕ) → settled-lts.Need-returns-4 (Rd t) (settled-at t) settled.Post
 settled-returns-4 t c =
@@ -105,9 +105,9 @@ settled-returns-4 t c =
     let b = c6 .before .before in
     let l = b .args .reals .now in
     let n = b .args .n in
-    let d = less-rows n 6 (length l) (c6 .if1 .left) (b .pre .1) in
+    let d = less-rows n grainWide (length l) (c6 .if1 .left) (b .pre .1) in
     let p = c4 .read-grain in
-    all-no (timely (b .args .t)) _ _ (cut-step grainAt grainWide n l (c6 .if1 .left)) (ap (timely (b .args .t)) (sym (p .ensures (grainAt l) (take-tab l nan 6 0 (d .0)))) ∙ rw (sym (c3 .fine-grain .ensures) ∙ not-false _ (c2 .if2 .left), c .if3 .left))
+    all-no (timely (b .args .t)) _ _ (cut-step grainAt grainWide n l (c6 .if1 .left)) (ap (timely (b .args .t)) (sym (p .ensures (grainAt l) (take-tab l nan grainWide 0 (d .0)))) ∙ rw (sym (c3 .fine-grain .ensures) ∙ not-false _ (c2 .if2 .left), c .if3 .left))
 
 pub +settled-spec : {M : Type 1} → statement M
 +settled-spec = close μ-settled λ t. settled-lts.spec (Rd t)

@@ -21,6 +21,9 @@ shared-slice-read-t13 c = search needs
 shared-slice-read-t15 : tie.Need-shared-slice-read-t15
 shared-slice-read-t15 c = search needs
 
+shared-slice-read-t17 : tie.Need-shared-slice-read-t17
+shared-slice-read-t17 c = search needs
+
 returns : tie.Need-returns
 returns c = λ p e. rw e
 
@@ -34,4 +37,5 @@ read-grain-spec =
     shared-slice-read-t10
     shared-slice-read-t13
     shared-slice-read-t15
+    shared-slice-read-t17
     returns)

@@ -26,6 +26,9 @@ slice-write-s-5 c = simp length-set (omega arith)
 slice-write-s-6 : tie.Need-slice-write-s-6
 slice-write-s-6 c = simp length-set (omega arith)
 
+slice-write-s-7 : tie.Need-slice-write-s-7
+slice-write-s-7 c = simp length-set (omega arith)
+
 same-length : tie.Need-same-length
 same-length c = search needs
 
@@ -42,5 +45,6 @@ write-grain-spec =
     slice-write-s-4
     slice-write-s-5
     slice-write-s-6
+    slice-write-s-7
     same-length
     returns)
