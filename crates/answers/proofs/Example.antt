@@ -29,7 +29,7 @@ use Rattle.listing_text.specs.Answers.{listingOf}
 use Rattle.answers.specs.Answer.{answerTo, Formed, Answers}
 use Rattle.answers.proofs.Texts.{answer-input}
 
--- a 9 by 9 periodic box, rate 1, a still grain at (4.5, 4.5), value 0.5
+-- a 9 by 9 periodic box, rate 1, a still grain at (4.5, 4.5), value 0.5, radius 0.5
 abbrev example : Input
 example = record {
   l0 = 0x4022_0000_0000_0000;
@@ -37,7 +37,7 @@ example = record {
   p0 = true;
   p1 = true;
   rate = 0x3ff0_0000_0000_0000;
-  grains = record { x = 0x4012_0000_0000_0000; y = 0x4012_0000_0000_0000; vx = 0; vy = 0; val = 0x3fe0_0000_0000_0000 } ∷ [];
+  grains = record { x = 0x4012_0000_0000_0000; y = 0x4012_0000_0000_0000; vx = 0; vy = 0; val = 0x3fe0_0000_0000_0000; rad = 0x3fe0_0000_0000_0000 } ∷ [];
 }
 
 example-formed : Formed (textOf example) example
@@ -47,7 +47,7 @@ example-formed = record {
     l0-word = lit< tt;
     l1-word = lit< tt;
     rate-word = lit< tt;
-    grain-words = ((lit< tt, (lit< tt, (lit< tt, (lit< tt, (lit< tt, tt))))), tt);
+    grain-words = ((lit< tt, (lit< tt, (lit< tt, (lit< tt, (lit< tt, (lit< tt, tt)))))), tt);
   };
   countable = lit< tt;
 }
@@ -59,7 +59,7 @@ unfolding answerTo decimal round add sub mul div neg lt le eq ofInt toUnsigned o
     parentIn up upshifted updated numbered startHeap every syncs walk settled queued heaped standing runFrom runAll
 example-listed = refl
 
-pub example-answer : Answers (bytes "l0,l1,p0,p1,rate,n\r\n4022000000000000,4022000000000000,1,1,3FF0000000000000,1\r\nx,y,vx,vy,val\r\n4012000000000000,4012000000000000,0000000000000000,0000000000000000,3FE0000000000000\r\n")
-    (bytes "time,index,x,y,vx,vy,val\r\n3FF0000000000000,0,4012000000000000,4012000000000000,0000000000000000,0000000000000000,3FE0000000000000\r\n")
+pub example-answer : Answers (bytes "l0,l1,p0,p1,rate,n\r\n4022000000000000,4022000000000000,1,1,3FF0000000000000,1\r\nx,y,vx,vy,val,rad\r\n4012000000000000,4012000000000000,0000000000000000,0000000000000000,3FE0000000000000,3FE0000000000000\r\n")
+    (bytes "time,index,x,y,vx,vy,val,rad\r\n3FF0000000000000,0,4012000000000000,4012000000000000,0000000000000000,0000000000000000,3FE0000000000000,3FE0000000000000\r\n")
 unfolding decimal
 example-answer = subst (Answers (textOf example)) example-listed (answer-input (textOf example) example example-formed)

@@ -85,7 +85,7 @@ get-map f (x ∷ l) (suc j) d z h = get-map f l j d z (le-of-suc-le-suc h)
 input-is : (m : List ℕ) → columns ≤ length m → inputAt (map float m) ≡ grainFrom (firstGrain m)
 input-is m h =
     let at : (j : ℕ) → j < columns → getD (map float m) j nan ≡ float (getD m j 0) = λ (j : ℕ) (w : j < columns). get-map float m j 0 nan (omega (arith, h, w)) in
-    λ t. grainOf (vec (at 0 (lit< tt) t) (at 1 (lit< tt) t)) (vec (at 2 (lit< tt) t) (at 3 (lit< tt) t)) fzero (at 4 (lit< tt) t)
+    λ t. grainOf (vec (at 0 (lit< tt) t) (at 1 (lit< tt) t)) (vec (at 2 (lit< tt) t) (at 3 (lit< tt) t)) fzero (at 4 (lit< tt) t) (at 5 (lit< tt) t)
 
 inputs-from : (k i : ℕ) (l : List ℕ) → (i + k) * columns ≤ length l → inputsOf k (map float (drop (i * columns) l)) ≡ map grainFrom (grainsFrom l i k)
 unfolding cut

@@ -29,10 +29,17 @@ abbrev pub boxFrom : Input → Domain
 boxFrom i = boxOf (vec (float (i .l0)) (float (i .l1))) (i .p0) (i .p1)
 
 abbrev pub grainFrom : Grain → Particle
-grainFrom g = grainOf (vec (float (g .x)) (float (g .y))) (vec (float (g .vx)) (float (g .vy))) fzero (float (g .val))
+grainFrom g = grainOf (vec (float (g .x)) (float (g .y))) (vec (float (g .vx)) (float (g .vy))) fzero (float (g .val)) (float (g .rad))
 
 abbrev pub shownGrain : Particle → Grain
-shownGrain p = record { x = toBits binary64 (p .pos .x); y = toBits binary64 (p .pos .y); vx = toBits binary64 (p .vel .x); vy = toBits binary64 (p .vel .y); val = toBits binary64 (p .val) }
+shownGrain p = record {
+  x = toBits binary64 (p .pos .x);
+  y = toBits binary64 (p .pos .y);
+  vx = toBits binary64 (p .vel .x);
+  vy = toBits binary64 (p .vel .y);
+  val = toBits binary64 (p .val);
+  rad = toBits binary64 (p .rad);
+}
 
 -- ---- "64 events a cell", "65,536 events at most in each run"
 abbrev pub room : ℕ

@@ -39,6 +39,7 @@ fn show_one(grains: &[f64], bits: &mut [u64])
     bits[2] = bits_of_float(p.vel.x);
     bits[3] = bits_of_float(p.vel.y);
     bits[4] = bits_of_float(p.val);
+    bits[5] = bits_of_float(p.rad);
 }
 
 // Those of the first n grains.

@@ -4,7 +4,7 @@ use Rattle.text.specs.Lines.{fieldWide}
 
 -- a grain's numbers
 abbrev pub columns : ℕ
-columns = 5
+columns = 6
 
 -- the grains that are kept, and their numbers
 abbrev pub mostKept : ℕ

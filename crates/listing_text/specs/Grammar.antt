@@ -15,13 +15,14 @@ pub record Grain : Type 0 where
   pub vx : ℕ
   pub vy : ℕ
   pub val : ℕ
+  pub rad : ℕ
 
 -- its numbers, in the order of the columns, and their names
 abbrev pub columnsOf : Grain → List ℕ
-columnsOf g = g .x ∷ g .y ∷ g .vx ∷ g .vy ∷ g .val ∷ []
+columnsOf g = g .x ∷ g .y ∷ g .vx ∷ g .vy ∷ g .val ∷ g .rad ∷ []
 
 abbrev pub columnNames : List ℕ
-columnNames = bytes "x,y,vx,vy,val\r\n"
+columnNames = bytes "x,y,vx,vy,val,rad\r\n"
 
 pub record Input : Type 0 where
   pub l0 : ℕ

@@ -10,7 +10,7 @@ use Rattle.listing_text.specs.Answers.{listingOf}
 
 -- the grain whose numbers come first in a list, zeros for those that it lacks
 abbrev pub firstGrain : List ℕ → Grain
-firstGrain l = record { x = getD l 0 0; y = getD l 1 0; vx = getD l 2 0; vy = getD l 3 0; val = getD l 4 0 }
+firstGrain l = record { x = getD l 0 0; y = getD l 1 0; vx = getD l 2 0; vy = getD l 3 0; val = getD l 4 0; rad = getD l 5 0 }
 
 abbrev pub noGrain : Grain
 noGrain = firstGrain []

@@ -9,7 +9,7 @@ use crate::columns::KEPT;
 use crate::columns::MOST;
 
 // The plan's place where a grain's line begins.
-const LINE: usize = 93;
+const LINE: usize = 97;
 
 // What was read by the plan, and the numbers of the first grains.
 pub struct Reader {
@@ -64,7 +64,7 @@ impl Reader {
         ensures { λ r. ⌜ r ≡ feedOf self b ⌝ }
     {
         let plan =
-            b"l0,l1,p0,p1,rate,n\r\nAAAAAAAAAAAAAAAA,BBBBBBBBBBBBBBBB,P,Q,EEEEEEEEEEEEEEEE,#+\nx,y,vx,vy,val\r\nFFFFFFFFFFFFFFFF,GGGGGGGGGGGGGGGG,HHHHHHHHHHHHHHHH,IIIIIIIIIIIIIIII,JJJJJJJJJJJJJJJJ\r\n";
+            b"l0,l1,p0,p1,rate,n\r\nAAAAAAAAAAAAAAAA,BBBBBBBBBBBBBBBB,P,Q,EEEEEEEEEEEEEEEE,#+\nx,y,vx,vy,val,rad\r\nFFFFFFFFFFFFFFFF,GGGGGGGGGGGGGGGG,HHHHHHHHHHHHHHHH,IIIIIIIIIIIIIIII,JJJJJJJJJJJJJJJJ,KKKKKKKKKKKKKKKK\r\n";
         let text = self.text;
         self.took(text.feed(plan, LINE, b))
     }

@@ -79,7 +79,7 @@ pub fn put_listing(out: &mut [u8; 4096], time: u64, numbers: &[u64; KEPT], n: us
     if MOST < n {
         return 0;
     }
-    let header = b"time,index,x,y,vx,vy,val\r\n";
+    let header = b"time,index,x,y,vx,vy,val,rad\r\n";
     let next = put_bytes(out, 0, header, 0);
     put_lines(out, next, time, numbers, 0, n)
 }

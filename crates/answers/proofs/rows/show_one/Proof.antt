@@ -49,6 +49,12 @@ bits-of-float-requires-5 c κs = search needs
 slice-write-bits-5 : tie.Need-slice-write-bits-5
 slice-write-bits-5 c = simp length-set (omega arith)
 
+bits-of-float-requires-6 : tie.Need-bits-of-float-requires-6
+bits-of-float-requires-6 c κs = search needs
+
+slice-write-bits-6 : tie.Need-slice-write-bits-6
+slice-write-bits-6 c = simp length-set (omega arith)
+
 same-length : tie.Need-same-length
 same-length c = search needs
 
@@ -60,8 +66,9 @@ returns c =
     let y : tie.After-bits-of-float2 = search in
     let vx : tie.After-bits-of-float3 = search in
     let vy : tie.After-bits-of-float4 = search in
+    let val : tie.After-bits-of-float5 = search in
     let g = b .args .grains .now in
-    rw (x .bits-of-float .ensures, y .bits-of-float2 .ensures, vx .bits-of-float3 .ensures, vy .bits-of-float4 .ensures, c .bits-of-float5 .ensures)
+    rw (x .bits-of-float .ensures, y .bits-of-float2 .ensures, vx .bits-of-float3 .ensures, vy .bits-of-float4 .ensures, val .bits-of-float5 .ensures, c .bits-of-float6 .ensures)
     (shown-over (b .args .bits .now) (p .read-grain .result) (grainAt g) (p .read-grain .ensures (grainAt g) (first-grain g (b .pre .0))) (b .pre .1))
 
 pub show-one-spec : {M : Type 1} → statement M
@@ -82,5 +89,7 @@ show-one-spec =
     slice-write-bits-4
     bits-of-float-requires-5
     slice-write-bits-5
+    bits-of-float-requires-6
+    slice-write-bits-6
     same-length
     returns)
