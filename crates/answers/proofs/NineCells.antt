@@ -18,7 +18,7 @@ use Rattle.model.specs.declared.Domain.{Domain}
 use Rattle.model.specs.Grid.{lengthOf, cellsOf, across, cells}
 use Rattle.model.specs.Sizes.{within, boxOk}
 use Rattle.halting.proofs.Bools.{and-l, and-r}
-use Rattle.model.proofs.Quarters.{facts}
+use Rattle.model.proofs.Eighths.{facts}
 use Rattle.listing_text.specs.Size.{twelve, longLength}
 
 -- ---- the float before 12

@@ -16,10 +16,10 @@ use Rattle.order.specs.Numbers.{fzero, one}
 use Rattle.model.specs.Constants.{leastRadius, greatestRadius, leastVal, greatestVal, shortest, longest}
 use Rattle.model.specs.Grid.{cellsOf, lengthOf, across, cells}
 use Rattle.model.specs.FromPToC.{width, firstCell, endCell, kernel, reached, cellsOfGrain}
-use Rattle.order.proofs.Mono.{plain, positive-plain, fr→le, sub-is, sub-mono, add-plain, sub-plain, not-inf, sub-under, div-minus, round-cut, sub-le-add, add-minus-zero, sub-minus-zero}
+use Rattle.order.proofs.Mono.{plain, positive-plain, fr→le, sub-is, sub-mono, add-plain, sub-plain, not-inf, sub-under, div-minus, round-cut, sub-le-add, add-minus-zero, sub-minus-zero, sum-mono}
 use Rattle.order.proofs.Value.{round-own}
-use Rattle.model.proofs.Quarters.{four, Facts, facts, half-plain, least-plain, least-half}
-use Rattle.model.proofs.Kernels.{half-self, sum-mono, lo-last, cut, eight, eight-plain, fortyeight-plain, from-zero, hi-in, hi-one, hi-some, inside, lo-far, low, max-cut-le, nine-plain, one-plain, plain-self, zero-le-plain, zero-plain}
+use Rattle.model.proofs.Eighths.{four, Facts, facts, half-plain, least-plain, least-half}
+use Rattle.model.proofs.Kernels.{half-self, lo-last, cut, eight, eight-plain, fortyeight-plain, from-zero, hi-in, hi-one, hi-some, inside, lo-far, low, max-cut-le, nine-plain, one-plain, plain-self, zero-le-plain, zero-plain}
 use Rattle.model.proofs.Few.{few-inside}
 use mathlib.Core.List.{List, _++_}
 use Rattle.model.specs.declared.Domain.{Domain}
@@ -143,13 +143,13 @@ module _ (l x r : Float) (h9 : T (le shortest l)) (h48 : T (le l longest)) (lr :
   x48 = O.le-trans x l longest xl h48
 
   mx-le : T (le mx (add binary64 l greatestRadius))
-  mx-le = sum-mono x l r greatestRadius px pl pr half-plain xl hr
+  mx-le = sum-mono binary64 x l r greatestRadius px pl pr half-plain xl hr
 
   mx-plain : T (plain mx)
-  mx-plain = add-plain binary64 x r (add binary64 longest greatestRadius) px pr sum-plain (sum-mono x longest r greatestRadius px fortyeight-plain pr half-plain x48 hr)
+  mx-plain = add-plain binary64 x r (add binary64 longest greatestRadius) px pr sum-plain (sum-mono binary64 x longest r greatestRadius px fortyeight-plain pr half-plain x48 hr)
 
   mx-one : T (le x greatestRadius) → T (le mx one)
-  mx-one h = subst (λ (z : Float). T (le mx z)) one-is (sum-mono x greatestRadius r greatestRadius px half-plain pr half-plain h hr)
+  mx-one h = subst (λ (z : Float). T (le mx z)) one-is (sum-mono binary64 x greatestRadius r greatestRadius px half-plain pr half-plain h hr)
 
   l-sub : T (le four (sub binary64 l greatestRadius))
   l-sub = O.le-trans four (sub binary64 shortest greatestRadius) (sub binary64 l greatestRadius) four-low (sub-mono binary64 shortest l greatestRadius greatestRadius nine-plain pl half-plain half-plain half-nine (F .length-half) h9 half-self)
@@ -244,12 +244,12 @@ module _ (l x r : Float) (h9 : T (le shortest l)) (h48 : T (le l longest)) (lr :
         let po : T (plain (sub binary64 mx l)) = sub-plain binary64 mx l one mx-plain pl ll one-plain o in
         let far : T (le eight x) = elim (O.le-total eight x (plain-no-nan eight eight-plain) (plain-no-nan x px)) [
           | inl t ↦ t
-          | inr t ↦ absurd (not-short (O.le-lt-trans shortest l (add binary64 eight greatestRadius) h9 (O.lt-le-trans l mx (add binary64 eight greatestRadius) lm (sum-mono x eight r greatestRadius px eight-plain pr half-plain t hr))))
+          | inr t ↦ absurd (not-short (O.le-lt-trans shortest l (add binary64 eight greatestRadius) h9 (O.lt-le-trans l mx (add binary64 eight greatestRadius) lm (sum-mono binary64 x eight r greatestRadius px eight-plain pr half-plain t hr))))
         ] in
         let inner : T (le (sub binary64 (F .low) greatestRadius) x) = elim (O.le-total (sub binary64 (F .low) greatestRadius) x (plain-no-nan (sub binary64 (F .low) greatestRadius) (F .inner-plain)) (plain-no-nan x px)) [
           | inl t ↦ t
           | inr t ↦ absurd (O.lt-irrefl l (O.lt-le-trans l mx l lm
-              (O.le-trans mx (add binary64 (sub binary64 (F .low) greatestRadius) greatestRadius) l (sum-mono x (sub binary64 (F .low) greatestRadius) r greatestRadius px (F .inner-plain) pr half-plain t hr)
+              (O.le-trans mx (add binary64 (sub binary64 (F .low) greatestRadius) greatestRadius) l (sum-mono binary64 x (sub binary64 (F .low) greatestRadius) r greatestRadius px (F .inner-plain) pr half-plain t hr)
               (O.le-trans (add binary64 (sub binary64 (F .low) greatestRadius) greatestRadius) (F .low) l (F .back) (F .low-le)))))
         ] in
         let deep : T (le (sub binary64 (sub binary64 (F .low) greatestRadius) greatestRadius) mn) = sub-mono binary64 (sub binary64 (F .low) greatestRadius) x greatestRadius r (F .inner-plain) px half-plain pr (F .inner-half) u inner hr in

@@ -16,10 +16,10 @@ use Rattle.order.proofs.Cut.{cut-mono}
 use Rattle.order.specs.Numbers.{one, two}
 use Rattle.model.specs.Constants.{greatestRadius, longest}
 use Rattle.model.specs.FromPToC.{width, firstCell, endCell}
-use Rattle.order.proofs.Mono.{plain, positive-plain, le→fr, div-is, add-mono, sub-mono, div-mono, num-pos}
+use Rattle.order.proofs.Mono.{plain, positive-plain, le→fr, div-is, add-mono, sub-mono, div-mono, num-pos, sum-mono}
 use Rattle.root.proofs.Cases.{no-nan}
-use Rattle.model.proofs.Quarters.{cnt, Facts, passed, tested, nth, half-plain}
-use Rattle.model.proofs.Kernels.{cut, sum-mono, two-positive, max-cut-ge, min-cut-le, cut-count, cnt-is, quotient-plain, one-plain, fortyeight-plain}
+use Rattle.model.proofs.Eighths.{cnt, Facts, passed, tested, nth, half-plain}
+use Rattle.model.proofs.Kernels.{cut, two-positive, max-cut-ge, min-cut-le, cut-count, cnt-is, quotient-plain, one-plain, fortyeight-plain}
 
 -- ---- fractions: A/P ≤ (i+5)/4, i/4 ≤ a/p, a/p < (k+1) c/d, 2 ≤ c/d: then A/P ≤ (k + 15/8) c/d
 far-enough : (A P a p c d i k : ℕ) → 0 < p → A * 4 ≤ (i + 5) * P → i * p ≤ a * 4 → a * d ≤ suc k * (c * p) → 2 * d ≤ c → A * d * 8 ≤ (8 * k + 15) * (c * P)
@@ -166,7 +166,7 @@ module _ (x r : Float) (px : T (plain x)) (pr : T (plain r)) (hr : T (le r great
       record {
         i = j - 2;
         high = through (num (add binary64 x r)) (num u) (j - 2 + 5) (den (add binary64 x r)) (den u) 4 (den-pos u)
-            (le→fr (add binary64 x r) u M (e 3) (sum-mono x b r greatestRadius px (positive-plain b (e 1)) pr half-plain hb hr))
+            (le→fr (add binary64 x r) u M (e 3) (sum-mono binary64 x b r greatestRadius px (positive-plain b (e 1)) pr half-plain hb hr))
             (leb→le (num u * 4) ((j - 2 + 5) * den u) (e 5));
         deep = through (j - 2) (num v) (num (sub binary64 x r)) 4 (den v) (den (sub binary64 x r)) (den-pos v)
             (leb→le ((j - 2) * den v) (num v * 4) (e 6))

@@ -20,7 +20,7 @@ use Rattle.model.specs.Sizes.{boxOk, lengthOk}
 use Rattle.halting.proofs.Bools.{clash, or-case, and-l, and-r}
 use Rattle.model.proofs.Queue.{T-of}
 use Rattle.model.proofs.Cases.{on-test}
-use Rattle.model.proofs.Quarters.{facts}
+use Rattle.model.proofs.Eighths.{facts}
 use Rattle.model.proofs.Plans.{grid-in}
 
 -- ---- 9 to 48 long: 3 to 16 cells

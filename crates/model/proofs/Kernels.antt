@@ -1,7 +1,7 @@
 -- The ends of a kernel, the cells that reach from one position to another in a direction: bounds from either side. Assumes nothing.
 use mathlib.Core.Path.{_≡_, refl, sym, ap, _∙_, subst}
 use Prim.Native.Nat.{ℕ, suc, _+_, _-_, _*_, _/_, _^_, _≤_, _<_, zero-le}
-use native.Mathlib.Nat.{le-refl, le-of-eq, le-trans, add-comm, mul-comm, mul-pos, mul-one, one-mul, zero-mul, suc-mul, le-div-iff-mul-le, lt-of-lt-of-le, lt-of-le-of-lt, min-le-left}
+use native.Mathlib.Nat.{le-refl, le-of-eq, le-trans, mul-pos, mul-one, one-mul, zero-mul, suc-mul, le-div-iff-mul-le, lt-of-lt-of-le, lt-of-le-of-lt, min-le-left}
 use native.Mathlib.Omega.{arith}
 use mathlib.Core.Bool.{Bool, true, false, not, cond}
 use lib.IntN.{pos}
@@ -18,7 +18,7 @@ use Rattle.order.specs.Numbers.{fzero, one, two, maxOf, minOf}
 use Rattle.model.specs.Constants.{leastRadius, greatestRadius, shortest, longest}
 use Rattle.model.specs.FromPToC.{width, firstCell, endCell}
 use Rattle.order.proofs.Mono.{plain, positive-plain, fr→le, add-is, div-is, add-mono, div-mono, div-plain, num-pos}
-use Rattle.model.proofs.Quarters.{more, four, cnt, Facts}
+use Rattle.model.proofs.Eighths.{more, four, cnt, Facts}
 
 -- Rust's `as usize`
 abbrev pub cut : Float → ℕ
@@ -180,18 +180,6 @@ zero-le-plain (fin false m e) p = unfold ofBits in O.leq→le false 0 (pos 0) fa
 
 pub plain-self : (z : Float) → T (plain z) → T (le z z)
 plain-self z p = fr→le z z p p (le-refl (num z * den z))
-
--- a sum grows with either part
-swapped : (x y : Float) → T (plain x) → T (plain y) → add binary64 x y ≡ add binary64 y x
-swapped x y p q =
-    add-is binary64 x y p q ∙ ap (λ (a : ℕ). round binary64 false a (den x * den y)) (add-comm (num x * den y) (num y * den x))
-    ∙ ap (λ (c : ℕ). round binary64 false (num y * den x + num x * den y) c) (mul-comm (den x) (den y)) ∙ sym (add-is binary64 y x q p)
-
-pub sum-mono : (x x' y y' : Float) → T (plain x) → T (plain x') → T (plain y) → T (plain y') → T (le x x') → T (le y y') → T (le (add binary64 x y) (add binary64 x' y'))
-sum-mono x x' y y' p p' q q' h k =
-    O.le-trans (add binary64 x y) (add binary64 x' y) (add binary64 x' y') (add-mono binary64 x x' y p p' q h)
-    (subst (λ (z : Float). T (le z (add binary64 x' y'))) (swapped y x' q p')
-    (subst (λ (z : Float). T (le (add binary64 y x') z)) (swapped y' x' q' p') (add-mono binary64 y y' x' q q' p' k)))
 
 pub nothing : (d c : ℕ) → 0 < c → round binary64 false (num fzero * d) c ≡ fzero
 unfolding ofBits

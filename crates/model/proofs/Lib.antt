@@ -67,9 +67,9 @@ pub mod Cleared
 pub mod Starts
 pub mod Fresh
 pub mod Roots
--- from_p_to_c: the box's cells (Grid, and by quarters of a length Quarters), ends of a kernel (Kernels), at most two in a direction (Few), and lists of cells (Placed).
+-- from_p_to_c: the box's cells (Grid, and by eighths of a length Eighths), ends of a kernel (Kernels), at most two in a direction (Few), and lists of cells (Placed).
 pub mod Grid
-pub mod Quarters
+pub mod Eighths
 pub mod Kernels
 pub mod Few
 pub mod Placed

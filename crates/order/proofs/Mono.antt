@@ -1,7 +1,7 @@
 -- Sums, differences and quotients of values that are not below zero keep the order of what goes in. `plain` values are finite with the sign clear (+0 too). Assumes nothing.
 use mathlib.Core.Path.{_≡_, refl, sym, ap, _∙_, subst}
 use Prim.Native.Nat.{ℕ, zero, suc, _+_, _-_, _*_, _^_, _≤_, _<_}
-use native.Mathlib.Nat.{le-of-eq, le-trans, mul-pos, mul-comm, mul-assoc, mul-left-comm, mul-le-mul-right, add-mul, mul-sub, zero-mul, lt-irrefl}
+use native.Mathlib.Nat.{le-of-eq, le-trans, mul-pos, add-comm, mul-comm, mul-assoc, mul-left-comm, mul-le-mul-right, add-mul, mul-sub, zero-mul, lt-irrefl}
 use native.Mathlib.Omega.{arith}
 use mathlib.Core.Bool.{Bool, true, false, _&&_, cond}
 use lib.IntN.{ℤ}
@@ -12,6 +12,7 @@ use lib.Ieee.Order.{round-mono}
 use lib.Ieee.Positive.{num, den, positive, den-pos, own-value, value-pos}
 use borrow.Author.Tests.{le-ltb, lt-ltb}
 use Rattle.order.proofs.Order.{le→leq, leq→le}
+use Rattle.order.proofs.Order as O
 use Rattle.order.proofs.Clock.{round-neg}
 
 -- finite, sign clear
@@ -95,6 +96,17 @@ add-mono f x x' y p p' q h =
     (subst (λ (z : Float). T (le (round f false (num x * den y + num y * den x) (den x * den y)) z)) (sym (add-is f x' y p' q))
     (round-mono f _ (den x * den y) _ (den x' * den y) (mul-pos (den-pos x) (den-pos y)) (mul-pos (den-pos x') (den-pos y))
     (add-fr (num x) (den x) (num x') (den x') (num y) (den y) (le→fr x x' p p' h))))
+
+-- and in both parts
+swapped : (f : Format) (x y : Float) → T (plain x) → T (plain y) → add f x y ≡ add f y x
+swapped f x y p q =
+    add-is f x y p q ∙ ap (λ (a : ℕ). round f false a (den x * den y)) (add-comm (num x * den y) (num y * den x))
+    ∙ ap (λ (c : ℕ). round f false (num y * den x + num x * den y) c) (mul-comm (den x) (den y)) ∙ sym (add-is f y x q p)
+
+pub sum-mono : (f : Format) (x x' y y' : Float) → T (plain x) → T (plain x') → T (plain y) → T (plain y') → T (le x x') → T (le y y') → T (le (add f x y) (add f x' y'))
+sum-mono f x x' y y' p p' q q' h k =
+    O.le-trans (add f x y) (add f x' y) (add f x' y') (add-mono f x x' y p p' q h)
+    (subst (λ (z : Float). T (le z (add f x' y'))) (swapped f y x' q p') (subst (λ (z : Float). T (le (add f y x') z)) (swapped f y' x' q' p') (add-mono f y y' x' q q' p' k)))
 
 pub add-plain : (f : Format) (x y hi : Float) → T (plain x) → T (plain y) → T (plain hi) → T (le (add f x y) hi) → T (plain (add f x y))
 add-plain f x y hi p q r h =
