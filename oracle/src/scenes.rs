@@ -44,7 +44,8 @@ pub fn scenes() -> Vec<Scene> {
     all.extend([other_rates(), damaged(), altered(), other_counts()]);
     all.extend(other_radii());
     all.extend(crafted_radii().into_iter().flat_map(followed));
-    all.extend([damaged_radii(), altered_radii()]);
+    all.push(damaged_radii());
+    all.extend([0.3, 3.7, 0., -0.25, 1e300].map(altered_radius));
     all
 }
 
@@ -194,10 +195,10 @@ fn other_radii() -> Vec<Scene> {
         seen(sized(Radii::Three, 31, [9., 9.], PERIODIC, 64, 3)),
         seen(sized(Radii::Any, 32, [9.8, 11.1], WALLS, 64, 3)),
         seen(sized(Radii::Any, 33, [11.3, 9.7], MIXED, 64, 8)),
-        many(sized(Radii::Three, 34, [9., 9.], WALLS, 256, 32)),
+        many(sized(Radii::Three, 34, [9., 9.], WALLS, 128, 32)),
         ends(sized(Radii::Three, 35, [17.3, 14.9], PERIODIC, 64, 32)),
-        many(sized(Radii::Any, 36, [23.7, 24.2], MIXED, 64, 150)),
-        many(sized(Radii::Any, 37, [24., 24.], WALLS, 64, 120)),
+        many(sized(Radii::Any, 36, [23.7, 24.2], MIXED, 32, 120)),
+        many(sized(Radii::Any, 37, [14.1, 12.3], WALLS, 64, 40)),
     ]
 }
 
@@ -262,14 +263,10 @@ fn altered() -> Scene {
     scene(meeting(), shown(commands))
 }
 
-/// A grain's radius is changed to others that are finite, in range or not: the run goes on, and halts by 5 at the end.
-fn altered_radii() -> Scene {
-    let mut commands = vec![runs(0.9, 1, 5)];
-    for rad in [0.3, 3.7, 0., -0.25, 1e300] {
-        commands.push(Put { table: 1, place: GRAINS_HEAD + GRAIN - 1, word: f64::to_bits(rad) });
-        commands.push(runs(0.9, 1, 8));
-    }
-    scene(meeting(), shown(commands))
+/// A grain's radius is changed to another finite one, in range or not: the run goes on, and may halt.
+fn altered_radius(rad: f64) -> Scene {
+    let radius = Put { table: 1, place: GRAINS_HEAD + GRAIN - 1, word: rad.to_bits() };
+    scene(meeting(), vec![runs(0.9, 1, 5), radius, runs(0.9, 1, 15), Show])
 }
 
 /// Counts that the tables hold, out of range or in it: 2 where the tables are too short for them too, otherwise
