@@ -27,7 +27,7 @@ enum {
     FESOLOPI_BAD_LENGTH = 1,      /* a box length is not from 9 to 48 */
     FESOLOPI_BAD_COUNT = 2,       /* a count is out of range, or a table is shorter than the counts need */
     FESOLOPI_BAD_RATE = 3,        /* the sync rate is not from 2^-20 to 2^20 */
-    FESOLOPI_BAD_GRAIN = 4,       /* a start number of a grain is out of range */
+    FESOLOPI_BAD_GRAIN = 4,       /* a start number of a grain is out of range: its radius, 0.25 to 0.5, too */
     FESOLOPI_NOT_FINITE = 5,      /* halted: a number about to be stored is not finite, or an event is too late */
     FESOLOPI_EVENTS_FULL = 6,     /* halted: a cell holds its full number of events and one more is due */
     FESOLOPI_LIST_FULL = 7,       /* halted: a 33rd grain in a cell, or a 9th cell of a grain */
@@ -39,7 +39,7 @@ enum {
 
 /* Starts a simulation in the five tables: a box of lengths l0 and l1, periodic or between walls in each
  * direction, `room` places for events in each cell, and `count` grains.
- * inputs: five floats for each grain, x, y, vx, vy and its value.
+ * inputs: six floats for each grain, x, y, vx, vy, its value and its radius, which it keeps for life.
  *
  *   0        accepted. Every place of the tables was cleared, and they hold the start.
  *   1, 2, 4  refused, and no table is changed.

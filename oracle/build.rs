@@ -15,7 +15,7 @@ const FILES: &[(&str, &[Patch])] = &[
         &[
             ("mod util;", "mod util;\npub mod bridge;\npub mod rules;"),
             // the box's flags and the grains come from the start text, not from a seed
-            ("nparticles: usize, seed: f64", "periodicities: [bool; NDIMS], grains: &[[f64; 5]]"),
+            ("nparticles: usize, seed: f64", "periodicities: [bool; NDIMS], grains: &[[f64; 6]]"),
             ("let mut periodicities = [true; NDIMS];", "let mut periodicities = periodicities;"),
             ("periodicities[1] = false;", ""),
             ("particle::init_particles", "bridge::init_particles"),

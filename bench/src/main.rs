@@ -41,7 +41,8 @@ fn timed(work: impl FnOnce()) -> f64 {
 
 /// One round of the port: its time, the events that it did, and how it ends.
 fn port_round(row: &Row, start: &Start) -> (f64, u64, Simulation) {
-    let grain = |&[x, y, vx, vy, value]: &Inputs| Grain { position: [x, y], velocity: [vx, vy], value };
+    let grain =
+        |&[x, y, vx, vy, value, rad]: &Inputs| Grain { position: [x, y], velocity: [vx, vy], value, rad };
     let grains: Vec<Grain> = start.grains.iter().map(grain).collect();
     let domain = Domain { lengths: start.lengths, periodic: start.periodic };
     let mut port = Simulation::start(&domain, start.room, &grains).expect("the start is accepted");

@@ -5,7 +5,7 @@
 #include <stdlib.h>
 
 int main(void) {
-    const double grain[5] = {3.5, 4.5, -1.0, 0.0, 0.5}; /* x, y, vx, vy, value */
+    const double grain[6] = {3.5, 4.5, -1.0, 0.0, 0.5, 0.5}; /* x, y, vx, vy, value, radius */
     const uint64_t room = 64;
     uint64_t inputs, lists_length, grains_length, queue_length, events_length, order_length, bad, done,
         answer;
@@ -21,7 +21,7 @@ int main(void) {
         return 1;
 
     answer =
-        fesolopi_start(9.0, 9.0, true, true, 1, room, grain, 5, lists, lists_length, grains, grains_length,
+        fesolopi_start(9.0, 9.0, true, true, 1, room, grain, 6, lists, lists_length, grains, grains_length,
                        queue, queue_length, events, events_length, order, order_length, &bad);
     printf("start: %d\n", (int)answer);
     for (int n = 1; n <= 3; n++) {

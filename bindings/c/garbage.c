@@ -71,7 +71,8 @@ static double real(void) {
         0x0000000000000000, 0x8000000000000000, 0x0000000000000001, 0x3FF0000000000000,
         0x4012000000000000, 0x4022000000000000, 0x4048000000000000, 0x4090000000000000,
         0x7FEFFFFFFFFFFFFF, 0x7FF0000000000000, 0xFFF0000000000000, 0x7FF8000000000000,
-        0xFFFFFFFFFFFFFFFF, 0x7FF0000000000001, 0x3EB0000000000000, 0x4130000000000000};
+        0xFFFFFFFFFFFFFFFF, 0x7FF0000000000001, 0x3EB0000000000000, 0x4130000000000000,
+        0x3FD0000000000000, 0x3FE0000000000000};
     uint64_t bits = below(4) ? ends[below(sizeof ends / sizeof *ends)] : draw();
     double x;
     memcpy(&x, &bits, 8);
@@ -227,11 +228,11 @@ static void damaged(double l0, double l1, uint64_t count, uint64_t room) {
     for (int n = 0; n < TABLES; n++)
         make(n, need[n]);
     for (uint64_t n = 0; n < count; n++) {
-        const double low[5] = {0.5, 0.5, -2, -2, 0}, high[5] = {l0 - 0.5, l1 - 0.5, 2, 2, 1};
-        double grain[5];
-        for (int m = 0; m < 5; m++)
+        const double low[6] = {0.5, 0.5, -2, -2, 0, 0.25}, high[6] = {l0 - 0.5, l1 - 0.5, 2, 2, 1, 0.5};
+        double grain[6];
+        for (int m = 0; m < 6; m++)
             grain[m] = between(low[m], high[m]);
-        memcpy(t[INPUTS].at + 40 * n, grain, 40);
+        memcpy(t[INPUTS].at + 48 * n, grain, 48);
     }
     uint64_t cells = need[QUEUE] / (1 + 4 * room), answer = start(l0, l1, count, room);
     must(answer == 0 || (5 <= answer && answer <= 9), "a sound start is accepted");

@@ -8,6 +8,7 @@ use crate::model::facts::broken;
 use crate::model::run::{Report, Started, Told};
 use crate::model::state::State;
 use crate::mutate::{try_mutated, Mutations};
+use crate::radii::Radii;
 use crate::random::Random;
 use crate::report::{head, parted, row};
 use crate::rust::{AsPublished, Published, WithRules};
@@ -25,6 +26,7 @@ struct Figures {
     starts: u64,
     events: u64,
     inside: u64,
+    radii: BTreeMap<Radii, u64>,
     splits: u64,
     causes: BTreeMap<String, u64>,
     published_runs: u64,
@@ -43,6 +45,7 @@ impl Figures {
     fn count(&mut self, run: &Run) {
         self.events += 1;
         self.inside += u64::from(run.inside);
+        *self.radii.entry(run.radii).or_default() += 1;
     }
 
     fn mismatch(&mut self, what: &str, start: &Start, events: u64) {
@@ -86,6 +89,7 @@ struct Run {
     /// The text as published, until it goes another way or the domain is left.
     published: Option<AsPublished>,
     inside: bool,
+    radii: Radii,
     rate: f64,
     /// The clock before the last event.
     clock: f64,
@@ -101,6 +105,7 @@ fn one_run(start: &Start, model: State, random: &mut Random, figures: &mut Figur
         rust: WithRules::start(start),
         published: beside.then(|| AsPublished::start(start)),
         inside: true,
+        radii: Radii::of(start),
         rate: start.rate,
         clock: 0.,
         ours: Vec::new(),
@@ -218,6 +223,7 @@ fn print_figures(f: &Figures, seed: u64) {
     count("starts", f.starts);
     count("events compared, whole state after each", f.events);
     count("of them inside the domain", f.inside);
+    f.radii.iter().for_each(|(radii, &events)| count(&format!("of them with {}", radii.name()), events));
     count("leaves compared, of each kind", LEAVES);
     count("budgets split", f.splits);
     count("mutated states refused with nothing changed", refused);

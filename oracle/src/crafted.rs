@@ -1,6 +1,7 @@
 // The smallest inputs known for each refusal, with what the model must answer; and the order of a run's
 // checks on states that no start gives. `oracle refusals` runs them all.
-use crate::known::{correction, correction_at_walls, grain, meeting, PERIODIC};
+use crate::known::{correction, correction_at_walls, grain, meeting, sized, PERIODIC};
+use crate::model::grid::{GREATEST_RADIUS, LEAST_RADIUS};
 use crate::model::run::{Report, Started, Told};
 use crate::model::state::{Inputs, State, SYNC};
 use crate::text::Start;
@@ -57,7 +58,7 @@ pub fn crafted() -> Vec<Crafted> {
             s.periodic[0] = false
         }),
         case("4 too fast", &[grain(4.5, 4.5, 1024.5, 0.)], Answer::Refused(4, Some(0))),
-        case("4 value not a number", &[[4.5, 4.5, 0., 0., f64::NAN]], Answer::Refused(4, Some(0))),
+        case("4 value not a number", &[[4.5, 4.5, 0., 0., f64::NAN, 0.5]], Answer::Refused(4, Some(0))),
         case("5 at start, the least velocity", &[grain(4.5, 4.5, least, 0.)], Answer::HaltedAtStart(5)),
         case(
             "5 at start, time exactly the largest float",
@@ -84,9 +85,63 @@ pub fn crafted() -> Vec<Crafted> {
     ]
 }
 
+/// The same for radii: those out of range, grains within their radius of a wall, and halts of smaller grains.
+pub fn crafted_radii() -> Vec<Crafted> {
+    let bad = |name, rad| case(name, &[sized(4.5, 4.5, 0., 0., rad)], Answer::Refused(4, Some(0)));
+    let walled = |name, grain, answer| with(case(name, &[grain], answer), |s| s.periodic[0] = false);
+    let high: f64 = 9. - 0.3;
+    vec![
+        bad("4 radius too small", LEAST_RADIUS.next_down()),
+        bad("4 radius too large", GREATEST_RADIUS.next_up()),
+        bad("4 radius not a number", f64::NAN),
+        bad("4 radius infinite", f64::INFINITY),
+        case(
+            "4 names the lowest, by its radius",
+            &[sized(4.5, 4.5, 0., 0., 0.25), sized(4.5, 4.5, 0., 0., 0.2), grain(-1., 1., 0., 0.)],
+            Answer::Refused(4, Some(1)),
+        ),
+        walled(
+            "4 within its radius of the low wall",
+            sized(0.29, 4.5, 0., 0., 0.3),
+            Answer::Refused(4, Some(0)),
+        ),
+        walled(
+            "4 within its radius of the high wall",
+            sized(high.next_up(), 4.5, 0., 0., 0.3),
+            Answer::Refused(4, Some(0)),
+        ),
+        case(
+            "7 at start, a grain not yet stored",
+            &[sized(4.5, 4.5, 0., 0., 0.3); 34],
+            Answer::HaltedAtStart(7),
+        ),
+        with(
+            walled(
+                "8 from length less radius",
+                sized(AT_THE_WALL.0 - AT_THE_WALL.1, 4.5, -1., 0., AT_THE_WALL.1),
+                Answer::Halted { number: 8, events: 9 },
+            ),
+            |s| s.lengths[0] = AT_THE_WALL.0,
+        ),
+        case(
+            "9 the lost grain, a smaller one",
+            &[sized(3.25, 4.5, -1., 0., 0.25)],
+            Answer::Halted { number: 9, events: 1 },
+        ),
+    ]
+}
+
+/// A length and a radius whose difference and the radius add up to more than the length.
+const AT_THE_WALL: (f64, f64) = (11.44, 0.367);
+
+/// All of them.
+pub fn all_crafted() -> Vec<Crafted> {
+    crafted().into_iter().chain(crafted_radii()).collect()
+}
+
 /// Starts that no random one comes near: the crafted ones, and those where the periodic correction shows.
 pub fn known_starts() -> Vec<Start> {
-    let mut all: Vec<Start> = crafted().into_iter().map(|c| c.start).collect();
+    let mut all: Vec<Start> = all_crafted().into_iter().map(|c| c.start).collect();
     all.extend([correction(), correction_at_walls()]);
     all
 }
@@ -111,27 +166,25 @@ pub fn answer(start: &Start) -> Option<(Answer, Option<State>)> {
 /// Runs the crafted inputs and the orders of a run's checks; says if all answered as they should.
 pub fn refusals() -> bool {
     let mut wrong = 0;
-    for c in crafted() {
+    let starts = all_crafted();
+    for c in &starts {
         let got = answer(&c.start).map(|(a, _)| a);
         if got != Some(c.answer) {
             println!("WRONG: {}: {got:?}, not {:?}", c.name, c.answer);
             wrong += 1;
         }
     }
-    for (name, state, rate, number) in checks() {
+    let states: Vec<Check> = checks().into_iter().chain(radius_checks()).collect();
+    for (name, state, rate, number) in &states {
         let mut after = state.clone();
-        let report = after.run(rate, 5);
-        let zeros = Report { told: Told::Refused(number), clock: 0., events: 0 };
-        if !report.same(&zeros) || held(&state) != held(&after) {
+        let report = after.run(*rate, 5);
+        let zeros = Report { told: Told::Refused(*number), clock: 0., events: 0 };
+        if !report.same(&zeros) || held(state) != held(&after) {
             println!("WRONG: {name}: {report:?}, not {number} with nothing changed");
             wrong += 1;
         }
     }
-    println!(
-        "refusals: {} crafted starts, {} crafted states, {wrong} wrong",
-        crafted().len(),
-        checks().len()
-    );
+    println!("refusals: {} crafted starts, {} crafted states, {wrong} wrong", starts.len(), states.len());
     wrong == 0
 }
 
@@ -143,13 +196,25 @@ pub fn sound() -> State {
     s
 }
 
+/// A state with its name, the rate of a run, and the run's answer.
+pub type Check = (&'static str, State, f64, u64);
+
+fn changed(change: fn(&mut State)) -> State {
+    let mut s = sound();
+    change(&mut s);
+    s
+}
+
+/// States whose radii are not finite.
+pub fn radius_checks() -> Vec<Check> {
+    vec![
+        ("a radius not a number", changed(|s| s.grains[0].rad = f64::NAN), 1., 10),
+        ("a radius not finite", changed(|s| s.grains[1].rad = f64::NEG_INFINITY), 1., 10),
+    ]
+}
+
 /// States that break one standing fact each, or several checks at once, with the run's answer.
-pub fn checks() -> Vec<(&'static str, State, f64, u64)> {
-    let changed = |change: fn(&mut State)| {
-        let mut s = sound();
-        change(&mut s);
-        s
-    };
+pub fn checks() -> Vec<Check> {
     let head = |s: &State| (0..s.queues.len()).find(|&c| s.queues[c].count > 1 && c > 0).unwrap();
     let event = |change: fn(&mut crate::model::state::Place)| {
         let mut s = sound();

@@ -1,12 +1,18 @@
 // Starts that more than one command follows, by name; and a grain as they write it.
+use crate::model::grid::GREATEST_RADIUS;
 use crate::model::state::Inputs;
 use crate::text::Start;
 
 pub const PERIODIC: [bool; 2] = [true, true];
 
-/// A grain of value 0.5.
+/// A grain of value 0.5 and the greatest radius.
 pub fn grain(x: f64, y: f64, vx: f64, vy: f64) -> Inputs {
-    [x, y, vx, vy, 0.5]
+    sized(x, y, vx, vy, GREATEST_RADIUS)
+}
+
+/// A grain of value 0.5 and this radius.
+pub fn sized(x: f64, y: f64, vx: f64, vy: f64, rad: f64) -> Inputs {
+    [x, y, vx, vy, 0.5, rad]
 }
 
 /// One grain at rest, with both zeros.
@@ -16,12 +22,13 @@ pub fn still() -> Start {
 
 /// One fast grain between walls, and one whose velocity has a negative zero.
 pub fn fast() -> Start {
-    Start::small([false, true], 64, &[[1.3, 2.2, 900.5, 31.25, 0.5], [6.1, 7.7, -0., 0.3, 0.125]])
+    Start::small([false, true], 64, &[grain(1.3, 2.2, 900.5, 31.25), [6.1, 7.7, -0., 0.3, 0.125, 0.5]])
 }
 
 /// Six grains that touch each other, at round positions.
 pub fn lattice() -> Start {
-    let grain = |n| [1.5 + (n % 3) as f64, 3.5 + (n / 3) as f64, 0.37 - 0.11 * n as f64, 0.05 * n as f64, 1.];
+    let grain =
+        |n| [1.5 + (n % 3) as f64, 3.5 + (n / 3) as f64, 0.37 - 0.11 * n as f64, 0.05 * n as f64, 1., 0.5];
     Start::small([false, true], 64, &[0, 1, 2, 3, 4, 5].map(grain))
 }
 

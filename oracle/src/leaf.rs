@@ -1,7 +1,8 @@
 // A leaf: what one scheduling sees, with floats of full width. Beside it steppings and positions in boxes of the same kind.
 use crate::model::grid::{cells_along, corrected, span};
 use crate::model::plan::{collision, out_of_cell, to_neighbour, wall, Plan};
-use crate::model::state::{Grain, Inputs, State, COLLISION, NEIGHBOUR, OUT};
+use crate::model::state::{Grain, Inputs, State, COLLISION, INPUTS, NEIGHBOUR, OUT};
+use crate::radii::Radii;
 use crate::random::Random;
 
 /// A cell of a box with two grains, both stepped to the clock.
@@ -59,26 +60,27 @@ fn speed(r: &mut Random) -> f64 {
     }
 }
 
-/// A position in the cell or within a grain's reach of it, or anywhere in the box and around it.
-fn position(r: &mut Random, length: f64, column: usize) -> f64 {
+/// A position in the cell or within a grain's radius of it, or anywhere in the box and around it.
+fn position(r: &mut Random, length: f64, column: usize, rad: f64) -> f64 {
     let width = length / cells_along(length) as f64;
     match r.below(6) {
         0 => r.between(-3., length + 3.),
-        1 => width * column as f64 + r.pick(&[-0.5, 0., 0.5]),
-        _ => r.between(width * column as f64 - 0.5, width * (column + 1) as f64 + 0.5),
+        1 => width * column as f64 + r.pick(&[-rad, 0., rad]),
+        _ => r.between(width * column as f64 - rad, width * (column + 1) as f64 + rad),
     }
 }
 
-pub fn random_leaf(r: &mut Random) -> Leaf {
+pub fn random_leaf(r: &mut Random, radii: Radii) -> Leaf {
     let lengths = [length(r), length(r)];
     let periodic = [r.once_in(2), r.once_in(2)];
     let n = lengths.map(cells_along);
     let at = n.map(|n| if r.once_in(2) { r.pick(&[0, n - 1]) } else { r.below(n as u64) as usize });
     let clock = if r.once_in(3) { 0. } else { r.between(0., 1000.) };
-    let mut grains = [[0.; 5]; 2];
+    let mut grains = [[0.; INPUTS]; 2];
     for g in &mut grains {
-        let [x, y] = [0, 1].map(|dim| position(r, lengths[dim], at[dim]));
-        *g = [x, y, speed(r), speed(r), r.between(0., 1.)];
+        let rad = radii.draw(r);
+        let [x, y] = [0, 1].map(|dim| position(r, lengths[dim], at[dim], rad));
+        *g = [x, y, speed(r), speed(r), r.between(0., 1.), rad];
     }
     if r.once_in(2) {
         // the second grain near the first and moving toward it
@@ -86,8 +88,8 @@ pub fn random_leaf(r: &mut Random) -> Leaf {
         let (dx, dy) = (r.between(-2.5, 2.5), r.between(-2.5, 2.5));
         let pace = r.between(0.1, 3.);
         let aside = r.between(-0.3, 0.3);
-        let val = grains[1][4];
-        grains[1] = [x + dx, y + dy, grains[0][2] - pace * dx, grains[0][3] - pace * dy + aside, val];
+        let [.., val, rad] = grains[1];
+        grains[1] = [x + dx, y + dy, grains[0][2] - pace * dx, grains[0][3] - pace * dy + aside, val, rad];
     }
     Leaf { lengths, periodic, clock, cell: at[0] + n[0] * at[1], grains }
 }
@@ -102,18 +104,19 @@ pub fn random_stepping(r: &mut Random) -> Stepping {
     (lengths, pos, [speed(r), speed(r)], dt)
 }
 
-/// Lengths, and a position.
-pub type Spot = ([f64; 2], [f64; 2]);
+/// Lengths, a position, and a radius.
+pub type Spot = ([f64; 2], [f64; 2], f64);
 
-/// An accepted start position in a box, often on a border.
-pub fn random_spot(r: &mut Random) -> Spot {
+/// An accepted start position in a periodic box, often on a border.
+pub fn random_spot(r: &mut Random, radii: Radii) -> Spot {
     let lengths = [length(r), length(r)];
+    let rad = radii.draw(r);
     let pos = lengths.map(|l| {
         let n = cells_along(l);
-        let border = l / n as f64 * r.below(n as u64 + 1) as f64 + r.pick(&[-0.5, 0., 0.5]);
+        let border = l / n as f64 * r.below(n as u64 + 1) as f64 + r.pick(&[-rad, 0., rad]);
         let near = r.pick(&[border, border.next_up(), border.next_down()]);
         let x = if r.once_in(2) { near } else { r.between(0., l) };
         x.clamp(0., l)
     });
-    (lengths, pos)
+    (lengths, pos, rad)
 }

@@ -3,6 +3,7 @@ use crate::leaf::{random_leaf, random_spot, random_stepping, Leaf, Spot, Steppin
 use crate::model::grid::{from_p_to_c, get_new_pos};
 use crate::model::plan::Plan;
 use crate::model::state::{Place, COLLISION, NEIGHBOUR, OUT, WALL};
+use crate::radii::Radii;
 use crate::random::Random;
 use crate::rust::{Published, WithRules};
 
@@ -41,26 +42,27 @@ pub fn agreed_stepping(&(lengths, pos, vel, dt): &Stepping) -> Result<[f64; 2], 
     }
 }
 
-pub fn agreed_spot(&(lengths, pos): &Spot) -> Result<Vec<usize>, String> {
-    let ours = from_p_to_c(lengths, pos);
-    if ours == WithRules::cells_touched(lengths, pos) {
+pub fn agreed_spot(&(lengths, pos, rad): &Spot) -> Result<Vec<usize>, String> {
+    let ours = from_p_to_c(lengths, pos, rad);
+    if ours == WithRules::cells_touched(lengths, pos, rad) {
         Ok(ours)
     } else {
-        Err(format!("cells of {pos:?} in {lengths:?}"))
+        Err(format!("cells of {pos:?}, radius {rad:?}, in {lengths:?}"))
     }
 }
 
-/// Compares so many random leaves of each kind; gives back how many differed.
+/// Compares so many random leaves of each kind, with radii of every kind; gives back how many differed.
 pub fn compare_leaves(r: &mut Random, count: u64) -> u64 {
     let mut wrong = Vec::new();
     for _ in 0..count {
-        let leaf = random_leaf(r);
+        let radii = r.pick(&Radii::ALL);
+        let leaf = random_leaf(r, radii);
         wrong.extend(agreed(&leaf, COLLISION, 0).err());
         for kind in [NEIGHBOUR, OUT, WALL] {
             wrong.extend((0..2).filter_map(|dim| agreed(&leaf, kind, dim).err()));
         }
         wrong.extend(agreed_stepping(&random_stepping(r)).err());
-        wrong.extend(agreed_spot(&random_spot(r)).err());
+        wrong.extend(agreed_spot(&random_spot(r, radii)).err());
     }
     wrong.iter().for_each(|what| println!("MISMATCH: {what}"));
     wrong.len() as u64

@@ -14,6 +14,7 @@ pub mod listings;
 pub mod lost;
 pub mod model;
 pub mod mutate;
+pub mod radii;
 pub mod random;
 pub mod report;
 pub mod root_arguments;

@@ -5,20 +5,22 @@
 //
 // Refusals 2 and 10 can't be reached (`answers/Never.answers-are`): the counts are in range where a text is not too large, and the tables that a
 // start leaves hold the standing facts.
-use crate::crafted::crafted;
+use crate::crafted::{crafted, crafted_radii, Crafted};
 use crate::files::write;
-use crate::known::{grain, PERIODIC};
+use crate::known::{grain, sized, PERIODIC};
+use crate::model::grid::{GREATEST_RADIUS, LEAST_RADIUS};
 use crate::model::run::{Report, Started, Told};
 use crate::model::state::{Inputs, State};
+use crate::radii::Radii;
 use crate::random::Random;
 use crate::text::{hex, Start};
 use crate::walk::walk;
 
 const BOX: &str = "l0,l1,p0,p1,rate,n";
-const GRAINS: &str = "x,y,vx,vy,val";
-const LISTED: &str = "time,index,x,y,vx,vy,val";
+const GRAINS: &str = "x,y,vx,vy,val,rad";
+const LISTED: &str = "time,index,x,y,vx,vy,val,rad";
 const STILL: &str =
-    "4012000000000000,4012000000000000,0000000000000000,0000000000000000,3FE0000000000000\r\n";
+    "4012000000000000,4012000000000000,0000000000000000,0000000000000000,3FE0000000000000,3FE0000000000000\r\n";
 const SERVED: usize = 32;
 const ROOM: u64 = 64;
 const BUDGET: u32 = 65_536;
@@ -109,7 +111,7 @@ fn ended(report: Report) -> String {
 
 fn lines(clock: f64, state: &State) -> Vec<String> {
     let line = |(n, g): (usize, &crate::model::state::Grain)| {
-        let numbers = [g.pos[0], g.pos[1], g.vel[0], g.vel[1], g.val].map(hex).join(",");
+        let numbers = [g.pos[0], g.pos[1], g.vel[0], g.vel[1], g.val, g.rad].map(hex).join(",");
         format!("{},{n},{numbers}\r\n", hex(clock))
     };
     state.grains.iter().enumerate().map(line).collect()
@@ -122,6 +124,7 @@ fn all() -> Vec<Vec<u8>> {
     let mut all: Vec<Vec<u8>> = starts.map(|s| spelt(&s).into_bytes()).collect();
     all.extend(many());
     all.extend(written());
+    all.extend(of_radii());
     all
 }
 
@@ -154,17 +157,10 @@ fn served_starts() -> Vec<Start> {
     let mut r = Random(41);
     for periodic in [[true, true], [true, false], [false, true], [false, false]] {
         for count in [0, 1, 2, 5, 12, 20, 32] {
-            let lengths = [r.between(9., 12.), r.between(9., 12.)];
-            let within = |r: &mut Random, dim: usize| r.between(0.5, lengths[dim] - 0.5);
-            let grains = (0..count).map(|_| {
-                let (x, y) = (within(&mut r, 0), within(&mut r, 1));
-                [x, y, r.between(-2., 2.), r.between(-2., 2.), r.between(0., 1.)]
-            });
-            let grains = grains.collect();
-            all.push(Start { lengths, periodic, rate: r.between(0.25, 1.5), room: ROOM, grains });
+            all.push(drawn(&mut r, periodic, count, Radii::Half));
         }
     }
-    all.push(small(&[[-0., -0., -0., -0., -0.]]));
+    all.push(small(&[[-0., -0., -0., -0., -0., 0.5]]));
     all.push(changed(still(), |s| s.lengths = [11.999999999999998, 9.]));
     all.push(changed(still(), |s| s.rate = 2f64.powi(-20)));
     all.push(changed(still(), |s| s.rate = 2f64.powi(20)));
@@ -172,11 +168,21 @@ fn served_starts() -> Vec<Start> {
     all
 }
 
+/// So many grains inside a box of this kind; they may overlap.
+fn drawn(r: &mut Random, periodic: [bool; 2], count: u64, radii: Radii) -> Start {
+    let lengths = [r.between(9., 12.), r.between(9., 12.)];
+    let mut grain = |_| {
+        let rad = radii.draw(r);
+        let [x, y] = lengths.map(|length| r.between(rad, length - rad));
+        [x, y, r.between(-2., 2.), r.between(-2., 2.), r.between(0., 1.), rad]
+    };
+    let grains = (0..count).map(&mut grain).collect();
+    Start { lengths, periodic, rate: r.between(0.25, 1.5), room: ROOM, grains }
+}
+
 /// A refusal by each number that can be reached, and which of two comes first.
 fn refused_starts() -> Vec<Start> {
-    let served = |s: &Start| s.grains.len() <= SERVED && s.room == ROOM;
-    let mut all: Vec<Start> = crafted().into_iter().map(|c| c.start).filter(served).collect();
-    all.iter_mut().for_each(|s| s.rate = 1000.);
+    let mut all = served_of(crafted());
     all.push(small(&[grain(1.5, 1.5, 1., 0.5); SERVED]));
     for rate in [0., -0., 1., 2f64.powi(-21), 2f64.powi(21), f64::NAN, f64::INFINITY, f64::NEG_INFINITY] {
         all.push(changed(still(), |s| s.rate = if rate == 1. { -1. } else { rate }));
@@ -192,6 +198,13 @@ fn refused_starts() -> Vec<Start> {
     all.push(changed(still(), |s| (s.rate, s.grains[0][2]) = (0., f64::from_bits(1))));
     all.push(changed(still(), |s| (s.lengths[0], s.grains[0][4]) = (8.5, 1.5)));
     all
+}
+
+/// Those that are served, with a rate at which they come to their refusal.
+fn served_of(crafted: Vec<Crafted>) -> Vec<Start> {
+    let served = |s: &Start| s.grains.len() <= SERVED && s.room == ROOM;
+    let starts = crafted.into_iter().map(|c| c.start).filter(served);
+    starts.map(|start| Start { rate: 1000., ..start }).collect()
 }
 
 fn large_starts() -> Vec<Start> {
@@ -243,7 +256,7 @@ fn written() -> Vec<Vec<u8>> {
         ("l0,l1", "l1,l0"),
         (",n", ""),
         ("vx,vy", "vy,vx"),
-        (",val", ",val,"),
+        (",rad", ",rad,"),
         ("4022", "\"4022"),
         ("3FF0", "3ff0"),
         ("3FE0", "3fE0"),
@@ -287,4 +300,46 @@ fn written() -> Vec<Vec<u8>> {
     all.push(bytes);
     all.push(spelt(&small(&[grain(4.5, 4.5, 0., 0.); 33])).replacen(",33\r\n", ",34\r\n", 1).into());
     all
+}
+
+/// Grains of three sizes and of any radii; radii that are refused, and those at the ends; and texts with the column left out or put elsewhere.
+fn of_radii() -> Vec<Vec<u8>> {
+    let mut r = Random(43);
+    let mut starts = Vec::new();
+    for periodic in [[true, true], [true, false], [false, true], [false, false]] {
+        for radii in [Radii::Three, Radii::Any] {
+            starts.extend([1, 3, 12, 32].map(|count| drawn(&mut r, periodic, count, radii)));
+        }
+    }
+    starts.extend(served_of(crafted_radii()));
+    let other = [f64::NAN, f64::INFINITY, f64::NEG_INFINITY, 0., -0., -0.5, 1., f64::from_bits(1)];
+    for rad in [LEAST_RADIUS, GREATEST_RADIUS].into_iter().chain(other) {
+        starts.push(small(&[sized(4.5, 4.5, 0., 0., rad)]));
+    }
+    let mut all: Vec<Vec<u8>> = starts.iter().map(|s| spelt(s).into_bytes()).collect();
+    all.extend(misplaced().into_iter().map(String::into_bytes));
+    all
+}
+
+/// A text with the column, and the same with it left out, in the header or the line alone too, put elsewhere, or given twice. All but the first are
+/// malformed.
+fn misplaced() -> Vec<String> {
+    let text = spelt(&small(&[sized(4.5, 4.5, 0., 0., 0.35)]));
+    let rad = format!(",{}", hex(0.35));
+    let without = |from: &str, to: &str| {
+        assert!(text.contains(from), "{from}");
+        text.replacen(from, to, 1)
+    };
+    vec![
+        text.clone(),
+        without(",rad", "").replacen(&rad, "", 1),
+        without(",rad", ""),
+        without(&rad, ""),
+        without("val,rad", "rad,val"),
+        without(",rad", ",RAD"),
+        without(",rad", ",radius"),
+        without(",rad", ",rad,rad").replacen(&rad, &rad.repeat(2), 1),
+        without(&rad, &rad.repeat(2)),
+        without(&rad, ","),
+    ]
 }

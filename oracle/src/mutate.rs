@@ -66,8 +66,8 @@ pub fn mutate(s: &mut State, r: &mut Random) {
             let g = &mut s.grains[g];
             let [x, y] = &mut g.pos;
             let [vx, vy] = &mut g.vel;
-            let chosen = r.below(6) as usize;
-            let field = [x, y, vx, vy, &mut g.time, &mut g.val].into_iter().nth(chosen).unwrap();
+            let chosen = r.below(7) as usize;
+            let field = [x, y, vx, vy, &mut g.time, &mut g.val, &mut g.rad].into_iter().nth(chosen).unwrap();
             *field = float(r, *field);
         }
         (3, Some(g)) => {

@@ -18,8 +18,8 @@ pub trait Published {
     fn planned(leaf: &Leaf, kind: u64, dim: usize) -> Option<Place>;
     /// A position stepped by dt.
     fn stepped(lengths: [f64; 2], pos: [f64; 2], vel: [f64; 2], dt: f64) -> [f64; 2];
-    /// The cells that a position touches.
-    fn cells_touched(lengths: [f64; 2], pos: [f64; 2]) -> Vec<usize>;
+    /// The cells that a grain of this radius touches at a position.
+    fn cells_touched(lengths: [f64; 2], pos: [f64; 2], rad: f64) -> Vec<usize>;
 }
 
 /// The text with its own rules, and with document 01's.

@@ -1,10 +1,11 @@
 // The starts that the program replay makes (crates/replay), each with the tables lent to it and the commands
 // behind it.
-use crate::crafted::{checks, crafted, sound, Answer};
+use crate::crafted::{checks, crafted, crafted_radii, radius_checks, sound, Answer, Check, Crafted};
 use crate::known::{fast, grain, lattice, meeting, still, PERIODIC};
 use crate::model::run::{LARGEST_RATE, LEAST_RATE};
+use crate::radii::Radii;
 use crate::random::Random;
-use crate::tables::{needed, needed_by, Tables};
+use crate::tables::{needed, needed_by, Tables, GRAIN, GRAINS_HEAD};
 use crate::text::Start;
 
 pub enum Command {
@@ -29,30 +30,35 @@ pub struct Scene {
 
 /// As much as the program can lend, and as many inputs as it can read.
 pub const MOST: [usize; 5] = [10768, 2048, 33040, 81936, 520];
-pub const MOST_INPUTS: usize = 1300;
+pub const MOST_INPUTS: usize = 1560;
 
 const WALLS: [bool; 2] = [false, false];
 const MIXED: [bool; 2] = [true, false];
 
 /// The tables are not cleared between the scenes: starts that are refused come upon those of ordinary motion,
-/// and the runs behind them go on with it.
+/// and the runs behind them go on with it. Those of other radii than 0.5 come last.
 pub fn scenes() -> Vec<Scene> {
     let mut all = ordinary();
-    for c in crafted() {
-        match c.answer {
-            Answer::Refused(..) => all.push(refused(c.start)),
-            Answer::HaltedAtStart(_) => all.push(halted(c.start, 1, 1)),
-            Answer::Halted { events, .. } => {
-                all.push(halted(c.start.clone(), 1, events + 1));
-                if events > 5 {
-                    all.push(halted(c.start, 1000, events));
-                }
-            }
-        }
-    }
+    all.extend(crafted().into_iter().flat_map(followed));
     all.extend(short());
     all.extend([other_rates(), damaged(), altered(), other_counts()]);
+    all.extend(other_radii());
+    all.extend(crafted_radii().into_iter().flat_map(followed));
+    all.push(damaged_radii());
+    all.extend([0.3, 3.7, 0., -0.25, 1e300].map(altered_radius));
     all
+}
+
+/// A crafted start: refused, halted, or halted in its runs.
+fn followed(c: Crafted) -> Vec<Scene> {
+    match c.answer {
+        Answer::Refused(..) => vec![refused(c.start)],
+        Answer::HaltedAtStart(_) => vec![halted(c.start, 1, 1)],
+        Answer::Halted { events, .. } if events > 5 => {
+            vec![halted(c.start.clone(), 1, events + 1), halted(c.start, 1000, events)]
+        }
+        Answer::Halted { events, .. } => vec![halted(c.start, 1, events + 1)],
+    }
 }
 
 fn runs(rate: f64, budget: u32, times: u64) -> Command {
@@ -111,8 +117,13 @@ fn shown(commands: Vec<Command>) -> Vec<Command> {
     [Show].into_iter().chain(commands).chain([Show]).collect()
 }
 
-/// Grains that do not touch, at odd places and speeds.
+/// Grains of radius 0.5 that do not touch, at odd places and speeds.
 fn drawn(seed: u64, lengths: [f64; 2], periodic: [bool; 2], room: u64, grains: usize) -> Start {
+    sized(Radii::Half, seed, lengths, periodic, room, grains)
+}
+
+/// The same with other radii.
+fn sized(radii: Radii, seed: u64, lengths: [f64; 2], periodic: [bool; 2], room: u64, grains: usize) -> Start {
     let mut random = Random(seed);
     let columns = lengths.map(|l| (l / 1.2) as u64);
     let mut sites: Vec<[u64; 2]> =
@@ -123,7 +134,8 @@ fn drawn(seed: u64, lengths: [f64; 2], periodic: [bool; 2], room: u64, grains: u
             let pitch = lengths[dim] / columns[dim] as f64;
             pitch * (site[dim] as f64 + 0.5) + random.between(-0.5, 0.5) * (pitch - 1.01)
         });
-        [x, y, random.between(-1., 1.), random.between(-1., 1.), random.between(0., 1.)]
+        let [vx, vy, val] = [-1., -1., 0.].map(|least| random.between(least, 1.));
+        [x, y, vx, vy, val, radii.draw(&mut random)]
     };
     Start {
         lengths,
@@ -134,23 +146,28 @@ fn drawn(seed: u64, lengths: [f64; 2], periodic: [bool; 2], room: u64, grains: u
     }
 }
 
+/// A start with few runs, and with many: shown never, at their end, before them and at their end.
+fn few(start: Start) -> Scene {
+    scene(start, shown(vec![runs(0.7, 1, 4), runs(LARGEST_RATE, 9, 2)]))
+}
+
+fn many(start: Start) -> Scene {
+    let commands = plan(start.rate);
+    scene(start, commands)
+}
+
+fn ends(start: Start) -> Scene {
+    let commands = plan(start.rate).into_iter().chain([Show]).collect();
+    scene(start, commands)
+}
+
+fn seen(start: Start) -> Scene {
+    let commands = shown(plan(start.rate));
+    scene(start, commands)
+}
+
 /// Ordinary motion, and round numbers on purpose.
 fn ordinary() -> Vec<Scene> {
-    let few = |start: Start| scene(start, shown(vec![runs(0.7, 1, 4), runs(LARGEST_RATE, 9, 2)]));
-    let many = |start: Start| {
-        let commands = plan(start.rate);
-        scene(start, commands)
-    };
-    let ends = |start: Start| {
-        let mut scene = many(start);
-        scene.commands.push(Show);
-        scene
-    };
-    let seen = |start: Start| {
-        let mut scene = ends(start);
-        scene.commands.insert(0, Show);
-        scene
-    };
     vec![
         few(Start::small(PERIODIC, 16, &[])),
         few(still()),
@@ -169,6 +186,19 @@ fn ordinary() -> Vec<Scene> {
         many(drawn(11, [23.7, 24.2], MIXED, 64, 150)),
         many(drawn(23, [48., 48.], WALLS, 32, 256)),
         many(drawn(13, [24.9, 22.1], PERIODIC, 64, 8)),
+    ]
+}
+
+/// Ordinary motion of grains of three sizes and of any radii.
+fn other_radii() -> Vec<Scene> {
+    vec![
+        seen(sized(Radii::Three, 31, [9., 9.], PERIODIC, 64, 3)),
+        seen(sized(Radii::Any, 32, [9.8, 11.1], WALLS, 64, 3)),
+        seen(sized(Radii::Any, 33, [11.3, 9.7], MIXED, 64, 8)),
+        many(sized(Radii::Three, 34, [9., 9.], WALLS, 128, 32)),
+        ends(sized(Radii::Three, 35, [17.3, 14.9], PERIODIC, 64, 32)),
+        many(sized(Radii::Any, 36, [23.7, 24.2], MIXED, 32, 120)),
+        many(sized(Radii::Any, 37, [14.1, 12.3], WALLS, 64, 40)),
     ]
 }
 
@@ -196,9 +226,24 @@ fn changes(from: &Tables, to: &Tables) -> Vec<Command> {
 
 /// A sound state is damaged in one way after another, tried, and put right again; and then goes on.
 fn damaged() -> Scene {
+    let mut commands = tried(checks());
+    // what is not in use, and what lies beyond the needed length, may be anything
+    commands.push(Put { table: 0, place: 6 + 8, word: 77 });
+    commands.push(Put { table: 4, place: 513, word: 77 });
+    commands.push(runs(0.9, 1, 10));
+    scene(meeting(), shown(commands))
+}
+
+/// The same for radii that are not finite.
+fn damaged_radii() -> Scene {
+    scene(meeting(), shown(tried(radius_checks())))
+}
+
+/// Each of these states put into the tables of a sound one, a run of it, and the sound one again; then runs of that.
+fn tried(checks: Vec<Check>) -> Vec<Command> {
     let whole = Tables::of(&sound());
     let mut commands = vec![runs(1., 1, 1), runs(1., 2, 1)];
-    for (_, state, rate, _) in checks() {
+    for (_, state, rate, _) in checks {
         let broken = Tables::of(&state);
         if broken.lengths() == whole.lengths() {
             commands.extend(changes(&whole, &broken));
@@ -207,11 +252,7 @@ fn damaged() -> Scene {
         }
     }
     commands.push(runs(0.9, 1, 20));
-    // what is not in use, and what lies beyond the needed length, may be anything
-    commands.push(Put { table: 0, place: 6 + 8, word: 77 });
-    commands.push(Put { table: 4, place: 513, word: 77 });
-    commands.push(runs(0.9, 1, 10));
-    scene(meeting(), shown(commands))
+    commands
 }
 
 /// A grain's velocity is changed to another finite one: the run goes on, and halts by 5 at the end.
@@ -220,6 +261,12 @@ fn altered() -> Scene {
     let commands =
         vec![runs(0.9, 1, 5), velocity(-0.125), runs(0.9, 1, 30), velocity(f64::MAX), runs(0.9, 1, 10)];
     scene(meeting(), shown(commands))
+}
+
+/// A grain's radius is changed to another finite one, in range or not: the run goes on, and may halt.
+fn altered_radius(rad: f64) -> Scene {
+    let radius = Put { table: 1, place: GRAINS_HEAD + GRAIN - 1, word: rad.to_bits() };
+    scene(meeting(), vec![runs(0.9, 1, 5), radius, runs(0.9, 1, 15), Show])
 }
 
 /// Counts that the tables hold, out of range or in it: 2 where the tables are too short for them too, otherwise

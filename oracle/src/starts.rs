@@ -1,6 +1,7 @@
-// Random starts of many kinds: boxes, packings, positions on and off every border, speeds and zeros.
+// Random starts of many kinds: boxes, packings, radii, positions on and off every border, speeds and zeros.
 use crate::model::grid::cells_along;
 use crate::model::run::{LARGEST_RATE, LEAST_RATE};
+use crate::radii::Radii;
 use crate::random::Random;
 use crate::text::Start;
 
@@ -21,22 +22,24 @@ pub fn random_start(r: &mut Random) -> Start {
     };
     let rate = random_rate(r);
     let grains = count(r, lengths);
-    start_with(r, Start { lengths, periodic, rate, room, grains: Vec::new() }, grains)
+    let radii = r.pick(&Radii::ALL);
+    start_with(r, Start { lengths, periodic, rate, room, grains: Vec::new() }, grains, radii)
 }
 
 /// So many grains, in an empty start whose box is in range.
-pub fn start_with(r: &mut Random, mut start: Start, grains: u64) -> Start {
+pub fn start_with(r: &mut Random, mut start: Start, grains: u64, radii: Radii) -> Start {
     let styles = random_styles(r);
     for n in 0..grains {
         let other = random_styles(r);
         let styles = if r.once_in(10) { other } else { styles };
-        let [x, y] = [0, 1].map(|dim| coordinate(r, &start, n, dim, styles[dim].0));
+        let rad = radii.draw(r);
+        let [x, y] = [0, 1].map(|dim| coordinate(r, &start, n, dim, rad, styles[dim].0));
         let [vx, vy] = [0, 1].map(|dim| velocity(r, styles[dim].1));
         let val = match r.below(4) {
             0 => r.pick(&[0., 1., 0.5, -0.]),
             _ => r.between(0., 1.),
         };
-        start.grains.push([x, y, vx, vy, val]);
+        start.grains.push([x, y, vx, vy, val, rad]);
     }
     start
 }
@@ -83,17 +86,17 @@ fn count(r: &mut Random, lengths: [f64; 2]) -> u64 {
     r.below((most as u64).min(200) + 1)
 }
 
-/// A position in the accepted range; grain `n` on a lattice touches its neighbours there.
-fn coordinate(r: &mut Random, s: &Start, n: u64, dim: usize, style: u64) -> f64 {
+/// A position in the accepted range; grain `n` on a lattice touches its neighbours there, if both have the greatest radius.
+fn coordinate(r: &mut Random, s: &Start, n: u64, dim: usize, rad: f64, style: u64) -> f64 {
     let length = s.lengths[dim];
-    let (low, high) = if s.periodic[dim] { (0., length) } else { (0.5, length - 0.5) };
+    let (low, high) = if s.periodic[dim] { (0., length) } else { (rad, length - rad) };
     let x = match style {
         0 | 1 => return r.between(low, high),
         2 => (r.below(4 * length as u64 + 1) as f64) / 4.,
         3 => {
             let columns = cells_along(length);
             let border = length / columns as f64 * r.below(columns as u64 + 1) as f64;
-            let x = border + r.pick(&[-0.5, 0., 0.5, 1.]);
+            let x = border + r.pick(&[-rad, 0., rad, 2. * rad]);
             r.pick(&[x, x.next_up(), x.next_down()])
         }
         4 => {

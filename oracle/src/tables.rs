@@ -156,8 +156,8 @@ pub fn heap_bytes(s: &State) -> Vec<u8> {
 // ---- and back
 
 fn grain(floats: &[f64]) -> Grain {
-    let &[x, y, vx, vy, time, val] = floats else { unreachable!("six floats") };
-    Grain { pos: [x, y], vel: [vx, vy], time, val }
+    let &[x, y, vx, vy, time, val, rad] = floats else { unreachable!("seven floats") };
+    Grain { pos: [x, y], vel: [vx, vy], time, val, rad }
 }
 
 fn row(numbers: &[u64]) -> Row<u64> {
@@ -185,7 +185,7 @@ fn events_in(numbers: &[u64], floats: &[f64]) -> Row<Place> {
 mod tests {
     use super::*;
     use crate::crafted::known_starts;
-    use crate::known::{grain, PERIODIC};
+    use crate::known::{grain, sized, PERIODIC};
     use crate::model::run::Started;
     use crate::mutate::mutate;
     use crate::random::Random;
@@ -221,15 +221,16 @@ mod tests {
 
     #[test]
     fn every_place_is_where_the_document_says() {
-        let start = Start::small([true, false], 16, &[grain(4.5, 4.5, 0., 0.), grain(7.5, 7., 0., -0.25)]);
+        let start =
+            Start::small([true, false], 16, &[sized(4.5, 4.5, 0., 0., 0.25), grain(7.5, 7., 0., -0.25)]);
         let t = Tables::of(&start.accepted());
-        assert_eq!(t.lengths(), [6 + 18 + 33 * 9, 3 + 12, 9 * 65, 9 * 160, 512]);
+        assert_eq!(t.lengths(), [6 + 18 + 33 * 9, 3 + 14, 9 * 65, 9 * 160, 512]);
         assert_eq!(t.lists[..6], [0, 2, 9, 16, 1, 0]);
         // the first grain is in cell 4, the second in cell 8
         assert_eq!([t.lists[6], t.lists[7], t.lists[6 + 9], t.lists[6 + 9 + 1]], [1, 4, 1, 8]);
         assert_eq!(t.lists[24 + 33 * 4..][..2], [1, 0]);
         assert_eq!(t.lists[24 + 33 * 8..][..2], [1, 1]);
-        assert_eq!(t.grains, [9., 9., 0., 4.5, 4.5, 0., 0., 0., 0.5, 7.5, 7., 0., -0.25, 0., 0.5]);
+        assert_eq!(t.grains, [9., 9., 0., 4.5, 4.5, 0., 0., 0., 0.5, 0.25, 7.5, 7., 0., -0.25, 0., 0.5, 0.5]);
         // cell 0 has the synchronisation; cell 8 the way to cell 5 at distance 0.5, and out at 1.5
         assert_eq!(t.queue[..6], [1, 5, 0, 0, 0, 0]);
         assert_eq!(t.queue[65 * 8..][..9], [2, 2, 1, 0, 5, 3, 1, 0, 8]);

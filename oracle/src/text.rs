@@ -1,9 +1,9 @@
 // The start text and the dump. ASCII, lines ended by LF, a float as 16 upper-case hex digits of its bits.
 //
-// Start text: `L0 L1 P0 P1 RATE ROOM N`, then N lines `X Y VX VY VAL`.
+// Start text: `L0 L1 P0 P1 RATE ROOM N`, then N lines `X Y VX VY VAL RAD`.
 // Dump (floats of one record run together):
 //   clock CLOCK mark MARK
-//   g I X..VAL : C C ..      each grain: x y vx vy time val, and its cells
+//   g I X..RAD : C C ..      each grain: x y vx vy time val rad, and its cells
 //   c I : G G ..             each cell: its grains; below it its events, in order:
 //   e TIME S                 synchronisation
 //   e TIME C P Q F           collision: positions of p and q, velocities, the mean value twice
@@ -87,7 +87,7 @@ pub fn hex(x: f64) -> String {
 
 fn grain(line: &str) -> Result<Inputs, String> {
     let floats: Vec<f64> = line.split(' ').map(float).collect::<Result<_, _>>()?;
-    floats.try_into().map_err(|_| format!("a grain has five floats: {line}"))
+    floats.try_into().map_err(|_| format!("a grain has six floats: {line}"))
 }
 
 fn float(text: &str) -> Result<f64, String> {

@@ -11,9 +11,10 @@ pub struct Figures {
     /// Events after each of which the whole state was compared; those of them inside the domain.
     pub events: u64,
     pub inside: u64,
-    /// The events by their kind, and by the most cells that a box of their size has.
+    /// The events by their kind, by the most cells that a box of their size has, and by the radii of their grains.
     pub kinds: BTreeMap<u64, u64>,
     pub cells: BTreeMap<u64, u64>,
+    pub radii: BTreeMap<&'static str, u64>,
     /// Runs of other budgets than 1, and the events in them.
     pub splits: u64,
     pub split_events: u64,
@@ -27,8 +28,8 @@ pub struct Figures {
     pub mismatches: u64,
 }
 
-pub fn count(tally: &mut BTreeMap<u64, u64>, number: u64) {
-    *tally.entry(number).or_default() += 1;
+pub fn count<N: Ord>(tally: &mut BTreeMap<N, u64>, name: N) {
+    *tally.entry(name).or_default() += 1;
 }
 
 /// The class of a box with so many cells.
@@ -49,6 +50,7 @@ impl Figures {
         count("outside it, with the model", self.events - self.inside);
         counts("by kind (docs/TABLES.md)", &self.kinds);
         counts("by cells of the box, up to 9, 20, 64 and 256", &self.cells);
+        row(&["by radii", &tally(&self.radii)]);
         count("runs of j+k, and of j and k, and of single events", self.splits);
         count("events of these", self.split_events);
         count("changes of the rate", self.rates);

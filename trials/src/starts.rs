@@ -1,5 +1,9 @@
 // The starts that are tried: mostly small boxes with little room, whose tables are short, so that many
-// events can be compared; large ones now and then; and starts that are refused.
+// events can be compared; large ones now and then; and starts that are refused. Their radii are all 0.5, of
+// three sizes, or any.
+use oracle::model::grid::{GREATEST_RADIUS, LEAST_RADIUS};
+use oracle::model::state::INPUTS;
+use oracle::radii::Radii;
 use oracle::random::Random;
 use oracle::starts::{random_rate, random_start, start_with};
 use oracle::text::Start;
@@ -31,7 +35,8 @@ pub fn trial_rate(r: &mut Random) -> f64 {
 fn of_size(r: &mut Random, lengths: [f64; 2], room: u64, grains: u64) -> Start {
     let periodic = r.pick(&[[true, true], [true, false], [false, true], [false, false]]);
     let rate = trial_rate(r);
-    start_with(r, Start { lengths, periodic, rate, room, grains: Vec::new() }, grains)
+    let radii = r.pick(&Radii::ALL);
+    start_with(r, Start { lengths, periodic, rate, room, grains: Vec::new() }, grains, radii)
 }
 
 /// 9 to 20 cells, room 16 to 32, up to 22 grains.
@@ -85,13 +90,14 @@ pub fn extreme_starts(r: &mut Random) -> Vec<Start> {
 fn refused_start(r: &mut Random) -> Start {
     let mut start = small_start(r);
     for _ in 0..1 + r.below(2) {
-        let bad = r.pick(&[f64::NAN, f64::INFINITY, -1., 48.5, 8.999999999999998, 1e300, 1024.0000000000002]);
+        let numbers = [f64::NAN, f64::INFINITY, -1., 48.5, 8.999999999999998, 1e300, 1024.0000000000002];
+        let bad = one_of([r.pick(&numbers), LEAST_RADIUS.next_down(), GREATEST_RADIUS.next_up()], r);
         let grains = start.grains.len() as u64;
         match r.below(4) {
             0 => start.lengths[r.below(2) as usize] = bad,
             1 => start.room = r.pick(&[0, 15, 257, u64::MAX]),
             _ if grains > 0 => {
-                let (grain, number) = (r.below(grains) as usize, r.below(5) as usize);
+                let (grain, number) = (r.below(grains) as usize, r.below(INPUTS as u64) as usize);
                 start.grains[grain][number] = bad;
             }
             _ => {}

@@ -9,6 +9,7 @@ use crate::starts::{one_of, trial_rate, words};
 use oracle::domain::equal_times;
 use oracle::model::run::{Started, Told};
 use oracle::model::state::State;
+use oracle::radii::Radii;
 use oracle::random::Random;
 use oracle::rust::{Published, WithRules};
 use oracle::tables::needed;
@@ -41,6 +42,7 @@ pub struct Walk<'a> {
     /// While the run is inside the domain.
     rust: Option<WithRules>,
     rate: f64,
+    radii: Radii,
     events: u64,
 }
 
@@ -57,7 +59,8 @@ pub fn follow(
     let Some(model) = started(start, &mut random, &mut ground.single, figures)? else { return Ok(()) };
     let limit = 20 + random.pick(&[40, 200, 1000, 3000]) * 40_000 / (40_000 + words(start));
     let (rust, rate) = (Some(WithRules::start(start)), start.rate);
-    let mut walk = Walk { ground, figures, meddle, random, model, rust, rate, events: 0 };
+    let radii = Radii::of(start);
+    let mut walk = Walk { ground, figures, meddle, random, model, rust, rate, radii, events: 0 };
     walk.compared()?;
     walk.go(limit)
 }
@@ -169,6 +172,7 @@ impl Walk<'_> {
             self.figures.inside += u64::from(inside);
             count(&mut self.figures.kinds, kind);
             count(&mut self.figures.cells, class(self.model.members.len()));
+            count(&mut self.figures.radii, self.radii.name());
         } else {
             self.holds(&self.model)?;
         }

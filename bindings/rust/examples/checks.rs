@@ -14,7 +14,7 @@ fn largest() -> Simulation {
     let grain = |n: usize| {
         let position = [1.3137 + 2.913 * (n % 16) as f64, 1.4171 + 2.917 * (n / 16) as f64];
         let velocity = [0.37 - 0.011 * (n % 61) as f64, 0.29 - 0.013 * (n % 47) as f64];
-        Grain { position, velocity, value: 0.5 }
+        Grain { position, velocity, value: 0.5, rad: 0.5 }
     };
     let grains: Vec<Grain> = (0..GRAINS).map(grain).collect();
     let domain = Domain { lengths: [48., 48.], periodic: [true, true] };

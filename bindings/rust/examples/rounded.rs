@@ -63,7 +63,7 @@ fn drawn(kind: &Kind, random: &mut Random) -> Vec<Grain> {
         let inside = position.iter().all(|x| (0. ..=LENGTH).contains(x));
         if inside && grains.iter().all(|grain| !overlap(grain.position, position)) {
             let velocity = [0, 1].map(|_| random.between(-1., 1.));
-            grains.push(Grain { position, velocity, value: 0.5 });
+            grains.push(Grain { position, velocity, value: 0.5, rad: RADIUS });
         }
     }
     grains

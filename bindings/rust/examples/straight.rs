@@ -17,7 +17,7 @@ const EVENTS: u64 = 1_000;
 
 fn begun() -> Result<Simulation, Error> {
     let domain = Domain { lengths: [9., 9.], periodic: [true, true] };
-    let grain = |x: f64, vx: f64| Grain { position: [x, 4.5], velocity: [vx, 0.], value: 0.5 };
+    let grain = |x: f64, vx: f64| Grain { position: [x, 4.5], velocity: [vx, 0.], value: 0.5, rad: 0.5 };
     Simulation::start(&domain, 64, &[grain(3.5, -1.), grain(5.5, -2.)])
 }
 

@@ -10,7 +10,7 @@ pub enum Error {
     Count,
     /// 3: the sync rate is out of range or not finite. Nothing is changed.
     Rate,
-    /// 4: a start number of a grain is out of range or not finite. Nothing was started.
+    /// 4: a start number of a grain, its radius too, is out of range or not finite. Nothing was started.
     Grain {
         /// The lowest such grain.
         lowest: u64,

@@ -8,7 +8,7 @@
 //! use fesolopi::{Domain, Ending, Error, Grain, Halt, Simulation};
 //!
 //! let domain = Domain { lengths: [9.0, 9.0], periodic: [true, true] };
-//! let grain = Grain { position: [3.5, 4.5], velocity: [-1.0, 0.0], value: 0.5 };
+//! let grain = Grain { position: [3.5, 4.5], velocity: [-1.0, 0.0], value: 0.5, rad: 0.5 };
 //! let mut simulation = Simulation::start(&domain, 64, &[grain])?;
 //! let first = simulation.run(1.0, 1_000)?;
 //! assert_eq!((first.ending, first.clock, first.events), (Ending::Synchronised, 0.0, 1));

@@ -14,15 +14,17 @@ pub struct Domain {
     pub periodic: [bool; 2],
 }
 
-/// A disc of radius 0.5.
+/// A disc.
 #[derive(Clone, Copy, Debug, PartialEq)]
 pub struct Grain {
-    /// At a start from 0 to the length where the box is periodic, and half a unit away from walls.
+    /// At a start from 0 to the length where the box is periodic, and from `rad` to the length less `rad` between walls.
     pub position: [f64; 2],
     /// At a start from -1024 to 1024 in each direction.
     pub velocity: [f64; 2],
     /// At a start from 0 to 1.
     pub value: f64,
+    /// Its radius, kept for life: at a start from 0.25 to 0.5.
+    pub rad: f64,
 }
 
 /// How a run that was not refused came to its end.
@@ -59,7 +61,7 @@ impl Simulation {
         let count = grains.len() as u64;
         let inputs: Vec<f64> = grains
             .iter()
-            .flat_map(|g| [g.position[0], g.position[1], g.velocity[0], g.velocity[1], g.value])
+            .flat_map(|g| [g.position[0], g.position[1], g.velocity[0], g.velocity[1], g.value, g.rad])
             .collect();
         let mut tables = calls::needed(domain.lengths, count, room);
         let (number, lowest) =
@@ -148,8 +150,8 @@ impl Simulation {
 
     /// A grain, as it was at its own [`time`](Simulation::time).
     pub fn grain(&self, index: u64) -> Option<Grain> {
-        let [x, y, vx, vy, _, value] = *self.grain_floats(index)?;
-        Some(Grain { position: [x, y], velocity: [vx, vy], value })
+        let [x, y, vx, vy, _, value, rad] = *self.grain_floats(index)?;
+        Some(Grain { position: [x, y], velocity: [vx, vy], value, rad })
     }
 
     /// The time that a grain was last stepped to: the clock after a synchronisation, and otherwise at most

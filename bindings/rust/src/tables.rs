@@ -7,7 +7,7 @@ pub const GRAINS_HEAD: usize = 3;
 pub const HOMES: usize = 8;
 pub const MEMBERS: usize = 32;
 /// Floats of a grain.
-pub const GRAIN: usize = 6;
+pub const GRAIN: usize = 7;
 /// Numbers and floats of an event's place.
 pub const NUMBERS: usize = 4;
 pub const FLOATS: usize = 10;

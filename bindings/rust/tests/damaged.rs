@@ -8,8 +8,8 @@ const ROOM: usize = 16;
 fn sound() -> Tables {
     let domain = Domain { lengths: [9., 9.], periodic: [true, false] };
     let grains = [
-        Grain { position: [1.25, 4.75], velocity: [0.5, 0.25], value: 0.5 },
-        Grain { position: [6.1, 4.6], velocity: [-0.75, 0.3], value: 0.5 },
+        Grain { position: [1.25, 4.75], velocity: [0.5, 0.25], value: 0.5, rad: 0.5 },
+        Grain { position: [6.1, 4.6], velocity: [-0.75, 0.3], value: 0.5, rad: 0.5 },
     ];
     let mut simulation = Simulation::start(&domain, ROOM as u64, &grains).unwrap();
     simulation.run(1., 1).unwrap();
@@ -60,6 +60,8 @@ fn a_standing_fact_broken() {
         ("a grain in no cell", changed(|t| t.lists[GRAINS] = 0)),
         ("a grain number past the grains", changed(|t| t.lists[CELLS + (1 + MEMBERS) * 3 + 1] = 2)),
         ("a value not finite", changed(|t| t.grains[8] = f64::INFINITY)),
+        ("a radius not finite", changed(|t| t.grains[9] = f64::NEG_INFINITY)),
+        ("a radius that is none", changed(|t| t.grains[16] = f64::NAN)),
         ("a clock not finite", changed(|t| t.grains[2] = f64::NAN)),
         ("a clock past an event", changed(|t| t.grains[2] = 1e9)),
         ("a grain ahead of the clock", changed(|t| t.grains[7] = t.grains[2].next_up())),
@@ -76,6 +78,13 @@ fn a_standing_fact_broken() {
         assert_eq!(answer(tables.clone(), 1.), Err(Error::Fact), "{name}");
         // 3 comes before 10
         assert_eq!(answer(tables, 0.), Err(Error::Rate), "{name}");
+    }
+}
+
+#[test]
+fn a_stored_radius_may_be_any_finite_one() {
+    for rad in [0., -0., -0.25, 3.7, 1e300, f64::MAX] {
+        assert_eq!(answer(changed(|t| t.grains[9] = rad), 1.), Ok(()));
     }
 }
 

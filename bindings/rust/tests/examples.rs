@@ -2,7 +2,7 @@
 use fesolopi::{square_root, Domain, Ending, Error, Event, Grain, Pending, Simulation};
 
 fn grain(x: f64, y: f64, vx: f64, vy: f64) -> Grain {
-    Grain { position: [x, y], velocity: [vx, vy], value: 0.5 }
+    Grain { position: [x, y], velocity: [vx, vy], value: 0.5, rad: 0.5 }
 }
 
 fn started(periodic: [bool; 2], grains: &[Grain]) -> Simulation {
@@ -72,6 +72,19 @@ fn a_collision_carries_both_grains() {
 }
 
 #[test]
+fn smaller_grains_meet_later_and_keep_their_radii() {
+    // 0.25 and 0.5 from 3 apart: 2.25 of the way at speed 1
+    let two = [Grain { rad: 0.25, ..grain(3., 4.5, 1., 0.) }, grain(6., 4.5, 0., 0.)];
+    let mut simulation = started([true; 2], &two);
+    let meets = |p: &Pending| matches!(p.event, Event::Collision { .. });
+    assert_eq!(simulation.pending(4).find(meets).map(|p| p.time), Some(2.25));
+    (0..5).for_each(|_| drop(simulation.run(1., 100).unwrap()));
+    let radii: Vec<f64> = simulation.grains().map(|g| g.rad).collect();
+    assert_eq!(radii, [0.25, 0.5]);
+    assert!(simulation.grains().all(|g| g.velocity[0] != 1.));
+}
+
+#[test]
 fn moves_to_a_neighbour_and_out() {
     let simulation = started([true; 2], &[grain(4.5, 4.5, 1., 0.)]);
     let events: Vec<Pending> = simulation.pending(4).collect();
@@ -105,6 +118,10 @@ fn a_wall_reflects() {
     let event = Event::Wall { grain: 0, position: [8.5, 4.5], velocity: [-1., 0.], value: 0.75 };
     assert_eq!(walls(7.5), [Pending { time: 1., event }]);
     assert_eq!(walls(8.5), []);
+    // a grain of radius 0.25 comes nearer
+    let smaller = started([false; 2], &[Grain { rad: 0.25, ..grain(7.5, 4.5, 1., 0.) }]);
+    let event = Event::Wall { grain: 0, position: [8.75, 4.5], velocity: [-1., 0.], value: 0.75 };
+    assert_eq!(smaller.pending(5).collect::<Vec<_>>(), [Pending { time: 1.25, event }]);
 }
 
 #[test]

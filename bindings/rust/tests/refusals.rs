@@ -4,7 +4,7 @@ use fesolopi::{Domain, Ending, Error, Grain, Halt, Simulation};
 const BOX: Domain = Domain { lengths: [9., 9.], periodic: [true; 2] };
 
 fn grain(x: f64, y: f64, vx: f64, vy: f64) -> Grain {
-    Grain { position: [x, y], velocity: [vx, vy], value: 0.5 }
+    Grain { position: [x, y], velocity: [vx, vy], value: 0.5, rad: 0.5 }
 }
 
 /// A grain in the middle of the centre cell, at rest.
@@ -59,14 +59,33 @@ fn four_names_the_lowest_bad_grain() {
         grain(4.5, 4.5, 0., f64::NAN),
         Grain { value: 1.5, ..still() },
         Grain { value: f64::NAN, ..still() },
+        Grain { rad: 0.25f64.next_down(), ..still() },
+        Grain { rad: 0.5f64.next_up(), ..still() },
+        Grain { rad: f64::NAN, ..still() },
+        Grain { rad: f64::INFINITY, ..still() },
+        Grain { rad: -0.5, ..still() },
     ];
     for wrong in bad {
         assert_eq!(refused(&BOX, 64, &[still(), still(), wrong, wrong]), Error::Grain { lowest: 2 });
     }
-    // half a unit from a wall is the nearest
+    // its radius from a wall is the nearest
     let walls = Domain { periodic: [false, true], ..BOX };
     assert_eq!(refused(&walls, 64, &[grain(0.25, 0.25, 0., 0.)]), Error::Grain { lowest: 0 });
     assert!(Simulation::start(&walls, 64, &[grain(0.5, 0.25, 0., 0.)]).is_ok());
+    let smaller = |x: f64| Simulation::start(&walls, 64, &[Grain { rad: 0.3, ..grain(x, 0.25, 0., 0.) }]);
+    for inside in [0.3f64, 9. - 0.3] {
+        assert!(smaller(inside).is_ok());
+    }
+    for outside in [0.29, 0.3f64.next_down(), (9f64 - 0.3).next_up()] {
+        assert_eq!(smaller(outside), Err(Error::Grain { lowest: 0 }));
+    }
+}
+
+#[test]
+fn a_radius_at_an_end_is_accepted() {
+    for rad in [0.25, 0.5] {
+        assert!(Simulation::start(&BOX, 64, &[Grain { rad, ..still() }]).is_ok());
+    }
 }
 
 #[test]

@@ -1,12 +1,13 @@
 //! A run of j + k events answers and leaves the same as a run of j followed by one of k.
 use fesolopi::{Domain, Ending, Error, Grain, Report, Simulation};
 
-/// Twelve grains that meet each other and the walls.
+/// Twelve grains of three sizes that meet each other and the walls.
 fn crowd() -> Simulation {
     let grain = |n: i32| {
         let (x, y) = (f64::from(n % 4), f64::from(n / 4));
         let velocity = [0.37 - 0.11 * f64::from(n), 0.05 * f64::from(n) - 0.2];
-        Grain { position: [1.3 + 1.9 * x, 2.1 + 2.3 * y], velocity, value: f64::from(n) / 12. }
+        let rad = [0.5, 0.35, 0.25][n as usize % 3];
+        Grain { position: [1.3 + 1.9 * x, 2.1 + 2.3 * y], velocity, value: f64::from(n) / 12., rad }
     };
     let grains: Vec<Grain> = (0..12).map(grain).collect();
     let domain = Domain { lengths: [10.25, 9.5], periodic: [true, false] };
@@ -60,7 +61,7 @@ fn a_budget_of_none_does_nothing() {
 #[test]
 fn a_split_run_halts_where_the_whole_one_does() {
     let domain = Domain { lengths: [9., 9.], periodic: [true; 2] };
-    let corner = Grain { position: [4.5, 4.5], velocity: [1., 1.], value: 0.5 };
+    let corner = Grain { position: [4.5, 4.5], velocity: [1., 1.], value: 0.5, rad: 0.5 };
     let mut simulation = Simulation::start(&domain, 64, &[corner]).unwrap();
     // at a rate of 100 no synchronisation but the first comes before the halt
     simulation.run(100., 1).unwrap();

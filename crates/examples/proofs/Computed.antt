@@ -25,12 +25,15 @@ use Rattle.model.specs.Standing.{syncs}
 use Rattle.model.specs.Run.{runFrom}
 use Rattle.halting.specs.Every.{every}
 use Rattle.examples.specs.Dump.{Trace, follows, answersSo}
+use Rattle.examples.specs.AtTheWall.{atTheWallTrace}
 use Rattle.examples.specs.Correction.{correctionTrace}
 use Rattle.examples.specs.Empty.{emptyTrace}
 use Rattle.examples.specs.Fast.{fastTrace}
 use Rattle.examples.specs.OddLengths.{oddLengthsTrace}
+use Rattle.examples.specs.OddRadii.{oddRadiiTrace}
 use Rattle.examples.specs.Periodic.{periodicTrace}
 use Rattle.examples.specs.Still.{stillTrace}
+use Rattle.examples.specs.ThreeSizes.{threeSizesTrace}
 use Rattle.examples.specs.Touching.{touchingTrace}
 use Rattle.examples.specs.Walls.{wallsTrace}
 use Rattle.examples.specs.WallsInY.{wallsInYTrace}
@@ -38,10 +41,10 @@ use Rattle.examples.specs.Answers.{answers}
 use Rattle.examples.specs.Runs.{synchronises, spends, runs, refusals}
 
 abbrev traces : List Trace
-traces = correctionTrace ∷ emptyTrace ∷ fastTrace ∷ oddLengthsTrace ∷ periodicTrace ∷ stillTrace ∷ touchingTrace ∷ wallsTrace ∷ wallsInYTrace ∷ []
+traces = atTheWallTrace ∷ correctionTrace ∷ emptyTrace ∷ fastTrace ∷ oddLengthsTrace ∷ oddRadiiTrace ∷ periodicTrace ∷ stillTrace ∷ threeSizesTrace ∷ touchingTrace ∷ wallsTrace ∷ wallsInYTrace ∷ []
 
 pub traces-follow : T (all follows traces)
-unfolding correctionTrace emptyTrace fastTrace oddLengthsTrace periodicTrace stillTrace touchingTrace wallsTrace wallsInYTrace round add sub mul div neg lt le eq ofInt toUnsigned ofBits toBits rootOf sqrtOf near root
+unfolding atTheWallTrace correctionTrace emptyTrace fastTrace oddLengthsTrace oddRadiiTrace periodicTrace stillTrace threeSizesTrace touchingTrace wallsTrace wallsInYTrace round add sub mul div neg lt le eq ofInt toUnsigned ofBits toBits rootOf sqrtOf near root
     leadingZeros across position newPos apart upFrom reached cellsAt cellsOfGrain collision later toNeighbour outOfCell wall insertBy keepBy goneBy finePlace heads requeued has but
     fineGrain store insert cancelled enter leave taken others doing before ofEach inTurn pairing event step firstBad clear begin start timeIn swapAt childIn down downshifted
     parentIn up upshifted updated numbered startHeap

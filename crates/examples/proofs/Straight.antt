@@ -44,7 +44,7 @@ use Rattle.model.specs.Rows.{pair, before, ofEach, inTurn, pairing, others, doi
 use Rattle.model.specs.History.{History, rowDone, stepDone, stepsDone, callsDone, startDone, history, latest, Dated, dated-at, namedBy, insertDated, keepDated, dated}
 use Rattle.model.specs.Missing.{tried, Among}
 
--- 9 by 9, periodic, rate 1, room 64, value 0.5; two runs of one event each
+-- 9 by 9, periodic, rate 1, room 64, value and radius 0.5; two runs of one event each
 abbrev box : Domain
 box = boxOf (vec (ofBits binary64 0x4022000000000000) (ofBits binary64 0x4022000000000000)) true true
 
@@ -53,7 +53,7 @@ unfolding fits ofBits
 box-fits = record { first = tt; second = tt }
 
 abbrev at : ℕ → ℕ → ℕ → ℕ → Particle
-at x y v w = grainOf (vec (ofBits binary64 x) (ofBits binary64 y)) (vec (ofBits binary64 v) (ofBits binary64 w)) fzero (ofBits binary64 0x3fe0000000000000)
+at x y v w = grainOf (vec (ofBits binary64 x) (ofBits binary64 y)) (vec (ofBits binary64 v) (ofBits binary64 w)) fzero (ofBits binary64 0x3fe0000000000000) (ofBits binary64 0x3fe0000000000000)
 
 abbrev one : Call
 one = record { rate = ofBits binary64 0x3ff0000000000000; budget = 1; small = lit≤ tt }

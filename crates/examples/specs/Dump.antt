@@ -27,7 +27,7 @@ pub data Pending : Type 0 where
   O : ℕ → ℕ → ℕ → ℕ → Pending
   W : ℕ → ℕ → ℕ → ℕ → ℕ → Pending
 
--- a grain's six floats and the cells that list it; the grains that a cell lists and its events
+-- a grain's seven floats and the cells that list it; the grains that a cell lists and its events
 pub data GrainDump : Type 0 where
   g : ℕ → List ℕ → GrainDump
 
@@ -50,7 +50,7 @@ sameGrains [] (r ∷ rs) xs = false
 sameGrains (p ∷ ps) [] xs = false
 sameGrains (p ∷ ps) (r ∷ rs) [] = false
 sameGrains (p ∷ ps) (r ∷ rs) (g f l ∷ xs) =
-    eqb (joined 0 (p .pos .x ∷ p .pos .y ∷ p .vel .x ∷ p .vel .y ∷ p .time ∷ p .val ∷ [])) f && (sameList (r .live) l && sameGrains ps rs xs)
+    eqb (joined 0 (p .pos .x ∷ p .pos .y ∷ p .vel .x ∷ p .vel .y ∷ p .time ∷ p .val ∷ p .rad ∷ [])) f && (sameList (r .live) l && sameGrains ps rs xs)
 
 -- all numbers and floats of a place
 abbrev holds : Place → ℕ → ℕ → ℕ → ℕ → ℕ → Bool
@@ -97,8 +97,8 @@ abbrev pub opening : ℕ → ℕ → Bool → Bool → ℕ → List Particle →
 opening l0 l1 p0 p1 room gs rate =
     record { rate = ofBits binary64 rate; box = boxOf (vec (ofBits binary64 l0) (ofBits binary64 l1)) p0 p1; room = room; grains = gs }
 
-abbrev pub grainBits : ℕ → ℕ → ℕ → ℕ → ℕ → Particle
-grainBits x y vx vy val = grainOf (vec (ofBits binary64 x) (ofBits binary64 y)) (vec (ofBits binary64 vx) (ofBits binary64 vy)) fzero (ofBits binary64 val)
+abbrev pub grainBits : ℕ → ℕ → ℕ → ℕ → ℕ → ℕ → Particle
+grainBits x y vx vy val rad = grainOf (vec (ofBits binary64 x) (ofBits binary64 y)) (vec (ofBits binary64 vx) (ofBits binary64 vy)) fzero (ofBits binary64 val) (ofBits binary64 rad)
 
 abbrev pub openedBy : Opening → Begun
 openedBy o = start (o .box) (o .room) (o .grains)

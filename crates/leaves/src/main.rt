@@ -1,12 +1,12 @@
 // Compares single schedulings, steppings, the cells that a grain touches and boxes with the oracle's answers (tools/vectors). Standard input has a
 // section for each: how many cases, and then their words. Writes, for each section, how many were compared and how many differ.
 //
-// A case, and what is to be found; BOX is l0 l1 p0 p1 clock cell, and GRAIN is x y vx vy val:
+// A case, and what is to be found; BOX is l0 l1 p0 p1 clock cell, and GRAIN is x y vx vy val rad:
 //
 //   collisions              BOX GRAIN GRAIN     the distance and the velocity difference, two floats each; PLAN
 //   neighbours outs walls   BOX dim GRAIN       PLAN
 //   steppings               l0 l1 x y vx vy dt  x y
-//   cells                   l0 l1 x y           how many, and which
+//   cells                   l0 l1 x y rad       how many, and which
 //   boxes                   l0 l1               1 where it refuses the box, otherwise 0
 //
 // PLAN is 0 for no event, 5 for a refusal or an event that may not be stored, or 1 and the fourteen words of the event's place.
@@ -41,21 +41,27 @@ fn vec(x: u64, y: u64) -> MyVec {
     MyVec::new(float_of_bits(x), float_of_bits(y))
 }
 
-fn domain_of(w: &[u64; 20]) -> Domain {
+fn domain_of(w: &[u64; 22]) -> Domain {
     Domain::new(vec(w[0], w[1]), w[2] == 1, w[3] == 1)
 }
 
 // The grain whose words begin at `at`, stepped to the clock.
-fn grain_of(w: &[u64; 20], at: usize) -> Particle
-    requires { ⌜ at ≤ 15 ⌝ }
+fn grain_of(w: &[u64; 22], at: usize) -> Particle
+    requires { ⌜ at ≤ 16 ⌝ }
 {
     let pos = vec(w[at], w[at + 1]);
     let vel = vec(w[at + 2], w[at + 3]);
-    Particle::new(pos, vel, float_of_bits(w[4]), float_of_bits(w[at + 4]))
+    Particle::new(
+        pos,
+        vel,
+        float_of_bits(w[4]),
+        float_of_bits(w[at + 4]),
+        float_of_bits(w[at + 5]),
+    )
 }
 
 // Whether the box's flags are 0 or 1.
-fn flagged(w: &[u64; 20]) -> bool {
+fn flagged(w: &[u64; 22]) -> bool {
     w[2] < 2 && w[3] < 2
 }
 
@@ -135,14 +141,14 @@ fn as_wanted(plan: Plan, want: Want) -> bool {
 
 // ---- one case of each section; all its words are read
 
-fn collision_holds(domain: Domain, cell: Cell, w: &[u64; 20], want: Want) -> bool
+fn collision_holds(domain: Domain, cell: Cell, w: &[u64; 22], want: Want) -> bool
     requires { ⌜ IsCell domain cell ⌝ }
 {
     let p = grain_of(w, 6);
-    let q = grain_of(w, 11);
+    let q = grain_of(w, 12);
     let plan = inter_particle_collision::schedule(domain, p.time, cell, 0, 1, p, q);
-    same_vec(cell.apart(domain, q.pos.sub(p.pos)), w[16], w[17])
-        && (same_vec(q.vel.sub(p.vel), w[18], w[19]) && as_wanted(plan, want))
+    same_vec(cell.apart(domain, q.pos.sub(p.pos)), w[18], w[19])
+        && (same_vec(q.vel.sub(p.vel), w[20], w[21]) && as_wanted(plan, want))
 }
 
 fn border(kind: u64, domain: Domain, cell: Cell, dim: usize, p: Particle) -> Plan
@@ -155,7 +161,7 @@ fn border(kind: u64, domain: Domain, cell: Cell, dim: usize, p: Particle) -> Pla
     }
 }
 
-fn border_holds(kind: u64, domain: Domain, cell: Cell, w: &[u64; 20], want: Want) -> bool
+fn border_holds(kind: u64, domain: Domain, cell: Cell, w: &[u64; 22], want: Want) -> bool
     requires { ⌜ IsCell domain cell ⌝ }
 {
     if w[6] > 1 {
@@ -165,7 +171,7 @@ fn border_holds(kind: u64, domain: Domain, cell: Cell, w: &[u64; 20], want: Want
     as_wanted(plan, want)
 }
 
-fn plan_holds(kind: u64, domain: Domain, named: Named, w: &[u64; 20], want: Want) -> bool
+fn plan_holds(kind: u64, domain: Domain, named: Named, w: &[u64; 22], want: Want) -> bool
     requires { ⌜ OfBox domain named ⌝ }
 {
     let Named::Cell(cell) = named else {
@@ -177,13 +183,13 @@ fn plan_holds(kind: u64, domain: Domain, named: Named, w: &[u64; 20], want: Want
     border_holds(kind, domain, cell, w, want)
 }
 
-// A scheduling: a collision's case has 20 words before what is wanted, any other's 12.
+// A scheduling: a collision's case has 22 words before what is wanted, any other's 13.
 fn schedule_holds(kind: u64) -> bool {
-    let mut w = [0u64; 20];
+    let mut w = [0u64; 22];
     let full = if kind == 1 {
         words::fill(&mut w)
     } else {
-        words::fill(&mut w[..12])
+        words::fill(&mut w[..13])
     };
     let want = wanted();
     if !full || !flagged(&w) {
@@ -261,11 +267,11 @@ fn same_cells(n0: usize, x: Spans, y: Spans, n: usize, wanted: &[u64; 4]) -> boo
 }
 
 fn cells_hold() -> bool {
-    let mut w = [0u64; 5];
+    let mut w = [0u64; 6];
     if !words::fill(&mut w) {
         return false;
     }
-    let n = w[4] as usize;
+    let n = w[5] as usize;
     if n > 4 {
         return false;
     }
@@ -278,18 +284,9 @@ fn cells_hold() -> bool {
         return false;
     }
     let grid = Grid::new(domain);
-    let x = particle::touched(
-        domain.lengths.x,
-        grid.n0,
-        Particle::RADIUS,
-        float_of_bits(w[2]),
-    );
-    let y = particle::touched(
-        domain.lengths.y,
-        grid.n1,
-        Particle::RADIUS,
-        float_of_bits(w[3]),
-    );
+    let rad = float_of_bits(w[4]);
+    let x = particle::touched(domain.lengths.x, grid.n0, rad, float_of_bits(w[2]));
+    let y = particle::touched(domain.lengths.y, grid.n1, rad, float_of_bits(w[3]));
     if !small(x) {
         return false;
     }

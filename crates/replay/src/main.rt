@@ -360,7 +360,7 @@ fn replay(
 }
 
 fn main() {
-    let mut inputs = [0.0f64; 1300];
+    let mut inputs = [0.0f64; 1560];
     let mut lists = [0u64; 10768];
     let mut grains = [0.0f64; 2048];
     let mut queue = [0u64; 33040];

@@ -1,6 +1,8 @@
 // Grid, stepping, the cells a position touches, and the periodic correction.
 
-pub const RADIUS: f64 = 0.5;
+/// The radii that a grain may bring.
+pub const LEAST_RADIUS: f64 = 0.25;
+pub const GREATEST_RADIUS: f64 = 0.5;
 const CELL_SIZE: f64 = 3.;
 
 #[derive(Clone, Copy, PartialEq)]
@@ -99,8 +101,8 @@ fn columns(length: f64, low: f64, high: f64) -> std::ops::Range<usize> {
 }
 
 /// The columns that a grain touches in one direction; one across the border touches both ends.
-fn touched(length: f64, pos: f64) -> Vec<usize> {
-    let (low, high) = (pos - RADIUS, pos + RADIUS);
+fn touched(length: f64, pos: f64, rad: f64) -> Vec<usize> {
+    let (low, high) = (pos - rad, pos + rad);
     if low < 0. {
         columns(length, 0., high).chain(columns(length, length + low, length)).collect()
     } else if high > length {
@@ -110,10 +112,10 @@ fn touched(length: f64, pos: f64) -> Vec<usize> {
     }
 }
 
-/// The cells that a grain touches, direction 0 running fastest.
-pub fn from_p_to_c(lengths: [f64; 2], pos: [f64; 2]) -> Vec<usize> {
+/// The cells that a grain of radius `rad` touches, direction 0 running fastest.
+pub fn from_p_to_c(lengths: [f64; 2], pos: [f64; 2], rad: f64) -> Vec<usize> {
     let n0 = cells_along(lengths[0]);
-    let across = touched(lengths[0], pos[0]);
+    let across = touched(lengths[0], pos[0], rad);
     let row = |i1: usize| across.iter().map(move |i0| i0 + n0 * i1).collect::<Vec<_>>();
-    touched(lengths[1], pos[1]).into_iter().flat_map(row).collect()
+    touched(lengths[1], pos[1], rad).into_iter().flat_map(row).collect()
 }

@@ -1,5 +1,5 @@
 // Scheduling: for each kind an event, none, or refusal 5. Nothing is stored here.
-use super::grid::{corrected, get_new_pos, span, Edge, RADIUS};
+use super::grid::{corrected, get_new_pos, span, Edge};
 use super::state::{Place, State, COLLISION, NEIGHBOUR, OUT, WALL};
 
 /// An event, none, or the number of a refusal.
@@ -25,9 +25,8 @@ pub fn root(d: f64) -> Result<f64, u64> {
     }
 }
 
-/// Time to contact for a corrected distance and a velocity difference: some, none, or refusal 5.
-pub fn contact(dpos: [f64; 2], dvel: [f64; 2]) -> Result<Option<f64>, u64> {
-    let reach = RADIUS + RADIUS;
+/// Time to contact for a corrected distance, a velocity difference and the sum of two radii: some, none, or refusal 5.
+pub fn contact(dpos: [f64; 2], dvel: [f64; 2], reach: f64) -> Result<Option<f64>, u64> {
     let a = dot(dvel, dvel);
     let b = dot(dvel, dpos);
     let c = dot(dpos, dpos) - reach * reach;
@@ -46,14 +45,15 @@ pub fn collision(s: &State, cell: usize, p: u64, q: u64) -> Plan {
     let apart =
         |from: [f64; 2], to: [f64; 2]| by_component(|i| corrected(to[i] - from[i], s.lengths[i], edges[i]));
     let dvel = by_component(|i| h.vel[i] - g.vel[i]);
-    let Some(dt) = contact(apart(g.pos, h.pos), dvel)? else {
+    let reach = g.rad + h.rad;
+    let Some(dt) = contact(apart(g.pos, h.pos), dvel, reach)? else {
         return Ok(None);
     };
     let a = get_new_pos(s.lengths, g.pos, g.vel, dt);
     let b = get_new_pos(s.lengths, h.pos, h.vel, dt);
     let val = 0.5 * g.val + 0.5 * h.val;
     let touching = apart(a, b);
-    let normal = by_component(|i| touching[i] / (RADIUS + RADIUS));
+    let normal = by_component(|i| touching[i] / reach);
     let gravity = [0, 1].map(|dim| if s.is_periodic(dim) { 0. } else { -0.5 });
     let shared = by_component(|i| 0.5 * g.vel[i] + 0.5 * h.vel[i] + (val - 0.5) * gravity[i]);
     let impulse = (1. + RESTITUTION) * dot(dvel, normal);
@@ -75,7 +75,7 @@ fn moved(s: &State, cell: usize, dim: usize, p: u64, kind: u64) -> Plan {
     if !s.is_periodic(dim) && here.edge == if low { Edge::Negative } else { Edge::Positive } {
         return Ok(None);
     }
-    let rad = if kind == NEIGHBOUR { RADIUS } else { -RADIUS };
+    let rad = if kind == NEIGHBOUR { g.rad } else { -g.rad };
     let dpos = if low { here.low + rad - pos } else { here.high - rad - pos };
     let dt = corrected(dpos, s.lengths[dim], here.edge) / vel;
     if dt <= 0. {
@@ -110,7 +110,7 @@ pub fn wall(s: &State, cell: usize, dim: usize, p: u64) -> Plan {
     if here.edge != if low { Edge::Negative } else { Edge::Positive } {
         return Ok(None);
     }
-    let dpos = if low { here.low + RADIUS - pos } else { here.high - RADIUS - pos };
+    let dpos = if low { here.low + g.rad - pos } else { here.high - g.rad - pos };
     let dt = dpos / vel;
     if dt <= 0. {
         return Ok(None);

@@ -1,7 +1,7 @@
 // The public calls: start and run, with their checks in document 01's order.
 use super::acts::Act;
 use super::facts::broken;
-use super::grid::{box_in_range, cells_along, from_p_to_c, RADIUS};
+use super::grid::{box_in_range, cells_along, from_p_to_c, GREATEST_RADIUS, LEAST_RADIUS};
 use super::state::{Grain, Inputs, Row, State, HEAP, HOMES, MEMBERS};
 
 /// The ends of the sync rate's range.
@@ -41,14 +41,16 @@ pub fn counts_in_range(grains: usize, cells: usize, room: u64) -> bool {
     grains <= 256 && (9..=256).contains(&cells) && (16..=256).contains(&room)
 }
 
-/// If a grain's start numbers x, y, vx, vy, val are in range.
+/// If a grain's start numbers are in range.
 fn accepted(lengths: [f64; 2], periodic: [bool; 2], grain: &Inputs) -> bool {
-    let inside = |dim: usize| {
-        let (low, high) = if periodic[dim] { (0., lengths[dim]) } else { (RADIUS, lengths[dim] - RADIUS) };
-        low <= grain[dim] && grain[dim] <= high
+    let [x, y, vx, vy, val, rad] = *grain;
+    let inside = |dim: usize, x: f64| {
+        let (low, high) = if periodic[dim] { (0., lengths[dim]) } else { (rad, lengths[dim] - rad) };
+        low <= x && x <= high
     };
     let speed = |v: f64| (-1024. ..=1024.).contains(&v);
-    inside(0) && inside(1) && speed(grain[2]) && speed(grain[3]) && (0. ..=1.).contains(&grain[4])
+    let size = LEAST_RADIUS..=GREATEST_RADIUS;
+    inside(0, x) && inside(1, y) && speed(vx) && speed(vy) && (0. ..=1.).contains(&val) && size.contains(&rad)
 }
 
 /// Start: checks 1, 2, 4; then the grains with their entries, and the first events.
@@ -84,7 +86,7 @@ fn fill(s: &mut State, grains: &[Inputs]) -> Act {
     for (n, inputs) in grains.iter().enumerate() {
         let grain = Grain::given(inputs, 0.);
         s.store(n as u64, grain)?;
-        for cell in from_p_to_c(s.lengths, grain.pos) {
+        for cell in from_p_to_c(s.lengths, grain.pos, grain.rad) {
             s.enter(n as u64, cell)?;
         }
     }

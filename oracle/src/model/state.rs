@@ -12,8 +12,8 @@ pub const MEMBERS: usize = 32;
 pub const HOMES: usize = 8;
 pub const HEAP: usize = 256;
 
-/// What a start is given of a grain: x, y, vx, vy, val.
-pub const INPUTS: usize = 5;
+/// What a start is given of a grain: x, y, vx, vy, val, rad.
+pub const INPUTS: usize = 6;
 pub type Inputs = [f64; INPUTS];
 
 #[derive(Clone, Copy, Default)]
@@ -22,18 +22,20 @@ pub struct Grain {
     pub vel: [f64; 2],
     pub time: f64,
     pub val: f64,
+    /// Its radius, kept for life; 0 until the grain is stored.
+    pub rad: f64,
 }
 
 impl Grain {
     /// A grain that a start is given, at a time.
-    pub fn given(&[x, y, vx, vy, val]: &Inputs, time: f64) -> Grain {
-        Grain { pos: [x, y], vel: [vx, vy], time, val }
+    pub fn given(&[x, y, vx, vy, val, rad]: &Inputs, time: f64) -> Grain {
+        Grain { pos: [x, y], vel: [vx, vy], time, val, rad }
     }
 
     /// The floats, in table order.
-    pub fn floats(&self) -> [f64; 6] {
-        let Grain { pos, vel, time, val } = *self;
-        [pos[0], pos[1], vel[0], vel[1], time, val]
+    pub fn floats(&self) -> [f64; 7] {
+        let Grain { pos, vel, time, val, rad } = *self;
+        [pos[0], pos[1], vel[0], vel[1], time, val, rad]
     }
 }
 

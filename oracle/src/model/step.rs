@@ -20,6 +20,12 @@ impl State {
         self.store(grain, Grain { pos, time: self.clock, ..g })
     }
 
+    /// Stores what an event gives a grain, at the clock; its radius stays.
+    fn renew(&mut self, grain: u64, pos: [f64; 2], vel: [f64; 2], val: f64) -> Act {
+        let rad = self.grains[grain as usize].rad;
+        self.store(grain, Grain { pos, vel, time: self.clock, val, rad })
+    }
+
     /// Both directions of each of the three kinds that a border gives.
     fn schedule_borders(&mut self, grain: u64, cell: usize) -> Act {
         for kind in [to_neighbour, out_of_cell, wall] {
@@ -71,7 +77,7 @@ impl State {
     }
 
     /// Cancels, for each grain in turn, its events in all its cells; then schedules anew likewise.
-    fn renew(&mut self, grains: &[u64]) -> Act {
+    fn reschedule(&mut self, grains: &[u64]) -> Act {
         for &g in grains {
             for cell in self.cells_of(g) {
                 self.cancel(cell, g);
@@ -89,9 +95,9 @@ impl State {
         let time = self.clock;
         match e.kind {
             COLLISION => {
-                self.store(e.p, Grain { pos: e.a, vel: e.c, time, val: e.val })?;
-                self.store(e.q, Grain { pos: e.b, vel: e.d, time, val: e.val })?;
-                self.renew(&[e.p, e.q])
+                self.renew(e.p, e.a, e.c, e.val)?;
+                self.renew(e.q, e.b, e.d, e.val)?;
+                self.reschedule(&[e.p, e.q])
             }
             NEIGHBOUR => {
                 self.store(e.p, Grain { pos: e.a, time, ..self.grains[e.p as usize] })?;
@@ -104,8 +110,8 @@ impl State {
                 self.leave(e.p, e.cell as usize)
             }
             WALL => {
-                self.store(e.p, Grain { pos: e.a, vel: e.c, time, val: e.val })?;
-                self.renew(&[e.p])
+                self.renew(e.p, e.a, e.c, e.val)?;
+                self.reschedule(&[e.p])
             }
             _ => {
                 for g in 0..self.grains.len() as u64 {

@@ -11,7 +11,7 @@ use super::event::move_to_neighbour::MoveToNeighbour;
 use super::event::util::correct_periodicity;
 use super::event::wall_reflection::WallReflection;
 use super::event::{Event, EventType};
-use super::particle::{from_p_to_c, Particle, RADIUS};
+use super::particle::{from_p_to_c, Particle};
 use super::{Domain, Simulator, NDIMS};
 use crate::leaf::Leaf;
 use crate::model::state::{Grain, Inputs, Place, Row, State, COLLISION, NEIGHBOUR, OUT, SYNC, WALL};
@@ -27,10 +27,10 @@ pub fn init_particles(
     time: f64,
 ) -> Vec<Rc<RefCell<Particle>>> {
     let enter = |(index, grain): (usize, &Inputs)| {
-        let [x, y, vx, vy, val] = *grain;
+        let [x, y, vx, vy, val, rad] = *grain;
         let (pos, vel) = (MyVec::new([x, y]), MyVec::new([vx, vy]));
-        let cells_of = from_p_to_c(&domain.lengths, ncells, RADIUS, &pos);
-        let grain = Particle { index, rad: RADIUS, pos, vel, time, cells: Vec::new(), val };
+        let cells_of = from_p_to_c(&domain.lengths, ncells, rad, &pos);
+        let grain = Particle { index, rad, pos, vel, time, cells: Vec::new(), val };
         let grain = Rc::new(RefCell::new(grain));
         for cell in cells_of {
             cells[cell].borrow_mut().append(&grain);
@@ -64,7 +64,7 @@ impl Published for Simulator {
         state.clock = self.time;
         for p in &self.particles {
             let p = p.borrow();
-            state.grains.push(Grain { pos: pair(p.pos), vel: pair(p.vel), time: p.time, val: p.val });
+            state.grains.push(Grain { pos: pair(p.pos), vel: pair(p.vel), time: p.time, val: p.val, rad: p.rad });
             state.homes.push(Row::of(p.cells.iter().map(cell_number).collect()));
         }
         for cell in &self.cells {
@@ -90,9 +90,9 @@ impl Published for Simulator {
         let (_, cells) = init_cells(&domain);
         let (cell, time) = (&cells[leaf.cell], leaf.clock);
         let grain = |index: usize| {
-            let [x, y, vx, vy, val] = leaf.grains[index];
+            let [x, y, vx, vy, val, rad] = leaf.grains[index];
             let (pos, vel) = (MyVec::new([x, y]), MyVec::new([vx, vy]));
-            Rc::new(RefCell::new(Particle { index, rad: RADIUS, pos, vel, time, cells: Vec::new(), val }))
+            Rc::new(RefCell::new(Particle { index, rad, pos, vel, time, cells: Vec::new(), val }))
         };
         let event = match kind {
             COLLISION => InterParticleCollision::schedule(&domain, time, cell, &grain(0), &grain(1)),
@@ -108,9 +108,9 @@ impl Published for Simulator {
         pair(Particle::get_new_pos(&domain, MyVec::new(pos), MyVec::new(vel), dt))
     }
 
-    fn cells_touched(lengths: [f64; 2], pos: [f64; 2]) -> Vec<usize> {
+    fn cells_touched(lengths: [f64; 2], pos: [f64; 2], rad: f64) -> Vec<usize> {
         let (ncells, _) = init_cells(&Domain { lengths, periodicities: [true; NDIMS] });
-        from_p_to_c(&lengths, &ncells, RADIUS, &MyVec::new(pos))
+        from_p_to_c(&lengths, &ncells, rad, &MyVec::new(pos))
     }
 }
 

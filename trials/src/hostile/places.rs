@@ -4,7 +4,7 @@ use oracle::model::state::State;
 use oracle::random::Random;
 use oracle::tables::{needed, Tables, FLOATS, GRAIN, GRAINS_HEAD, HEAP, HOMES, LISTS_HEAD, MEMBERS, NUMBERS};
 
-const KINDS: [&str; 30] = [
+const KINDS: [&str; 31] = [
     "run, changed: mark",
     "run, changed: grain count",
     "run, changed: cell count",
@@ -22,6 +22,7 @@ const KINDS: [&str; 30] = [
     "run, changed: velocity",
     "run, changed: grain's time",
     "run, changed: value",
+    "run, changed: radius",
     "run, changed: count of events",
     "run, changed: kind of an event",
     "run, changed: first grain of an event",
@@ -92,13 +93,13 @@ fn place(s: &State, t: &Tables, kind: usize, r: &mut Random) -> Option<At> {
         8..=10 => member(s, kind - 8, r),
         11 => Some((1, r.below(2) as usize)),
         12 => Some((1, 2)),
-        13..=16 => {
-            let field = [r.below(2), 2 + r.below(2), 4, 5][kind - 13] as usize;
+        13..=17 => {
+            let field = [r.below(2), 2 + r.below(2), 4, 5, 6][kind - 13] as usize;
             below(r, s.grains.len()).map(|grain| (1, GRAINS_HEAD + GRAIN * grain + field))
         }
-        17..=22 => queue(s, kind - 17, r),
-        23..=25 => event(s, kind - 23, r),
-        26..=28 => order(s, kind - 26, r),
+        18..=23 => queue(s, kind - 18, r),
+        24..=26 => event(s, kind - 24, r),
+        27..=29 => order(s, kind - 27, r),
         _ => {
             let table = r.below(5) as usize;
             let need = needed(s.grains.len(), s.members.len(), s.room as usize)[table];

@@ -27,6 +27,7 @@ pub fn rearrange(s: &mut State, r: &mut Random) {
                 g.pos[r.below(2) as usize] = r.between(-60., 60.);
                 g.vel[r.below(2) as usize] =
                     one_of([r.between(-3., 3.), r.between(-1e300, 1e300), 0., -0.], r);
+                g.rad = one_of([g.rad, g.rad, r.between(0.25, 0.5), r.between(-5., 5.), f64::MAX, 0.], r);
             }
         }
     }

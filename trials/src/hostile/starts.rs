@@ -139,12 +139,15 @@ fn box_length(r: &mut Random, near: f64) -> f64 {
     }
 }
 
+/// Ends of the ranges of inputs.
+const ENDS: [f64; 8] = [0., 0.25, 0.5, 1., 8.5, 9., -1024., 1024.];
+
 /// One float of the inputs, or the end of its range in either direction.
 fn change_input(inputs: &mut [f64], r: &mut Random) {
     if let Some(at) = r.bits().checked_rem(inputs.len() as u64).map(|n| n as usize) {
         inputs[at] = match r.below(4) {
-            0 => r.pick(&[0f64, 0.5, 1., 8.5, 9., -1024., 1024.]).next_up(),
-            1 => r.pick(&[0f64, 0.5, 1., 8.5, 9., -1024., 1024.]).next_down(),
+            0 => r.pick(&ENDS).next_up(),
+            1 => r.pick(&ENDS).next_down(),
             _ => float(r, inputs[at], inputs),
         };
     }
@@ -159,7 +162,8 @@ fn anything(handed: &mut Handed, r: &mut Random) {
     let need = exact(c);
     handed.lengths = need.map(|n| if r.once_in(6) { length(r, n) } else { n });
     let new = one_of([handed.inputs.len(), INPUTS * r.below(12) as usize], r);
-    handed.inputs.resize_with(new, || r.between(0.5, 1.));
+    // each of these may be any number of a grain
+    handed.inputs.resize_with(new, || r.between(0.25, 0.5));
     if r.once_in(3) {
         handed.inputs.fill_with(|| f64::from_bits(r.bits()));
     }

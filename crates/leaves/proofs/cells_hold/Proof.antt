@@ -61,21 +61,31 @@ array-read-float-of-bits c = search needs
 float-of-bits-requires : tie.Need-float-of-bits-requires
 float-of-bits-requires c κs = search needs
 
-touched-requires : tie.Need-touched-requires
-touched-requires c κs = omega (arith, (narrow _ _ _ (c .before .before .before .box-ok .ensures) (c .before .before .if4 .left) (c .before .new2 .ensures)) .0)
-
 array-read-float-of-bits-2 : tie.Need-array-read-float-of-bits-2
 array-read-float-of-bits-2 c = search needs
 
 float-of-bits-requires-2 : tie.Need-float-of-bits-requires-2
 float-of-bits-requires-2 c κs = search needs
 
+touched-requires : tie.Need-touched-requires
+touched-requires c κs =
+    let c2 = c .before .before in
+    let c3 = c2 .before in
+    let c4 = c3 .before in
+    omega (arith, (narrow _ _ _ (c4 .box-ok .ensures) (c3 .if4 .left) (c2 .new2 .ensures)) .0)
+
+array-read-float-of-bits-3 : tie.Need-array-read-float-of-bits-3
+array-read-float-of-bits-3 c = search needs
+
+float-of-bits-requires-3 : tie.Need-float-of-bits-requires-3
+float-of-bits-requires-3 c κs = search needs
+
 touched-requires-2 : tie.Need-touched-requires-2
 touched-requires-2 c κs =
-    let c3 = c .before .before .before in
-    let c4 = c3 .before in
+    let c4 = c .before .before .before .before in
     let c5 = c4 .before in
-    omega (arith, (narrow _ _ _ (c5 .box-ok .ensures) (c4 .if4 .left) (c3 .new2 .ensures)) .1)
+    let c6 = c5 .before in
+    omega (arith, (narrow _ _ _ (c6 .box-ok .ensures) (c5 .if4 .left) (c4 .new2 .ensures)) .1)
 
 small-requires : tie.Need-small-requires
 small-requires c κs = search needs
@@ -95,11 +105,11 @@ same-cells-requires c κs =
     let c2 = c1 .before in
     let c3 = c2 .before in
     let c4 = c3 .before in
-    let c9 = c4 .before .before .before .before .before in
-    let c10 = c9 .before in
+    let c10 = c4 .before .before .before .before .before .before in
     let c11 = c10 .before in
-    let c18 = c11 .before .before .before .before .before .before .before in
-    (c4 .small .ensures (not-false _ (c3 .if5 .left)), c2 .small2 .ensures (not-false _ (c1 .if6 .left)), (narrow _ _ _ (c11 .box-ok .ensures) (c10 .if4 .left) (c9 .new2 .ensures)) .0, omega (arith, c18 .if2 .left))
+    let c12 = c11 .before in
+    let c19 = c12 .before .before .before .before .before .before .before in
+    (c4 .small .ensures (not-false _ (c3 .if5 .left)), c2 .small2 .ensures (not-false _ (c1 .if6 .left)), (narrow _ _ _ (c12 .box-ok .ensures) (c11 .if4 .left) (c10 .new2 .ensures)) .0, omega (arith, c19 .if2 .left))
 
 returns-7 : tie.Need-returns-7
 returns-7 c = search needs
@@ -126,9 +136,11 @@ cells-hold-spec =
     new-requires-2
     array-read-float-of-bits
     float-of-bits-requires
-    touched-requires
     array-read-float-of-bits-2
     float-of-bits-requires-2
+    touched-requires
+    array-read-float-of-bits-3
+    float-of-bits-requires-3
     touched-requires-2
     small-requires
     returns-5

@@ -1,7 +1,7 @@
 //! A state as text, written from a simulation and put into tables. Floats of one record run together.
 //!
 //!     clock CLOCK mark MARK
-//!     g I X..VAL : C C ..     each grain: x y vx vy time val, and its cells
+//!     g I X..RAD : C C ..     each grain: x y vx vy time val rad, and its cells
 //!     c I : G G ..            each cell: its grains; below it its events, in order:
 //!     e TIME S                a synchronisation
 //!     e TIME C P Q F          a collision: positions, velocities, the mean value twice
@@ -22,7 +22,7 @@ pub fn write(simulation: &Simulation, out: &mut String) {
     for (n, grain) in (0..).zip(simulation.grains()) {
         let ([x, y], [vx, vy]) = (grain.position, grain.velocity);
         let time = simulation.time(n).unwrap_or(0.);
-        line(out, format_args!("g {n} {}", hex(&[x, y, vx, vy, time, grain.value])));
+        line(out, format_args!("g {n} {}", hex(&[x, y, vx, vy, time, grain.value, grain.rad])));
         list(out, simulation.cells_of(n));
     }
     for cell in 0..simulation.cells() {

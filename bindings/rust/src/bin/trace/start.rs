@@ -1,5 +1,5 @@
-//! The start text: `L0 L1 P0 P1 RATE ROOM N` on one line, then N lines `X Y VX VY VAL`. A float is the 16
-//! upper-case hexadecimal digits of its bits.
+//! The start text: `L0 L1 P0 P1 RATE ROOM N` on one line, then N lines `X Y VX VY VAL RAD`. A float is the
+//! 16 upper-case hexadecimal digits of its bits.
 use fesolopi::{Domain, Grain};
 
 pub struct Start {
@@ -27,10 +27,10 @@ impl Start {
 
 fn grain(line: &str) -> Result<Grain, String> {
     let words: Vec<f64> = line.split(' ').map(float).collect::<Result<_, _>>()?;
-    let [x, y, vx, vy, value] = words[..] else {
-        return Err(format!("not the five floats of a grain: {line}"));
+    let [x, y, vx, vy, value, rad] = words[..] else {
+        return Err(format!("not the six floats of a grain: {line}"));
     };
-    Ok(Grain { position: [x, y], velocity: [vx, vy], value })
+    Ok(Grain { position: [x, y], velocity: [vx, vy], value, rad })
 }
 
 pub fn float(word: &str) -> Result<f64, String> {
