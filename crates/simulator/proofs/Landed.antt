@@ -7,18 +7,19 @@ use mathlib.Core.List.{List, [], _∷_, _++_}
 use mathlib.Core.Logic.{inl, inr}
 use native.Mathlib.Omega.{arith}
 use lib.Dec.{eqb, leb}
-use lib.ListN.{length, length-replicate}
+use lib.ListN.{length, getD, length-replicate}
 use lib.Ieee.{Float}
 use borrow.Author.Tests.{leb-true}
 use Rattle.layout.specs.Widths.{inputWide, orderWide}
 use Rattle.order.specs.Numbers.{fzero}
 use Rattle.model.specs.declared.Domain.{Domain}
+use Rattle.model.specs.declared.Particle.{Particle}
 use Rattle.model.specs.declared.Report.{Report}
 use Rattle.model.specs.declared.Started.{Started}
 use Rattle.model.specs.declared.Started.the-variants as answer
 use Rattle.model.specs.Grid.{cells}
 use Rattle.model.specs.Sizes.{boxOk, countsOk, rated}
-use Rattle.model.specs.State.{State, zeroG}
+use Rattle.model.specs.State.{State, zeroG, grain}
 use Rattle.model.proofs.Sound.{Sound, Stands}
 use Rattle.model.specs.Run.{synchronised, spent, refused, Ran, runFrom}
 use Rattle.model.specs.Start.{Begun, started, start, clear, begin}
@@ -35,6 +36,7 @@ use Rattle.model.proofs.Demand3.{AfterStep, after-each-step, splits}
 use Rattle.model.specs.Rows.{startActs}
 use Rattle.model.specs.History.{history}
 use Rattle.model.proofs.Histories.{Said, reached-said, step-reached}
+use Rattle.model.proofs.Radii.{radius-for-life, radius-given, begun-unhalted}
 use Rattle.model.proofs.Performs.{begin-acted}
 use Rattle.model.proofs.Halts.{HaltIn, start-halts-in-order, accepted, reached-marked}
 use Rattle.tables.specs.declared.Sizes.{Sizes}
@@ -339,3 +341,27 @@ each-step-said-tables t r k n N =
     let q = run-reaches t r (record { rate = k .rate; budget = suc n; small = small }) in
     let free : mark (u .lists) ≡ 0 = step-reached _ (decoded u) (step-tables t r k n N) .1 in
     (q, free, said-tables u q free)
+
+-- ---- 8. RADII: in reached tables, halted or not, each grain has the radius that it had when the start was over; in those that are not halted, the one that the start was lent
+begun-is : (t : Tables) (r : ReachedTables t)
+    → (reaches (r .begun) (promised-start-reaches (r .box) (r .count) (r .room) (r .inputs) (r .lent) (r .answer) (r .begun) (r .began) (r .taken))) .state ≡ (reaches t r) .reached .begun
+unfolding reaches promised-start-reaches after
+begun-is t r = refl
+
+grains-are : (t : Tables) (r : ReachedTables t) → (reaches t r) .reached .grains ≡ inputsOf (r .count) (r .inputs)
+unfolding reaches
+grains-are t r = refl
+
+pub radius-for-life-tables : (t : Tables) (r : ReachedTables t) (g : ℕ) → (grain (decoded t) g) .rad ≡ (grain (decoded (r .begun)) g) .rad
+radius-for-life-tables t r g =
+    let h = reaches t r in
+    let k = reaches (r .begun) (promised-start-reaches (r .box) (r .count) (r .room) (r .inputs) (r .lent) (r .answer) (r .begun) (r .began) (r .taken)) in
+    ap (λ (s : State). (grain s g) .rad) (read-is t h) ∙ radius-for-life (h .state) (h .reached) g ∙ sym (ap (λ (s : State). (grain s g) .rad) (read-is (r .begun) k ∙ begun-is t r))
+
+pub radius-tables : (t : Tables) (r : ReachedTables t) → mark (t .lists) ≡ 0 → (g : ℕ) → g < r .count → (grain (decoded t) g) .rad ≡ (getD (inputsOf (r .count) (r .inputs)) g zeroG) .rad
+radius-tables t r m g G =
+    let h = reaches t r in
+    let z : (h .state) .mark ≡ 0 = sym (ap (λ (x : State). x .mark) (read-is t h)) ∙ m in
+    let n : length (h .reached .grains) ≡ r .count = ap length (grains-are t r) ∙ cut-long inputAt inputWide (r .count) (r .inputs) in
+    ap (λ (s : State). (grain s g) .rad) (read-is t h) ∙ radius-given (h .state) (h .reached) (begun-unhalted (h .state) (h .reached) z) g (omega (arith, n))
+    ∙ ap (λ (l : List Particle). (getD l g zeroG) .rad) (grains-are t r)
