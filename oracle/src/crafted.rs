@@ -1,6 +1,6 @@
 // The smallest inputs known for each refusal, with what the model must answer; and the order of a run's
 // checks on states that no start gives. `oracle refusals` runs them all.
-use crate::known::{correction, correction_at_walls, grain, meeting, sized, PERIODIC};
+use crate::known::{correction, correction_at_walls, grain, length_less_radius, meeting, sized, PERIODIC};
 use crate::model::grid::{GREATEST_RADIUS, LEAST_RADIUS};
 use crate::model::run::{Report, Started, Told};
 use crate::model::state::{Inputs, State, SYNC};
@@ -115,14 +115,11 @@ pub fn crafted_radii() -> Vec<Crafted> {
             &[sized(4.5, 4.5, 0., 0., 0.3); 34],
             Answer::HaltedAtStart(7),
         ),
-        with(
-            walled(
-                "8 from length less radius",
-                sized(AT_THE_WALL.0 - AT_THE_WALL.1, 4.5, -1., 0., AT_THE_WALL.1),
-                Answer::Halted { number: 8, events: 9 },
-            ),
-            |s| s.lengths[0] = AT_THE_WALL.0,
-        ),
+        Crafted {
+            name: "8 from length less radius",
+            start: length_less_radius(),
+            answer: Answer::Halted { number: 8, events: 9 },
+        },
         case(
             "9 the lost grain, a smaller one",
             &[sized(3.25, 4.5, -1., 0., 0.25)],
@@ -130,9 +127,6 @@ pub fn crafted_radii() -> Vec<Crafted> {
         ),
     ]
 }
-
-/// A length and a radius whose difference and the radius add up to more than the length.
-const AT_THE_WALL: (f64, f64) = (11.44, 0.367);
 
 /// All of them.
 pub fn all_crafted() -> Vec<Crafted> {

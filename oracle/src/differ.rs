@@ -121,13 +121,14 @@ fn no_refusals() -> bool {
     let least = f64::from_bits(1);
     type Test<'a> = (&'a str, Start, &'a dyn Fn(&State) -> bool, u64);
     let small = |room, grains: &[Inputs]| Start::small([true, true], room, grains);
-    let cases: [Test; 7] = [
+    let cases: [Test; 8] = [
         ("1: a box 8.5 long is run", Start { lengths: [8.5, 9.], ..small(64, &[]) }, &|s| s.clock > 1., 3),
         ("5: an event at time infinity", small(64, &[grain(4.5, 4.5, 1., least)]), &endless, 0),
         ("6: more events than 16", small(16, &[grain(1.5, 1.5, 1., 0.5); 4]), &long, 0),
         ("7: 33 grains in a cell", small(64, &[grain(4.5, 4.5, 0., 0.); 33]), &crowded, 0),
         ("7: nine cells of a grain", small(64, &[grain(2.5, 2.5, -1., -0.875)]), &nine, 8),
         ("8: a cell lists a grain twice", small(64, &[grain(2.5, 4.5, -1., 0.)]), &twice, 8),
+        ("8: the same, from length less radius", known::length_less_radius(), &twice, 10),
         ("9: a grain in no cell", small(64, &[grain(3.5, 4.5, -1., 0.)]), &lost_state, 2),
     ];
     let mut all = head_at_infinity();

@@ -42,6 +42,13 @@ pub fn correction_at_walls() -> Start {
     Start::small([false, true], 64, &[grain(8.5, 1.5, 1., 0.25), grain(8., 3.625, 0., 0.)])
 }
 
+/// A grain between walls, at exactly length less radius: the radius added again, the sum is above the length.
+pub fn length_less_radius() -> Start {
+    let (length, rad) = (11.44, 0.367);
+    let grain = sized(length - rad, 4.5, -1., 0., rad);
+    Start { lengths: [length, 9.], ..Start::small([false, true], 64, &[grain]) }
+}
+
 /// Two grains that meet, between walls in one direction; nothing is refused for a long while.
 pub fn meeting() -> Start {
     Start::small([true, false], 64, &[grain(1.25, 4.75, 0.5, 0.25), grain(6.1, 4.6, -0.75, 0.3)])

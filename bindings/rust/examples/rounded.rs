@@ -4,24 +4,23 @@
 //! A start is on a border if some coordinate of a grain is exactly a radius away from a border of a cell.
 //!
 //!     cargo run --release --offline --example rounded
-use fesolopi::{Domain, Error, Grain, Simulation};
+use fesolopi::Grain;
 
+mod packing;
 // the oracle's generator, of which this needs a part
 #[allow(dead_code)]
 #[path = "../../../oracle/src/random.rs"]
 mod random;
+use packing::Packing;
 use random::Random;
 
 const SEED: u64 = 1;
 const STARTS: usize = 300;
-const GRAINS: usize = 200;
-const LENGTH: f64 = 24.;
 /// The length of a cell in this box.
 const CELL: f64 = 3.;
 const RADIUS: f64 = 0.5;
-/// Enough that no cell is full of events.
-const ROOM: u64 = 128;
-const END: f64 = 50.;
+/// With room enough that no cell is full of events.
+const PACKING: Packing = Packing { grains: 200, radius: RADIUS, length: 24., room: 128, end: 50. };
 
 /// A kind of position. Each coordinate is a whole number divided by `scale`, or any float, and up to `jitter`
 /// more or less than that.
@@ -41,50 +40,13 @@ const KINDS: [Kind; 6] = [
 ];
 
 fn coordinate(kind: &Kind, random: &mut Random) -> f64 {
-    let any = random.between(0., LENGTH);
+    let any = random.between(0., PACKING.length);
     let rounded = kind.scale.map_or(any, |scale| (any * scale).round() / scale);
     rounded + random.between(-kind.jitter, kind.jitter)
 }
 
-/// Whether two grains overlap, the shortest way round.
-fn overlap(p: [f64; 2], q: [f64; 2]) -> bool {
-    let [dx, dy] = [0, 1].map(|dim| {
-        let apart = (p[dim] - q[dim]).abs();
-        apart.min(LENGTH - apart)
-    });
-    dx * dx + dy * dy < 4. * RADIUS * RADIUS
-}
-
-/// A start. A position that is out of the box, or overlaps one before it, is drawn again.
-fn drawn(kind: &Kind, random: &mut Random) -> Vec<Grain> {
-    let mut grains: Vec<Grain> = vec![];
-    while grains.len() < GRAINS {
-        let position = [0, 1].map(|_| coordinate(kind, random));
-        let inside = position.iter().all(|x| (0. ..=LENGTH).contains(x));
-        if inside && grains.iter().all(|grain| !overlap(grain.position, position)) {
-            let velocity = [0, 1].map(|_| random.between(-1., 1.));
-            grains.push(Grain { position, velocity, value: 0.5, rad: RADIUS });
-        }
-    }
-    grains
-}
-
 fn on_a_border(grains: &[Grain]) -> bool {
     grains.iter().flat_map(|grain| grain.position).any(|x| [RADIUS, CELL - RADIUS].contains(&(x % CELL)))
-}
-
-/// The number and the time of the halt, if a run from this start halts.
-fn halt(grains: &[Grain]) -> Option<(u64, f64)> {
-    let domain = Domain { lengths: [LENGTH, LENGTH], periodic: [true, true] };
-    let mut simulation = Simulation::start(&domain, ROOM, grains).expect("an accepted start");
-    while simulation.clock() < END {
-        match simulation.run(1., 1_000_000) {
-            Ok(_) => {}
-            Err(Error::Halted { by, clock, .. }) => return Some((by.number(), clock)),
-            Err(error) => panic!("{error}"),
-        }
-    }
-    None
 }
 
 /// Does the starts of a kind, and prints their row of the table.
@@ -92,8 +54,8 @@ fn measure(kind: &Kind) {
     let mut random = Random(SEED);
     let (mut halts, mut border, mut border_halted) = (vec![], 0, 0);
     for _ in 0..STARTS {
-        let grains = drawn(kind, &mut random);
-        let (on_a_border, halt) = (on_a_border(&grains), halt(&grains));
+        let grains = PACKING.drawn(&mut random, |random| coordinate(kind, random));
+        let (on_a_border, halt) = (on_a_border(&grains), PACKING.halt(&grains));
         border += u64::from(on_a_border);
         border_halted += u64::from(on_a_border && halt.is_some());
         halts.extend(halt);
@@ -110,7 +72,8 @@ fn measure(kind: &Kind) {
 }
 
 fn main() {
-    println!("{GRAINS} grains in a periodic box, {LENGTH} by {LENGTH}, until time {END}; seed {SEED}\n");
+    let Packing { grains, length, end, .. } = PACKING;
+    println!("{grains} grains in a periodic box, {length} by {length}, until time {end}; seed {SEED}\n");
     println!(
         "| Positions | Starts | Halted | By 8 | By 9 | Other | Median time | On a border | Of these halted |"
     );
