@@ -1,6 +1,6 @@
 -- A GRAIN KEEPS ITS RADIUS FOR LIFE (02, T-04): every step of any state keeps every radius (`step-keeps-radius`); so in every state that an accepted start and any runs reach
 -- a grain has the radius that the start stored (`radius-for-life`), which is the one that it brought where the start did not halt (`radius-given`), from 0.25 to 0.5. Assumes nothing.
-use Prim.Native.Nat.{ℕ, zero, suc, _≤_, _<_}
+use Prim.Native.Nat.{ℕ, zero, suc, _<_}
 use mathlib.Core.Path.{_≡_, refl, sym, ap, subst, _∙_}
 use mathlib.Core.List.{List, [], _∷_}
 use mathlib.Core.Bool.{true}
@@ -10,7 +10,7 @@ use lib.ListN.{length, getD, length-set}
 use lib.Seq.{getD-set-same, getD-set-other}
 use lib.Ieee.{Float}
 use borrow.Author.Tests.{eq-eqb}
-use Rattle.halting.specs.Out.{Out, out, next, then, each, eachOf}
+use Rattle.halting.specs.Out.{Out, next, each, eachOf}
 use Rattle.halting.proofs.Bools.{clash}
 use Rattle.halting.proofs.Laws.{then-keeps}
 use Rattle.model.specs.declared.Domain.{Domain}
@@ -42,8 +42,8 @@ use Rattle.model.proofs.Born.{size-ok}
 use Rattle.model.proofs.Starts.{each-upto, given, first-good, clear-few}
 use Rattle.model.proofs.Halts.{accepted, reached-halted}
 
-abbrev rad : State → ℕ → Float
-rad s g = (grain s g) .rad
+abbrev radiusIn : State → ℕ → Float
+radiusIn s g = (grain s g) .rad
 
 -- ---- rows of acts
 module _ (r : ℕ → Float) where
@@ -58,17 +58,17 @@ module _ (r : ℕ → Float) where
 
   -- the first k grains have it
   abbrev Have : ℕ → State → Type 0
-  Have k s = (g : ℕ) → g < k → rad s g ≡ r g
+  Have k s = (g : ℕ) → g < k → radiusIn s g ≡ r g
 
   -- every act, done or refused
   act-has : (k : ℕ) (a : Act) (s : State) → Gives a → Have k s → Have k ((perform a s) .st)
   act-has k (moving i x t) s e h g G =
-      store-case (λ o. rad (o .st) g ≡ r g) s i (landed x t (grain s i)) (h g G) (λ f. set-case (λ p. p .rad ≡ r g) zeroG (s .grains) i g (landed x t (grain s i)) (λ j. ap (rad s) j ∙ h g G) (h g G))
-  act-has k (turning i x) s e h g G = store-case (λ o. rad (o .st) g ≡ r g) s i x (h g G) (λ f. set-case (λ p. p .rad ≡ r g) zeroG (s .grains) i g x (λ j. e ∙ ap r j) (h g G))
-  act-has k (trying c q x) s e h g G = put-case (λ o. rad (o .st) g ≡ r g) s c x (λ n. h g G) (λ n f. h g G)
+      store-case (λ o. radiusIn (o .st) g ≡ r g) s i (landed x t (grain s i)) (h g G) (λ f. set-case (λ p. p .rad ≡ r g) zeroG (s .grains) i g (landed x t (grain s i)) (λ j. ap (radiusIn s) j ∙ h g G) (h g G))
+  act-has k (turning i x) s e h g G = store-case (λ o. radiusIn (o .st) g ≡ r g) s i x (h g G) (λ f. set-case (λ p. p .rad ≡ r g) zeroG (s .grains) i g x (λ j. e ∙ ap r j) (h g G))
+  act-has k (trying c q x) s e h g G = put-case (λ o. radiusIn (o .st) g ≡ r g) s c x (λ n. h g G) (λ n f. h g G)
   act-has k (cancelling i c) s e h g G = unfold cancelled requeued in h g G
-  act-has k (entering i c) s e h g G = enter-case (λ o. rad (o .st) g ≡ r g) s i c (λ a. h g G) (h g G) (λ a b d. h g G)
-  act-has k (leaving i c) s e h g G = leave-case (λ o. rad (o .st) g ≡ r g) s i c (h g G) (λ a. h g G)
+  act-has k (entering i c) s e h g G = enter-case (λ o. radiusIn (o .st) g ≡ r g) s i c (λ a. h g G) (h g G) (λ a b d. h g G)
+  act-has k (leaving i c) s e h g G = leave-case (λ o. radiusIn (o .st) g ≡ r g) s i c (h g G) (λ a. h g G)
 
   row-has : (k : ℕ) (w : Acts) (s : State) → Every Gives w → Have k s → Have k ((doing w s) .st)
   unfolding doing
@@ -93,48 +93,49 @@ module _ (r : ℕ → Float) where
       by (leaving i c) n = tt
 
 -- ---- every event gives the grains that it turns the radii that they have
-event-gives : (rate : Float) (e : Event) (s : State) → Every (Gives (rad s)) (actsOf rate e s)
+event-gives : (rate : Float) (e : Event) (s : State) → Every (Gives (radiusIn s)) (actsOf rate e s)
 event-gives rate (InterParticleCollision p q x y v w k) s =
-    let G = Gives (rad s) in
-    every-before G _ _ s (refl, λ u. tt) (λ u. every-before G _ _ u (refl, λ t. tt) (λ u. every-before G _ _ u (quiet (rad s) (forgets p u) (λ g. calm-forget g p u))
-    (λ u. every-before G _ _ u (quiet (rad s) (forgets q u) (λ g. calm-forget g q u)) (λ u. quiet (rad s) ((reschedules p ⨟ reschedules q) u) (λ g. calm-both g p q u)))))
-event-gives rate (MoveToNeighbour p x k) s = quiet (rad s) (actsOf rate (MoveToNeighbour p x k) s) (λ g. acts-calm g rate (MoveToNeighbour p x k) s refl)
-event-gives rate (MoveOutOfCell p x k) s = quiet (rad s) (actsOf rate (MoveOutOfCell p x k) s) (λ g. acts-calm g rate (MoveOutOfCell p x k) s refl)
+    let G = Gives (radiusIn s) in
+    every-before G _ _ s (refl, λ u. tt) (λ u. every-before G _ _ u (refl, λ t. tt) (λ u. every-before G _ _ u (quiet (radiusIn s) (forgets p u) (λ g. calm-forget g p u))
+    (λ u. every-before G _ _ u (quiet (radiusIn s) (forgets q u) (λ g. calm-forget g q u)) (λ u. quiet (radiusIn s) ((reschedules p ⨟ reschedules q) u) (λ g. calm-both g p q u)))))
+event-gives rate (MoveToNeighbour p x k) s = quiet (radiusIn s) (actsOf rate (MoveToNeighbour p x k) s) (λ g. acts-calm g rate (MoveToNeighbour p x k) s refl)
+event-gives rate (MoveOutOfCell p x k) s = quiet (radiusIn s) (actsOf rate (MoveOutOfCell p x k) s) (λ g. acts-calm g rate (MoveOutOfCell p x k) s refl)
 event-gives rate (WallReflection p x v w) s =
-    let G = Gives (rad s) in
-    every-before G _ _ s (refl, λ u. tt) (λ u. every-before G _ _ u (quiet (rad s) (forgets p u) (λ g. calm-forget g p u)) (λ u. quiet (rad s) (reschedules p u) (λ g. calm-again g p u)))
-event-gives rate Synchronisation s = quiet (rad s) (actsOf rate Synchronisation s) (λ g. acts-calm g rate Synchronisation s refl)
+    let G = Gives (radiusIn s) in
+    every-before G _ _ s (refl, λ u. tt) (λ u. every-before G _ _ u (quiet (radiusIn s) (forgets p u) (λ g. calm-forget g p u)) (λ u. quiet (radiusIn s) (reschedules p u) (λ g. calm-again g p u)))
+event-gives rate Synchronisation s = quiet (radiusIn s) (actsOf rate Synchronisation s) (λ g. acts-calm g rate Synchronisation s refl)
 
 -- A STEP KEEPS EVERY RADIUS, of any state, halted or not
 pub step-keeps-radius : (rate : Float) (s : State) (g : ℕ) → (grain ((step rate s) .state) g) .rad ≡ (grain s g) .rad
 unfolding step event taken requeued
-step-keeps-radius rate s g = by ((event rate s) .num) (row-has (rad s) (suc g) (actsOf rate (headEvent s) (taken s)) (taken s) (event-gives rate (headEvent s) (taken s)) (λ i I. refl) g (omega arith))
+step-keeps-radius rate s g = by ((event rate s) .num) (row-has (radiusIn s) (suc g) (actsOf rate (headEvent s) (taken s)) (taken s) (event-gives rate (headEvent s) (taken s)) (λ i I. refl) g (omega arith))
   where
-    by : (n : ℕ) → rad ((event rate s) .st) g ≡ rad s g → rad ((finish n ((event rate s) .st) (headEvent s)) .state) g ≡ rad s g
+    by : (n : ℕ) → radiusIn ((event rate s) .st) g ≡ radiusIn s g → radiusIn ((finish n ((event rate s) .st) (headEvent s)) .state) g ≡ radiusIn s g
     by zero i = i
     by (suc n) i = i
 
 -- so does a run, whatever its budget, and so do runs
-run-keeps-radius : (rate : Float) (b d : ℕ) (s : State) (g : ℕ) → rad ((runFrom rate b d s) .state) g ≡ rad s g
+run-keeps-radius : (rate : Float) (b d : ℕ) (s : State) (g : ℕ) → radiusIn ((runFrom rate b d s) .state) g ≡ radiusIn s g
 unfolding runFrom
 run-keeps-radius rate zero d s g = refl
 run-keeps-radius rate (suc b) d s g = by ((step rate s) .how) (step-keeps-radius rate s g) (run-keeps-radius rate b (suc d) ((step rate s) .state) g)
   where
-    by : (h : Stepped) → let u = (step rate s) .state in rad u g ≡ rad s g → rad ((runFrom rate b (suc d) u) .state) g ≡ rad u g → rad ((onward h u d (runFrom rate b)) .state) g ≡ rad s g
+    by : (h : Stepped) → let u = (step rate s) .state in radiusIn u g ≡ radiusIn s g → radiusIn ((runFrom rate b (suc d) u) .state) g ≡ radiusIn u g → radiusIn ((onward h u d (runFrom rate b)) .state) g ≡ radiusIn s g
     by done i j = j ∙ i
     by synchronised i j = i
     by (halted n) i j = i
 
-after-keeps-radius : (ks : List Call) (s : State) (g : ℕ) → rad (after ks s) g ≡ rad s g
+after-keeps-radius : (ks : List Call) (s : State) (g : ℕ) → radiusIn (after ks s) g ≡ radiusIn s g
 unfolding after
 after-keeps-radius [] s g = refl
 after-keeps-radius (k ∷ ks) s g =
     after-keeps-radius ks ((runAll (k .rate) (k .budget) s) .state) g
-    ∙ run-case (λ f. rad ((f (k .budget)) .state) g ≡ rad s g) (k .rate) s refl (λ h. refl) refl refl (λ h R t. run-keeps-radius (k .rate) (k .budget) 0 s g)
+    ∙ run-case (λ f. radiusIn ((f (k .budget)) .state) g ≡ radiusIn s g) (k .rate) s refl (λ h. refl) refl refl (λ h R t. run-keeps-radius (k .rate) (k .budget) 0 s g)
 
 -- IN EVERY REACHED STATE, HALTED OR NOT, A GRAIN HAS THE RADIUS THAT THE START STORED
 pub radius-for-life : (s : State) (r : Reached s) (g : ℕ) → (grain s g) .rad ≡ (grain (r .begun) g) .rad
-radius-for-life s r g = subst (λ (u : State). rad u g ≡ rad (r .begun) g) (r .there) (after-keeps-radius (r .calls) (r .begun) g)
+radius-for-life s r g =
+    subst (λ (u : State). radiusIn u g ≡ radiusIn (r .begun) g) (r .there) (after-keeps-radius (r .calls) (r .begun) g)
 
 -- ---- a start stores the radius that a grain brings
 module _ (b : Domain) (room : ℕ) (gs : List Particle) (box : boxOk b ≡ true) where
@@ -178,7 +179,7 @@ pub radius-given : (s : State) (r : Reached s) → (r .begun) .mark ≡ 0 → (g
 radius-given s r m g G =
     let a = accepted (r .box) (r .room) (r .grains) (r .begun) (r .accepted) in
     radius-for-life s r g
-    ∙ ap (λ (u : State). rad u g) (a .is)
+    ∙ ap (λ (u : State). radiusIn u g) (a .is)
     ∙ begin-stores (r .box) (r .room) (r .grains) (a .box) (ap (λ (u : State). u .mark) (sym (a .is)) ∙ m) g G
 
 -- which is from 0.25 to 0.5
