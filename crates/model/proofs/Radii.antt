@@ -1,4 +1,4 @@
--- A GRAIN KEEPS ITS RADIUS FOR LIFE (02, T-04): every step of any state keeps every radius (`step-keeps-radius`); so in every state that an accepted start and any runs reach
+-- A GRAIN KEEPS ITS RADIUS FOR LIFE (02, T-04): every event and every step of any state keep every radius (`execute-keeps-radius`, `step-keeps-radius`); so in every state that an accepted start and any runs reach
 -- a grain has the radius that the start stored (`radius-for-life`), which is the one that it brought where the start did not halt (`radius-given`), from 0.25 to 0.5. Assumes nothing.
 use Prim.Native.Nat.{ℕ, zero, suc, _<_}
 use mathlib.Core.Path.{_≡_, refl, sym, ap, subst, _∙_}
@@ -25,7 +25,7 @@ use Rattle.model.specs.FromPToC.{cellsOfGrain}
 use Rattle.model.specs.State.{State, zeroG, grain, requeued}
 use Rattle.model.specs.Acts.{store, enter, cancelled, taken}
 use Rattle.model.specs.Rows.{Act, moving, turning, trying, cancelling, entering, leaving, perform, Acts, ended, act, doing, inTurn, _⨟_, forgets, reschedules, actsOf, initiates}
-use Rattle.model.specs.Execute.{Stepped, done, synchronised, halted, finish, headEvent, event, step}
+use Rattle.model.specs.Execute.{Stepped, done, synchronised, halted, finish, execute, headEvent, event, step}
 use Rattle.model.specs.Run.{Ran, runFrom, onward}
 use Rattle.model.specs.Doing.{goesIn}
 use Rattle.model.specs.Start.{clear, begin}
@@ -105,10 +105,13 @@ event-gives rate (WallReflection p x v w) s =
     every-before G _ _ s (refl, λ u. tt) (λ u. every-before G _ _ u (quiet (radiusIn s) (forgets p u) (λ g. calm-forget g p u)) (λ u. quiet (radiusIn s) (reschedules p u) (λ g. calm-again g p u)))
 event-gives rate Synchronisation s = quiet (radiusIn s) (actsOf rate Synchronisation s) (λ g. acts-calm g rate Synchronisation s refl)
 
--- A STEP KEEPS EVERY RADIUS, of any state, halted or not
+-- SO AN EVENT KEEPS EVERY RADIUS, those of the grains that it stores too, and so does a step, of any state, halted or not
+pub execute-keeps-radius : (rate : Float) (e : Event) (s : State) (g : ℕ) → (grain ((execute rate e s) .st) g) .rad ≡ (grain s g) .rad
+execute-keeps-radius rate e s g = row-has (radiusIn s) (suc g) (actsOf rate e s) s (event-gives rate e s) (λ i I. refl) g (omega arith)
+
 pub step-keeps-radius : (rate : Float) (s : State) (g : ℕ) → (grain ((step rate s) .state) g) .rad ≡ (grain s g) .rad
 unfolding step event taken requeued
-step-keeps-radius rate s g = by ((event rate s) .num) (row-has (radiusIn s) (suc g) (actsOf rate (headEvent s) (taken s)) (taken s) (event-gives rate (headEvent s) (taken s)) (λ i I. refl) g (omega arith))
+step-keeps-radius rate s g = by ((event rate s) .num) (execute-keeps-radius rate (headEvent s) (taken s) g)
   where
     by : (n : ℕ) → radiusIn ((event rate s) .st) g ≡ radiusIn s g → radiusIn ((finish n ((event rate s) .st) (headEvent s)) .state) g ≡ radiusIn s g
     by zero i = i
