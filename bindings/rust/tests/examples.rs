@@ -78,7 +78,9 @@ fn smaller_grains_meet_later_and_keep_their_radii() {
     let mut simulation = started([true; 2], &two);
     let meets = |p: &Pending| matches!(p.event, Event::Collision { .. });
     assert_eq!(simulation.pending(4).find(meets).map(|p| p.time), Some(2.25));
-    (0..5).for_each(|_| drop(simulation.run(1., 100).unwrap()));
+    for _ in 0..5 {
+        simulation.run(1., 100).unwrap();
+    }
     let radii: Vec<f64> = simulation.grains().map(|g| g.rad).collect();
     assert_eq!(radii, [0.25, 0.5]);
     assert!(simulation.grains().all(|g| g.velocity[0] != 1.));
