@@ -9,9 +9,7 @@ use native.Mathlib.Decide.{ℕ-discrete}
 use lib.ListN.{length, getD, length-set}
 use lib.Seq.{getD-set-same, getD-set-other}
 use lib.Ieee.{Float}
-use borrow.Author.Tests.{eq-eqb}
-use Rattle.halting.specs.Out.{Out, next, each, eachOf}
-use Rattle.halting.proofs.Bools.{clash}
+use Rattle.halting.specs.Out.{Out, each, eachOf}
 use Rattle.halting.proofs.Laws.{then-keeps}
 use Rattle.model.specs.declared.Domain.{Domain}
 use Rattle.model.specs.declared.Particle.{Particle}
@@ -20,102 +18,52 @@ use Rattle.model.specs.declared.Event.the-variants.{InterParticleCollisi
 use Rattle.model.specs.Constants.{leastRadius, greatestRadius}
 use Rattle.model.specs.Sizes.{within, boxOk}
 use Rattle.model.specs.Grid.{cells}
-use Rattle.model.specs.Stepping.{landed, atZero}
+use Rattle.model.specs.Stepping.{atZero}
 use Rattle.model.specs.FromPToC.{cellsOfGrain}
-use Rattle.model.specs.State.{State, zeroG, grain, requeued}
-use Rattle.model.specs.Acts.{store, enter, cancelled, taken}
-use Rattle.model.specs.Rows.{Act, moving, turning, trying, cancelling, entering, leaving, perform, Acts, ended, act, doing, inTurn, _⨟_, forgets, reschedules, actsOf, initiates}
-use Rattle.model.specs.Execute.{Stepped, done, synchronised, halted, finish, execute, headEvent, event, step}
+use Rattle.model.specs.State.{State, zeroG, grain}
+use Rattle.model.specs.Acts.{store, enter, taken}
+use Rattle.model.specs.Rows.{doing, inTurn, _⨟_, forgets, reschedules, actsOf, initiates}
+use Rattle.model.specs.Execute.{Stepped, done, synchronised, halted, execute, headEvent, step}
 use Rattle.model.specs.Run.{Ran, runFrom, onward}
 use Rattle.model.specs.Doing.{goesIn}
 use Rattle.model.specs.Start.{clear, begin}
 use Rattle.model.specs.Check.{runAll, refusal}
 use Rattle.model.specs.Reached.{Call, after, Reached}
-use Rattle.model.proofs.Cases.{store-case, put-case, enter-case, leave-case}
-use Rattle.model.proofs.Lists.{set-case}
+use Rattle.model.proofs.Cases.{store-case, enter-case}
 use Rattle.model.proofs.Frame.{of-sound}
 use Rattle.model.proofs.Told.{Every, every-before, every-turn}
-use Rattle.model.proofs.Velocities.{Calm, calm-both, calm-forget, calm-again, calm-init, acts-calm}
+use Rattle.model.proofs.Velocities.{Calm, calm-both, calm-forget, calm-again, calm-init, acts-calm, Gives, row-gives, row-calm, step-keeps}
 use Rattle.model.proofs.Performs.{begin-parts}
 use Rattle.model.proofs.Refusals.{run-case}
 use Rattle.model.proofs.Born.{size-ok}
 use Rattle.model.proofs.Starts.{each-upto, given, first-good, clear-few}
 use Rattle.model.proofs.Halts.{accepted, reached-halted}
 
+abbrev radius : Particle → Float
+radius p = p .rad
+
 abbrev radiusIn : State → ℕ → Float
 radiusIn s g = (grain s g) .rad
 
--- ---- rows of acts
-module _ (r : ℕ → Float) where
-  -- a turn gives a grain its radius by r
-  abbrev Gives : Act → Type 0
-  Gives (moving i x t) = Unit {0}
-  Gives (turning i p) = p .rad ≡ r i
-  Gives (trying c q x) = Unit {0}
-  Gives (cancelling i c) = Unit {0}
-  Gives (entering i c) = Unit {0}
-  Gives (leaving i c) = Unit {0}
-
-  -- the first k grains have it
-  abbrev Have : ℕ → State → Type 0
-  Have k s = (g : ℕ) → g < k → radiusIn s g ≡ r g
-
-  -- every act, done or refused
-  act-has : (k : ℕ) (a : Act) (s : State) → Gives a → Have k s → Have k ((perform a s) .st)
-  act-has k (moving i x t) s e h g G =
-      store-case (λ o. radiusIn (o .st) g ≡ r g) s i (landed x t (grain s i)) (h g G) (λ f. set-case (λ p. p .rad ≡ r g) zeroG (s .grains) i g (landed x t (grain s i)) (λ j. ap (radiusIn s) j ∙ h g G) (h g G))
-  act-has k (turning i x) s e h g G = store-case (λ o. radiusIn (o .st) g ≡ r g) s i x (h g G) (λ f. set-case (λ p. p .rad ≡ r g) zeroG (s .grains) i g x (λ j. e ∙ ap r j) (h g G))
-  act-has k (trying c q x) s e h g G = put-case (λ o. radiusIn (o .st) g ≡ r g) s c x (λ n. h g G) (λ n f. h g G)
-  act-has k (cancelling i c) s e h g G = unfold cancelled requeued in h g G
-  act-has k (entering i c) s e h g G = enter-case (λ o. radiusIn (o .st) g ≡ r g) s i c (λ a. h g G) (h g G) (λ a b d. h g G)
-  act-has k (leaving i c) s e h g G = leave-case (λ o. radiusIn (o .st) g ≡ r g) s i c (h g G) (λ a. h g G)
-
-  row-has : (k : ℕ) (w : Acts) (s : State) → Every Gives w → Have k s → Have k ((doing w s) .st)
-  unfolding doing
-  row-has k ended s e h = h
-  row-has k (act a f) s e h = let j = act-has k a s (e .0) h in by ((perform a s) .num) j (row-has k (f ((perform a s) .st)) ((perform a s) .st) (e .1 ((perform a s) .st)) j)
-    where
-      by : (n : ℕ) → let u = (perform a s) .st in Have k u → Have k ((doing (f u) u) .st) → Have k ((next n u (λ v. doing (f v) v)) .st)
-      by zero j i = i
-      by (suc n) j i = j
-
-  -- a row that turns no grain
-  quiet : (w : Acts) → ((g : ℕ) → Every (Calm g) w) → Every Gives w
-  quiet ended c = tt
-  quiet (act a f) c = (by a (λ g. c g .0), λ u. quiet (f u) (λ g. c g .1 u))
-    where
-      by : (a : Act) → ((g : ℕ) → Calm g a) → Gives a
-      by (moving i x t) n = tt
-      by (turning i p) n = clash (sym (n i) ∙ eq-eqb i i refl)
-      by (trying c q x) n = tt
-      by (cancelling i c) n = tt
-      by (entering i c) n = tt
-      by (leaving i c) n = tt
-
 -- ---- every event gives the grains that it turns the radii that they have
-event-gives : (rate : Float) (e : Event) (s : State) → Every (Gives (radiusIn s)) (actsOf rate e s)
-event-gives rate (InterParticleCollision p q x y v w k) s =
-    let G = Gives (radiusIn s) in
-    every-before G _ _ s (refl, λ u. tt) (λ u. every-before G _ _ u (refl, λ t. tt) (λ u. every-before G _ _ u (quiet (radiusIn s) (forgets p u) (λ g. calm-forget g p u))
-    (λ u. every-before G _ _ u (quiet (radiusIn s) (forgets q u) (λ g. calm-forget g q u)) (λ u. quiet (radiusIn s) ((reschedules p ⨟ reschedules q) u) (λ g. calm-both g p q u)))))
-event-gives rate (MoveToNeighbour p x k) s = quiet (radiusIn s) (actsOf rate (MoveToNeighbour p x k) s) (λ g. acts-calm g rate (MoveToNeighbour p x k) s refl)
-event-gives rate (MoveOutOfCell p x k) s = quiet (radiusIn s) (actsOf rate (MoveOutOfCell p x k) s) (λ g. acts-calm g rate (MoveOutOfCell p x k) s refl)
-event-gives rate (WallReflection p x v w) s =
-    let G = Gives (radiusIn s) in
-    every-before G _ _ s (refl, λ u. tt) (λ u. every-before G _ _ u (quiet (radiusIn s) (forgets p u) (λ g. calm-forget g p u)) (λ u. quiet (radiusIn s) (reschedules p u) (λ g. calm-again g p u)))
-event-gives rate Synchronisation s = quiet (radiusIn s) (actsOf rate Synchronisation s) (λ g. acts-calm g rate Synchronisation s refl)
+event-gives : (rate : Float) (e : Event) (s : State) (g : ℕ) → Every (Gives radius g (radiusIn s g)) (actsOf rate e s)
+event-gives rate (InterParticleCollision p q x y v w k) s g =
+    let G = Gives radius g (radiusIn s g) in
+    every-before G _ _ s (ap (radiusIn s), λ u. tt) (λ u. every-before G _ _ u (ap (radiusIn s), λ t. tt)
+    (λ u. row-calm radius g (radiusIn s g) ((forgets p ⨟ forgets q ⨟ reschedules p ⨟ reschedules q) u) (every-before (Calm g) _ _ u (calm-forget g p u) (λ t. every-before (Calm g) _ _ t (calm-forget g q t) (calm-both g p q)))))
+event-gives rate (MoveToNeighbour p x k) s g = row-calm radius g (radiusIn s g) (actsOf rate (MoveToNeighbour p x k) s) (acts-calm g rate (MoveToNeighbour p x k) s refl)
+event-gives rate (MoveOutOfCell p x k) s g = row-calm radius g (radiusIn s g) (actsOf rate (MoveOutOfCell p x k) s) (acts-calm g rate (MoveOutOfCell p x k) s refl)
+event-gives rate (WallReflection p x v w) s g =
+    every-before (Gives radius g (radiusIn s g)) _ _ s (ap (radiusIn s), λ u. tt)
+    (λ u. row-calm radius g (radiusIn s g) ((forgets p ⨟ reschedules p) u) (every-before (Calm g) _ _ u (calm-forget g p u) (calm-again g p)))
+event-gives rate Synchronisation s g = row-calm radius g (radiusIn s g) (actsOf rate Synchronisation s) (acts-calm g rate Synchronisation s refl)
 
 -- SO AN EVENT KEEPS EVERY RADIUS, those of the grains that it stores too, and so does a step, of any state, halted or not
 pub execute-keeps-radius : (rate : Float) (e : Event) (s : State) (g : ℕ) → (grain ((execute rate e s) .st) g) .rad ≡ (grain s g) .rad
-execute-keeps-radius rate e s g = row-has (radiusIn s) (suc g) (actsOf rate e s) s (event-gives rate e s) (λ i I. refl) g (omega arith)
+execute-keeps-radius rate e s g = row-gives radius (λ x t p. refl) g (radiusIn s g) (actsOf rate e s) s (event-gives rate e s g) refl
 
 pub step-keeps-radius : (rate : Float) (s : State) (g : ℕ) → (grain ((step rate s) .state) g) .rad ≡ (grain s g) .rad
-unfolding step event taken requeued
-step-keeps-radius rate s g = by ((event rate s) .num) (execute-keeps-radius rate (headEvent s) (taken s) g)
-  where
-    by : (n : ℕ) → radiusIn ((event rate s) .st) g ≡ radiusIn s g → radiusIn ((finish n ((event rate s) .st) (headEvent s)) .state) g ≡ radiusIn s g
-    by zero i = i
-    by (suc n) i = i
+step-keeps-radius rate s g = step-keeps radius rate s g (execute-keeps-radius rate (headEvent s) (taken s) g)
 
 -- so does a run, whatever its budget, and so do runs
 run-keeps-radius : (rate : Float) (b d : ℕ) (s : State) (g : ℕ) → radiusIn ((runFrom rate b d s) .state) g ≡ radiusIn s g
@@ -145,9 +93,12 @@ module _ (b : Domain) (room : ℕ) (gs : List Particle) (box : boxOk b ≡ true)
   abbrev brought : ℕ → Float
   brought g = (given gs g) .rad
 
-  -- the first k grains are stored
+  -- the first k grains have theirs, and are stored
+  abbrev Have : ℕ → State → Type 0
+  Have k u = (g : ℕ) → g < k → radiusIn u g ≡ brought g
+
   abbrev Stored : ℕ → State → Type 0
-  Stored k u = (length (u .grains) ≡ length gs) × Have brought k u
+  Stored k u = (length (u .grains) ≡ length gs) × Have k u
 
   store-one : (i : ℕ) (u : State) → i < length gs → Stored i u → (store i (atZero (given gs i)) u) .num ≡ 0 → Stored (suc i) ((store i (atZero (given gs i)) u) .st)
   store-one i u I h =
@@ -170,12 +121,12 @@ module _ (b : Domain) (room : ℕ) (gs : List Particle) (box : boxOk b ≡ true)
       then-keeps (Stored (suc i)) (Stored (suc i)) (store i (atZero (given gs i)) u) (λ w. eachOf (λ c. enter i c) (cellsOfGrain (w .box) (given gs i)) w) (store-one i u I h)
       (λ w k z. of-sound (Stored (suc i)) (λ c. enter i c) (cellsOfGrain (w .box) (given gs i)) (λ c v m l. enter-keeps (suc i) i c v l) w k)
 
-  begin-stores : (begin b room gs) .num ≡ 0 → Have brought (length gs) ((begin b room gs) .st)
-  begin-stores = subst (λ (o : Out State). o .num ≡ 0 → Have brought (length gs) (o .st)) (sym (begin-parts b room gs))
-      (then-keeps (Stored (length gs)) (Have brought (length gs)) (each (goesIn gs) (length gs) 0 (clear b room (length gs))) (λ u. doing (inTurn initiates (cells b) 0 u) u)
+  begin-stores : (begin b room gs) .num ≡ 0 → Have (length gs) ((begin b room gs) .st)
+  begin-stores = subst (λ (o : Out State). o .num ≡ 0 → Have (length gs) (o .st)) (sym (begin-parts b room gs))
+      (then-keeps (Stored (length gs)) (Have (length gs)) (each (goesIn gs) (length gs) 0 (clear b room (length gs))) (λ u. doing (inTurn initiates (cells b) 0 u) u)
       (λ z. subst (λ (k : ℕ). Stored k ((each (goesIn gs) (length gs) 0 (clear b room (length gs))) .st)) (omega arith)
       (each-upto (goesIn gs) Stored (length gs) (λ i u I h y. goes-one i u I h y) (length gs) 0 (clear b room (length gs)) (omega arith) (clear-few b room gs box, λ g G. absurd (omega arith)) z))
-      (λ u h z. row-has brought (length gs) (inTurn initiates (cells b) 0 u) u (quiet brought (inTurn initiates (cells b) 0 u) (λ g. every-turn (Calm g) initiates (cells b) 0 u (calm-init g))) (h .1)))
+      (λ u h z g G. row-gives radius (λ x t p. refl) g (brought g) (inTurn initiates (cells b) 0 u) u (row-calm radius g (brought g) (inTurn initiates (cells b) 0 u) (every-turn (Calm g) initiates (cells b) 0 u (calm-init g))) (h .1 g G)))
 
 -- WHERE THE START DID NOT HALT, EVERY REACHED STATE HAS EACH GRAIN WITH THE RADIUS THAT IT BROUGHT
 pub radius-given : (s : State) (r : Reached s) → (r .begun) .mark ≡ 0 → (g : ℕ) → g < length (r .grains) → (grain s g) .rad ≡ (getD (r .grains) g zeroG) .rad

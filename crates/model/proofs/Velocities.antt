@@ -1,4 +1,5 @@
--- ONLY A TURN CHANGES A VELOCITY: every other act, done or refused, and every event and step that does not turn a grain keep its velocity's bits. Of any state. Assumes nothing.
+-- ONLY A TURN CHANGES A VELOCITY: every other act, done or refused, and every event and step that does not turn a grain keep its velocity's bits. Of any state; and so of any part
+-- of a grain that stepping keeps (`row-gives`). Assumes nothing.
 use Prim.Native.Nat.{ℕ, zero, suc}
 use mathlib.Core.Path.{_≡_, refl, ap, _∙_}
 use mathlib.Core.List.{List, [], _∷_}
@@ -86,36 +87,69 @@ module _ (g : ℕ) where
   acts-calm rate (WallReflection p x v w) s n = calm-wall p (renewed x v (s .clock) w (grain s p)) s n
   acts-calm rate Synchronisation s n = every-before (Calm g) _ _ s (every-turn (Calm g) stepping (length (s .grains)) 0 s (λ i u. (refl, λ v. tt))) (λ u. (refl, λ v. tt))
 
+-- ---- a part of a grain that stepping keeps
+-- an act that gives grain g the part v, if it gives it one
+abbrev pub Gives : {A : Type 0} → (Particle → A) → ℕ → A → Act → Type 0
+Gives f g v (moving i x t) = Unit {0}
+Gives f g v (turning i p) = i ≡ g → f p ≡ v
+Gives f g v (trying c r x) = Unit {0}
+Gives f g v (cancelling i c) = Unit {0}
+Gives f g v (entering i c) = Unit {0}
+Gives f g v (leaving i c) = Unit {0}
+
+module _ {A : Type 0} (f : Particle → A) (stays : (x : MyVec) (t : Float) (p : Particle) → f (landed x t p) ≡ f p) (g : ℕ) (v : A) where
+  -- where it is v, such an act leaves it so, done or refused
+  act-gives : (a : Act) (s : State) → Gives f g v a → f (grain s g) ≡ v → f (grain ((perform a s) .st) g) ≡ v
+  act-gives (moving i x t) s e h =
+      store-case (λ o. f (grain (o .st) g) ≡ v) s i (landed x t (grain s i)) h
+      (λ q. set-case (λ p. f p ≡ v) zeroG (s .grains) i g (landed x t (grain s i)) (λ k. stays x t (grain s i) ∙ ap (λ (n : ℕ). f (grain s n)) k ∙ h) h)
+  act-gives (turning i x) s e h = store-case (λ o. f (grain (o .st) g) ≡ v) s i x h (λ q. set-case (λ p. f p ≡ v) zeroG (s .grains) i g x e h)
+  act-gives (trying c r x) s e h = put-case (λ o. f (grain (o .st) g) ≡ v) s c x (λ n. h) (λ n q. h)
+  act-gives (cancelling i c) s e h = unfold cancelled requeued in h
+  act-gives (entering i c) s e h = enter-case (λ o. f (grain (o .st) g) ≡ v) s i c (λ a. h) h (λ a b d. h)
+  act-gives (leaving i c) s e h = leave-case (λ o. f (grain (o .st) g) ≡ v) s i c h (λ a. h)
+
+  pub row-gives : (w : Acts) (s : State) → Every (Gives f g v) w → f (grain s g) ≡ v → f (grain ((doing w s) .st) g) ≡ v
+  unfolding doing
+  row-gives ended s e h = h
+  row-gives (act a k) s e h = let j = act-gives a s (e .0) h in by ((perform a s) .num) j (row-gives (k ((perform a s) .st)) ((perform a s) .st) (e .1 ((perform a s) .st)) j)
+    where
+      by : (n : ℕ) → let u = (perform a s) .st in f (grain u g) ≡ v → f (grain ((doing (k u) u) .st) g) ≡ v → f (grain ((next n u (λ y. doing (k y) y)) .st) g) ≡ v
+      by zero j i = i
+      by (suc n) j i = j
+
+-- an act that does not turn g gives it none
+calm-gives : {A : Type 0} (f : Particle → A) (g : ℕ) (v : A) (a : Act) → Calm g a → Gives f g v a
+calm-gives f g v (moving i x t) n = tt
+calm-gives f g v (turning i p) n = λ e. absurd (eqb-false i g n e)
+calm-gives f g v (trying c r x) n = tt
+calm-gives f g v (cancelling i c) n = tt
+calm-gives f g v (entering i c) n = tt
+calm-gives f g v (leaving i c) n = tt
+
+pub row-calm : {A : Type 0} (f : Particle → A) (g : ℕ) (v : A) (w : Acts) → Every (Calm g) w → Every (Gives f g v) w
+row-calm f g v ended e = tt
+row-calm f g v (act a k) e = (calm-gives f g v a (e .0), λ u. row-calm f g v (k u) (e .1 u))
+
+-- what an event keeps, a step keeps, halted or not
+pub step-keeps : {A : Type 0} (f : Particle → A) (rate : Float) (s : State) (g : ℕ) → f (grain ((execute rate (headEvent s) (taken s)) .st) g) ≡ f (grain (taken s) g) → f (grain ((step rate s) .state) g) ≡ f (grain s g)
+unfolding step event taken requeued
+step-keeps f rate s g = by ((event rate s) .num)
+  where
+    by : (n : ℕ) → f (grain ((event rate s) .st) g) ≡ f (grain s g) → f (grain ((finish n ((event rate s) .st) (headEvent s)) .state) g) ≡ f (grain s g)
+    by zero i = i
+    by (suc n) i = i
+
 -- ---- EVERY ACT BUT A TURN KEEPS EVERY VELOCITY, done or refused
-abbrev vel : State → ℕ → MyVec
-vel s g = (grain s g) .vel
+abbrev vel : Particle → MyVec
+vel p = p .vel
 
 pub act-keeps-velocity : (a : Act) (s : State) (g : ℕ) → turns g (did a) ≡ false → (grain ((perform a s) .st) g) .vel ≡ (grain s g) .vel
-act-keeps-velocity (moving i x t) s g n =
-    store-case (λ o. vel (o .st) g ≡ vel s g) s i (landed x t (grain s i)) refl (λ f. set-case (λ p. p .vel ≡ vel s g) zeroG (s .grains) i g (landed x t (grain s i)) (ap (vel s)) refl)
-act-keeps-velocity (turning i x) s g n = store-case (λ o. vel (o .st) g ≡ vel s g) s i x refl (λ f. set-case (λ p. p .vel ≡ vel s g) zeroG (s .grains) i g x (λ e. absurd (eqb-false i g n e)) refl)
-act-keeps-velocity (trying c r x) s g n = put-case (λ o. vel (o .st) g ≡ vel s g) s c x (λ r. refl) (λ q h. refl)
-act-keeps-velocity (cancelling i c) s g n = unfold cancelled requeued in refl
-act-keeps-velocity (entering i c) s g n = enter-case (λ o. vel (o .st) g ≡ vel s g) s i c (λ a. refl) refl (λ a b d. refl)
-act-keeps-velocity (leaving i c) s g n = leave-case (λ o. vel (o .st) g ≡ vel s g) s i c refl (λ a. refl)
-
-row-keeps-velocity : (w : Acts) (s : State) (g : ℕ) → Every (Calm g) w → (grain ((doing w s) .st) g) .vel ≡ (grain s g) .vel
-unfolding doing
-row-keeps-velocity ended s g e = refl
-row-keeps-velocity (act a f) s g e = by ((perform a s) .num) (row-keeps-velocity (f ((perform a s) .st)) ((perform a s) .st) g (e .1 ((perform a s) .st)))
-  where
-    by : (r : ℕ) → let u = (perform a s) .st in vel ((doing (f u) u) .st) g ≡ vel u g → vel ((next r u (λ v. doing (f v) v)) .st) g ≡ vel s g
-    by zero i = i ∙ act-keeps-velocity a s g (e .0)
-    by (suc r) i = act-keeps-velocity a s g (e .0)
+act-keeps-velocity a s g n = act-gives vel (λ x t p. refl) g ((grain s g) .vel) a s (calm-gives vel g ((grain s g) .vel) a n) refl
 
 -- SO AN EVENT KEEPS THE VELOCITY OF EVERY GRAIN THAT IT DOES NOT TURN, and so does a step, halted or not
 pub execute-keeps-velocity : (rate : Float) (e : Event) (s : State) (g : ℕ) → turnedBy e g ≡ false → (grain ((execute rate e s) .st) g) .vel ≡ (grain s g) .vel
-execute-keeps-velocity rate e s g n = row-keeps-velocity (actsOf rate e s) s g (acts-calm g rate e s n)
+execute-keeps-velocity rate e s g n = row-gives vel (λ x t p. refl) g ((grain s g) .vel) (actsOf rate e s) s (row-calm vel g ((grain s g) .vel) (actsOf rate e s) (acts-calm g rate e s n)) refl
 
 pub step-keeps-velocity : (rate : Float) (s : State) (g : ℕ) → turnedBy (headEvent s) g ≡ false → (grain ((step rate s) .state) g) .vel ≡ (grain s g) .vel
-unfolding step event taken requeued
-step-keeps-velocity rate s g n = by ((event rate s) .num) (execute-keeps-velocity rate (headEvent s) (taken s) g n)
-  where
-    by : (r : ℕ) → vel ((event rate s) .st) g ≡ vel s g → vel ((finish r ((event rate s) .st) (headEvent s)) .state) g ≡ vel s g
-    by zero i = i
-    by (suc r) i = i
+step-keeps-velocity rate s g n = step-keeps vel rate s g (execute-keeps-velocity rate (headEvent s) (taken s) g n)

@@ -7,8 +7,7 @@ ghost use Rattle.order.specs.Numbers.{maxOf, minOf};
 ghost use Rattle.model.specs.Stepping as stepping;
 ghost use Rattle.model.specs.Events.{fineV};
 ghost use Rattle.model.specs.Acts.{fineGrain};
-ghost use Rattle.model.specs.Constants.{leastRadius, greatestRadius};
-ghost use Rattle.model.specs.Sizes.{within, placeOk, speedOk, grainOk};
+ghost use Rattle.model.specs.Sizes.{placeOk, speedOk, grainOk};
 ghost use Rattle.particle.specs.Spans.{spanOf, spansOf};
 ghost use Rattle.particle.specs.Spans as spans;
 use model::Domain;
@@ -106,18 +105,14 @@ const LEAST_VAL: f64 = 0.0;
 
 const GREATEST_VAL: f64 = 1.0;
 
-fn rad_ok(rad: f64) -> bool
-    ensures { λ r. ⌜ r ≡ within leastRadius greatestRadius rad ⌝ }
-{
-    cell::within(Particle::LEAST_RADIUS, Particle::GREATEST_RADIUS, rad)
-}
-
 // Whether all start numbers of a grain are in range: refusal 4 where not.
 pub fn grain_ok(domain: Domain, p: Particle) -> bool
     ensures { λ r. ⌜ r ≡ grainOk domain p ⌝ }
 {
     pos_ok(domain, p)
-        && (vel_ok(p.vel) && (cell::within(LEAST_VAL, GREATEST_VAL, p.val) && rad_ok(p.rad)))
+        && (vel_ok(p.vel)
+            && (cell::within(LEAST_VAL, GREATEST_VAL, p.val)
+                && cell::within(Particle::LEAST_RADIUS, Particle::GREATEST_RADIUS, p.rad)))
 }
 
 // ---- from_p_to_c

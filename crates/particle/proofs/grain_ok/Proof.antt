@@ -13,8 +13,8 @@ vel-ok-requires c κs = search needs
 within-requires : tie.Need-within-requires
 within-requires c κs = search needs
 
-rad-ok-requires : tie.Need-rad-ok-requires
-rad-ok-requires c κs = search needs
+within-requires-2 : tie.Need-within-requires-2
+within-requires-2 c κs = search needs
 
 returns : tie.Need-returns
 returns c =
@@ -24,7 +24,7 @@ returns c =
     let c4 = c3 .before in
     let c5 = c4 .before in
     let c6 = c5 .before in
-    both _ _ _ _ (c6 .pos-ok .ensures) (c5 .if1 .taken) (both _ _ _ _ (c4 .vel-ok .ensures) (c3 .if2 .taken) (both _ _ _ _ (c2 .within .ensures) (c1 .if3 .taken) (c .rad-ok .ensures)))
+    both _ _ _ _ (c6 .pos-ok .ensures) (c5 .if1 .taken) (both _ _ _ _ (c4 .vel-ok .ensures) (c3 .if2 .taken) (both _ _ _ _ (c2 .within .ensures) (c1 .if3 .taken) (c .within2 .ensures)))
 
 returns-2 : tie.Need-returns-2
 returns-2 c =
@@ -44,4 +44,4 @@ returns-4 c = neither _ _ _ (c .before .pos-ok .ensures) (c .if1 .left)
 pub grain-ok-spec : {M : Type 1} → statement M
 grain-ok-spec =
     tie.close
-    (tie.spec pos-ok-requires vel-ok-requires within-requires rad-ok-requires returns returns-2 returns-3 returns-4)
+    (tie.spec pos-ok-requires vel-ok-requires within-requires within-requires-2 returns returns-2 returns-3 returns-4)
