@@ -1,4 +1,6 @@
 // What a run tests before it does anything, over the lent tables: 2, the halt mark, 3, 10.
+#![tactic(auto)]
+
 ghost use Rattle.std.specs.Prelude.{◌≡◌, ◌≤◌, length, take, drop};
 ghost use Rattle.layout.specs.Widths.{lists_head_wide, members_wide, queue_wide, events_from, heap_wide, order_wide, member_room};
 ghost use Rattle.model.specs.Sizes.{rated};

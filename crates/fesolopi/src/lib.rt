@@ -1,4 +1,6 @@
 // The calls for programs in other languages: numbers, slices and references to numbers only. None asks anything of its caller but that slices are what they say.
+#![tactic(auto)]
+
 ghost use Rattle.std.specs.Prelude.{◌≡◌, true};
 ghost use Rattle.model.specs.Check.{Fits};
 ghost use Rattle.model.specs.Reports.{start_number, grain_named};

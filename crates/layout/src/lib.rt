@@ -1,4 +1,6 @@
 // How wide everything in the lent tables is, and where each part begins: no other crate has these numbers.
+#![tactic(auto)]
+
 ghost use Rattle.std.specs.Prelude.{◌≡◌, ◌≤◌};
 ghost use Rattle.layout.specs.Widths.{queue_wide, events_wide, queue_from, events_from, home_from, members_from};
 

@@ -10,6 +10,8 @@
 //   boxes                   l0 l1               1 where it refuses the box, otherwise 0
 //
 // PLAN is 0 for no event, 5 for a refusal or an event that may not be stored, or 1 and the fourteen words of the event's place.
+#![tactic(auto)]
+
 ghost use Rattle.std.specs.Prelude.{◌≡◌, true, ◌≤◌};
 ghost use Rattle.cell.specs.Cell.{IsCell};
 ghost use Rattle.leaves.specs.Tested.{OfBox, Small};

@@ -1,5 +1,7 @@
 // The listing program: reads a text from standard input and writes its answer to standard output. A read or a write that fails is said on
 // standard error; after a failed read there is no answer.
+#![tactic(auto)]
+
 ghost use Rattle.std.specs.Prelude.{[], ◌∷◌, ◌≡◌};
 ghost use Rattle.pipes.specs.Reads.{read_by};
 ghost use Rattle.listing_text.specs.Reading.{start_of};

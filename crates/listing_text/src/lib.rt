@@ -1,4 +1,6 @@
 // The text of the listing program: what it reads, byte by byte, and the lines that it writes.
+#![tactic(auto)]
+
 mod columns;
 mod reader;
 mod size;

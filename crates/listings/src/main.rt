@@ -1,5 +1,7 @@
 // Answers many texts, those that the oracle writes (tools/vectors). On standard input a byte 0 ends each text, a byte 1 stands for a thousand lines
 // of one grain, and any other byte for itself. The answers follow one another on standard output.
+#![tactic(auto)]
+
 use answers::write_answer;
 use libc::STDIN_FILENO;
 use listing_text::{Reader, feed_all, start};

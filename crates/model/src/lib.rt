@@ -1,4 +1,6 @@
 // The types of document 01 that code and definitions share: the box, a grain, a pending event, the place that holds one, and the answers.
+#![tactic(auto)]
+
 ghost use Rattle.std.specs.Prelude.{◌≡◌};
 ghost use Rattle.model.specs.Grid.{box_of};
 ghost use Rattle.model.specs.Stepping.{grain_of, landed};

@@ -1,4 +1,6 @@
 // Positions and velocities: values whose sum, difference, scaling and product hand back a new one.
+#![tactic(auto)]
+
 ghost use Rattle.std.specs.Prelude.{◌≡◌};
 ghost use Rattle.myvec.specs.Vec.{vec, vadd, vsub, vscale, vtimes, vover, vdot, along, bent};
 

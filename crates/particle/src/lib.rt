@@ -1,4 +1,6 @@
 // A grain: where it is after a time, whether its numbers may be stored or started, and the cells that it touches.
+#![tactic(auto)]
+
 ghost use Rattle.std.specs.Prelude.{◌≡◌, ◌&&◌, ◌≤◌};
 ghost use Rattle.std.specs.Float.Ieee.Scale.{finite};
 ghost use Rattle.order.specs.Numbers.{max_of, min_of};

@@ -1,4 +1,6 @@
 // Standard input and output for programs: what a read means, and bytes handed out by as many writes as it takes.
+#![tactic(auto)]
+
 mod reading;
 mod writing;
 

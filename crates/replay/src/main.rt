@@ -8,6 +8,8 @@
 //   0                        the end
 //
 // A start and each run write a line: the answer, and a checksum of every place of the tables lent. The tables are not cleared in between.
+#![tactic(auto)]
+
 ghost use Rattle.std.specs.Prelude.{◌<◌, ◌≤◌};
 
 use libc::STDOUT_FILENO;

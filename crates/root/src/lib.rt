@@ -1,4 +1,6 @@
 // The correctly rounded square root of an f64, found over whole numbers.
+#![tactic(auto)]
+
 ghost use Rattle.std.specs.Prelude.{◌≡◌, ◌+◌, ◌*◌, ◌/◌, ◌%◌, ◌^◌, ◌≤◌, ◌<◌};
 ghost use Rattle.root.specs.Isqrt.{near};
 ghost use Rattle.root.specs.Step.{taken, ReadyOne, ReadyMore, DigitsOf};

@@ -1,5 +1,7 @@
 // Compares the square root with a second program's answers (tools/roots): a line of standard input has a float's bits and its root's,
 // a NaN's for a root that is refused. Writes how many were compared, and how many differ.
+#![tactic(auto)]
+
 ghost use Rattle.std.specs.Prelude.{◌≤◌};
 
 use root::Root;

@@ -1,4 +1,6 @@
 // The steps of a run whose tables passed the checks: events until one is a synchronisation or the budget is spent, and then the clock and the halt mark.
+#![tactic(auto)]
+
 ghost use Rattle.std.specs.Prelude.{◌≡◌, true};
 ghost use Rattle.model.specs.Sizes.{rated};
 ghost use Rattle.model.specs.State.{State};

@@ -1,4 +1,6 @@
 // The scheduler: a minimum heap of cell numbers by head time, with its inverse.
+#![tactic(auto)]
+
 ghost use Rattle.std.specs.Prelude.{◌≡◌, ℕ, ◌≤◌, ◌<◌, length};
 ghost use Rattle.scheduler.specs.Heap.{time_in, swap_at, chosen, child_in, downshifted, downshift_swaps, parent_in, upshifted, upshift_swaps, updated, update_swaps, start_heap};
 ghost use Rattle.scheduler.specs.Inside.{head_in, made};

@@ -1,4 +1,6 @@
 // An accepted start over the five lent tables: every place cleared, the headers, the grains one after another, the first events.
+#![tactic(auto)]
+
 ghost use Rattle.std.specs.Prelude.{length};
 ghost use Rattle.model.specs.Start.{begin as beginIn};
 ghost use Rattle.step.specs.World.{Held, Says};

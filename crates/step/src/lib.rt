@@ -1,4 +1,6 @@
 // schedule_events, the five executions, one step, and init_events, over the lent tables behind their headers.
+#![tactic(auto)]
+
 ghost use Rattle.std.specs.Prelude.{◌≡◌};
 ghost use Rattle.model.specs.State.{State};
 ghost use Rattle.model.specs.Execute.{head_event, event as eventIn};

@@ -1,4 +1,6 @@
 // One update of the heap in tables that a caller lends, and its swaps: for the benchmark, which hands in each update that a run makes. Public to nobody.
+#![tactic(auto)]
+
 ghost use Rattle.std.specs.Prelude.{◌≡◌};
 ghost use Rattle.scheduler.specs.Inside.{head_in};
 ghost use Rattle.swaps.specs.Asked.{in_range, head_given, order_after, swaps_told};

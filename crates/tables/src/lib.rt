@@ -1,5 +1,7 @@
 // The lent tables: how many grains, cells and event places they hold, how long they must be (lengths), where each row stands (parts), and the leaves that read and write
 // them: headers, grains, rows of numbers, event places and rows of them (queues), the scheduler (heap).
+#![tactic(auto)]
+
 pub mod grains;
 pub mod headers;
 pub mod heap;

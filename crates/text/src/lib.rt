@@ -1,4 +1,6 @@
 // Texts of numbers: digits, fields and lines written into a buffer, and any text that a plan shows read byte by byte.
+#![tactic(auto)]
+
 mod hex;
 mod reader;
 mod writer;

@@ -1,4 +1,6 @@
 // Words of 64 bits on standard input, each 16 upper-case hexadecimal digits and one byte behind them; and the line that a comparison writes.
+#![tactic(auto)]
+
 ghost use Rattle.std.specs.Prelude.{◌≤◌};
 
 use libc::{STDIN_FILENO, STDOUT_FILENO};
