@@ -15,7 +15,7 @@ use tables::parts::Part;
 use tables::{Sizes, parts, places, queues, rows};
 
 // Where a cell's row stands: its numbers from `a` to before `b`, their floats from `p` to before `q`; and its head.
-#[derive(Drop)]
+#[derive(Clone, Copy)]
 pub struct CellRow {
     pub a: usize,
     pub b: usize,

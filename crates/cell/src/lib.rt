@@ -90,7 +90,7 @@ pub fn cells(length: f64) -> usize
 }
 
 // How many cells a box has in each direction.
-#[derive(Drop)]
+#[derive(Clone, Copy)]
 pub struct Grid {
     pub n0: usize,
     pub n1: usize,
@@ -220,7 +220,7 @@ pub fn index_above(n: usize, index: usize) -> usize
 }
 
 // What a cell is in one direction: its bounds, its position, and its neighbours.
-#[derive(Drop)]
+#[derive(Clone, Copy)]
 pub struct CellAlong {
     pub low: f64,
     pub high: f64,
@@ -248,7 +248,7 @@ impl CellAlong {
 }
 
 // A cell: its index, and what it is in each direction.
-#[derive(Drop)]
+#[derive(Clone, Copy)]
 pub struct Cell {
     pub index: usize,
     pub x: CellAlong,

@@ -8,7 +8,7 @@ ghost use Rattle.event.specs.Course.{course_of, edge_in, shut_in, gap_in, dt_in,
 use cell::{Cell, CellAlong};
 use model::{CellPosition, Domain, Event, Particle, Pending, Plan};
 
-#[derive(Drop)]
+#[derive(Clone, Copy)]
 pub struct Course {
     pub periodic: bool,
     pub length: f64,

@@ -57,7 +57,7 @@ fn flagged(w: &[u64; 22]) -> bool {
 }
 
 // The cell that a case names.
-#[derive(Drop)]
+#[derive(Clone, Copy)]
 enum Named {
     Cell(Cell),
     Nothing,
@@ -81,7 +81,7 @@ fn cell_of(domain: Domain, index: u64) -> Named
 // ---- what was planned
 
 // What a plan is to be: its answer, and the words of its place.
-#[derive(Drop)]
+#[derive(Clone, Copy)]
 struct Want {
     answer: u64,
     place: [u64; 14],

@@ -13,7 +13,7 @@ use crate::columns::{COLUMNS, KEPT, MOST};
 use text::{put_bytes, put_decimal, put_field};
 
 // An answer of one line.
-#[derive(Drop)]
+#[derive(Clone, Copy)]
 pub enum Answer {
     Malformed,
     TooLarge,

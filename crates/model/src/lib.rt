@@ -8,7 +8,7 @@ ghost use Rattle.model.specs.Stepping.{grain_of, landed};
 use myvec::MyVec;
 
 // The box: its lengths, and in which directions it is periodic.
-#[derive(Drop)]
+#[derive(Clone, Copy)]
 pub struct Domain {
     pub lengths: MyVec,
     pub periodic0: bool,
@@ -31,7 +31,7 @@ impl Domain {
 }
 
 // A grain: where it was, how fast, at what time, its value, and its radius, which it keeps for life.
-#[derive(Drop)]
+#[derive(Clone, Copy)]
 pub struct Particle {
     pub pos: MyVec,
     pub vel: MyVec,
@@ -74,7 +74,7 @@ impl Particle {
 }
 
 // Where a cell lies in a direction.
-#[derive(Drop)]
+#[derive(Clone, Copy)]
 pub enum CellPosition {
     NegativeEdge,
     Centre,
@@ -82,7 +82,7 @@ pub enum CellPosition {
 }
 
 // What is to happen, with the grains that it names and the floats that its kind needs.
-#[derive(Drop)]
+#[derive(Clone, Copy)]
 pub enum Event {
     InterParticleCollision {
         p: u64,
@@ -118,14 +118,14 @@ impl Event {
 }
 
 // An event and when it happens.
-#[derive(Drop)]
+#[derive(Clone, Copy)]
 pub struct Pending {
     pub time: f64,
     pub event: Event,
 }
 
 // What a place of the tables holds: four numbers and ten floats.
-#[derive(Drop)]
+#[derive(Clone, Copy)]
 pub struct Place {
     pub kind: u64,
     pub p: u64,
@@ -140,7 +140,7 @@ pub struct Place {
 }
 
 // What can happen to a grain at a cell's bounds.
-#[derive(Drop)]
+#[derive(Clone, Copy)]
 pub enum Bound {
     ToNeighbour,
     OutOfCell,
@@ -148,7 +148,7 @@ pub enum Bound {
 }
 
 // When two grains touch: never, after a time, or the root was refused.
-#[derive(Drop)]
+#[derive(Clone, Copy)]
 pub enum Contact {
     Never,
     After(f64),
@@ -156,7 +156,7 @@ pub enum Contact {
 }
 
 // What the scheduling of one kind finds: no event, one that is due, or refusal 5.
-#[derive(Drop)]
+#[derive(Clone, Copy)]
 pub enum Plan {
     Nothing,
     Due(Pending),
@@ -164,7 +164,7 @@ pub enum Plan {
 }
 
 // What a start answers: accepted; halted by 5 to 9; refused by 1 or 2; or refused by 4, with the lowest grain whose numbers are out of range.
-#[derive(Drop)]
+#[derive(Clone, Copy)]
 pub enum Started {
     Accepted,
     Halted { number: u64 },
@@ -173,7 +173,7 @@ pub enum Started {
 }
 
 // What a run answers: how it ended, the clock, and the events done.
-#[derive(Drop)]
+#[derive(Clone, Copy)]
 pub enum Report {
     Synchronised {
         clock: f64,

@@ -4,7 +4,7 @@
 ghost use Rattle.std.specs.Prelude.{◌≡◌};
 ghost use Rattle.myvec.specs.Vec.{vec, vadd, vsub, vscale, vtimes, vover, vdot, along, bent};
 
-#[derive(Drop)]
+#[derive(Clone, Copy)]
 pub struct MyVec {
     pub x: f64,
     pub y: f64,

@@ -131,7 +131,7 @@ fn smaller(a: f64, b: f64) -> f64
 }
 
 // Cells of one direction, from lo to below hi.
-#[derive(Drop)]
+#[derive(Clone, Copy)]
 pub struct Span {
     pub lo: usize,
     pub hi: usize,
@@ -151,7 +151,7 @@ fn kernel(length: f64, n: usize, min: f64, max: f64) -> Span
 }
 
 // Two spans of cells, one after the other.
-#[derive(Drop)]
+#[derive(Clone, Copy)]
 pub struct Spans {
     pub a0: usize,
     pub b0: usize,

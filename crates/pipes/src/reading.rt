@@ -4,7 +4,7 @@ ghost use Rattle.io.specs.Counts.{IsPrefixLen};
 ghost use Rattle.pipes.specs.Reads.{read_by, heard_of};
 
 // How many bytes a read gave; whether more may follow, and whether it failed.
-#[derive(Drop)]
+#[derive(Clone, Copy)]
 pub struct Heard {
     pub count: usize,
     pub more: bool,

@@ -41,7 +41,7 @@ fn next_domain() -> Domain {
 }
 
 // What a start is asked for, but for its inputs.
-#[derive(Drop)]
+#[derive(Clone, Copy)]
 struct Asked {
     domain: Domain,
     count: u64,

@@ -9,7 +9,7 @@ ghost use Rattle.root.specs.Root.{root_of};
 ghost use Rattle.root.specs.Rule.{RootRule};
 
 // The root so far, and what is left of the part of the argument that was taken.
-#[derive(Drop)]
+#[derive(Clone, Copy)]
 struct Digits {
     pub q: u64,
     pub rem: u64,
@@ -103,7 +103,7 @@ fn root_bits(bits: u64) -> u64
     }
 }
 
-#[derive(Drop)]
+#[derive(Clone, Copy)]
 pub enum Root {
     Value(f64),
     Refused,

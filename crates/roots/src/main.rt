@@ -17,7 +17,7 @@ fn agrees(x: u64, y: u64) -> bool {
     }
 }
 
-#[derive(Drop)]
+#[derive(Clone, Copy)]
 enum Answer {
     Same,
     Differs,

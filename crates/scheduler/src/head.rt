@@ -2,7 +2,7 @@
 ghost use Rattle.std.specs.Prelude.{◌≡◌};
 ghost use Rattle.scheduler.specs.Head.{earlier, no_later};
 
-#[derive(Drop)]
+#[derive(Clone, Copy)]
 pub enum Head {
     Empty,
     At(f64),

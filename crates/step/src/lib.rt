@@ -18,7 +18,7 @@ use model::{Domain, Event};
 use tables::Sizes;
 
 // The box, its grid, and the clock.
-#[derive(Drop)]
+#[derive(Clone, Copy)]
 pub struct World {
     pub domain: Domain,
     pub grid: Grid,
@@ -26,7 +26,7 @@ pub struct World {
 }
 
 // What a step answers: 0 or the number of a halt, the clock, and whether it was a synchronisation.
-#[derive(Drop)]
+#[derive(Clone, Copy)]
 pub struct Stepped {
     pub code: u64,
     pub clock: f64,

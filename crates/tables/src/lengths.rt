@@ -5,7 +5,7 @@ ghost use Rattle.tables.specs.Lengths.{lengths_for, long};
 use crate::Sizes;
 
 // For some counts; that of the heap is always the same.
-#[derive(Drop)]
+#[derive(Clone, Copy)]
 pub struct Lengths {
     pub lists: usize,
     pub grains: usize,

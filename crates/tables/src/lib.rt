@@ -11,7 +11,7 @@ pub mod places;
 pub mod queues;
 pub mod rows;
 
-#[derive(Drop)]
+#[derive(Clone, Copy)]
 pub struct Sizes {
     pub grains: usize,
     pub cells: usize,

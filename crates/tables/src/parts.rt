@@ -6,7 +6,7 @@ use crate::Sizes;
 use layout::{HOME, MEMBERS};
 
 // A part of a table: from a place to before a place.
-#[derive(Drop)]
+#[derive(Clone, Copy)]
 pub struct Part {
     pub from: usize,
     pub to: usize,
