@@ -2,7 +2,7 @@
 -- from 1/4 to 1/2, and one to four in both. Assumes nothing.
 use mathlib.Core.Path.{◌≡◌, refl, sym, ap, ◌∙◌, subst}
 use mathlib.Core.Logic.{inl, inr}
-use Prim.Native.Nat.{ℕ, suc, ◌+◌, ◌-◌, ◌*◌, ◌≤◌, ◌<◌, zero_le}
+use Prim.Native.Nat.{ℕ, suc, ◌+◌, ◌-◌, ◌*◌, ◌≤◌, ◌<◌, zero-le}
 use native.Mathlib.Nat.{le_of_eq, le_trans, mul-pos, zero-mul, lt_of_le_of_lt, mul-le-mul_right, mul_comm, sub-le}
 use native.Mathlib.Omega.{arith}
 use mathlib.Core.Bool.{Bool, true, false, not, ◌&&◌, cond}
@@ -281,7 +281,7 @@ minus_none m e h = none (m * up e) (down e) (O.le→leq false 0 (pos 0) true m e
     none a d k = omega arith
 
 zero_first : (m : ℕ) (e : ℤ) (l : Float) → m * up e ≡ 0 → T (plain l) → T (le (fin false m e) l)
-zero_first m e l h p = fr→le (fin false m e) l tt p (le_trans (le_of_eq (ap (λ (z : ℕ). z * den l) h ∙ zero-mul (den l))) zero_le)
+zero_first m e l h p = fr→le (fin false m e) l tt p (le_trans (le_of_eq (ap (λ (z : ℕ). z * den l) h ∙ zero-mul (den l))) zero-le)
 
 -- a radius in range is above zero
 radius_positive : (r : Float) → T (le least_radius r) → T (le r greatest_radius) → T (positive r)

@@ -1,6 +1,6 @@
 -- The ends of a kernel, the cells that reach from one position to another in a direction: bounds from either side. Assumes nothing.
 use mathlib.Core.Path.{◌≡◌, refl, sym, ap, ◌∙◌, subst}
-use Prim.Native.Nat.{ℕ, suc, ◌+◌, ◌-◌, ◌*◌, ◌/◌, ◌^◌, ◌≤◌, ◌<◌, zero_le}
+use Prim.Native.Nat.{ℕ, suc, ◌+◌, ◌-◌, ◌*◌, ◌/◌, ◌^◌, ◌≤◌, ◌<◌, zero-le}
 use native.Mathlib.Nat.{le_refl, le_of_eq, le_trans, mul-pos, mul-one, one-mul, zero-mul, suc-mul, le-div_iff_mul-le, lt_of_lt_of_le, lt_of_le_of_lt, min-le_left}
 use native.Mathlib.Omega.{arith}
 use mathlib.Core.Bool.{Bool, true, false, not, cond}
@@ -33,7 +33,7 @@ pub max_cut_le : (z : Float) → cut (max_of z fzero) ≤ cut z
 max_cut_le z = go (lt z fzero)
   where
     go : (b : Bool) → cut (cond b fzero z) ≤ cut z
-    go true = le_trans (le_of_eq cut_zero) zero_le
+    go true = le_trans (le_of_eq cut_zero) zero-le
     go false = le_refl (cut z)
 
 pub max_cut_ge : (z : Float) → cut z ≤ cut (max_of z fzero)
@@ -176,7 +176,7 @@ pub zero_le_plain : (z : Float) → T (plain z) → T (le fzero z)
 zero_le_plain nan p = absurd p
 zero_le_plain (inf s) p = absurd p
 zero_le_plain (fin true m e) p = absurd p
-zero_le_plain (fin false m e) p = unfold of_bits in O.leq→le false 0 (pos 0) false m e (le_trans (le_of_eq (zero-mul (down e))) zero_le)
+zero_le_plain (fin false m e) p = unfold of_bits in O.leq→le false 0 (pos 0) false m e (le_trans (le_of_eq (zero-mul (down e))) zero-le)
 
 pub plain_self : (z : Float) → T (plain z) → T (le z z)
 plain_self z p = fr→le z z p p (le_refl (num z * den z))

@@ -1,6 +1,6 @@
 -- A float cut to a whole number as Rust's `as usize` does (`to_unsigned 64`): it keeps the order (`cut_mono`), and it is at most n where the float was capped by n (`cut_capped`). Assumes nothing.
 use mathlib.Core.Path.{◌≡◌, refl, sym, ap, ◌∙◌, subst}
-use Prim.Native.Nat.{ℕ, zero, suc, ◌+◌, ◌-◌, ◌*◌, ◌/◌, ◌^◌, ◌≤◌, ◌<◌, min, zero_le}
+use Prim.Native.Nat.{ℕ, zero, suc, ◌+◌, ◌-◌, ◌*◌, ◌/◌, ◌^◌, ◌≤◌, ◌<◌, min, zero-le}
 use native.Mathlib.Nat.{le_refl, le_of_eq, le_trans, mul-pos, mul-one, zero-div, suc-mul, lt_irrefl, lt_of_lt_of_le, one-mul, le-add_right, le-div_iff_mul-le}
 use native.Mathlib.Omega.{arith}
 use mathlib.Core.Bool.{Bool, true, false, not, cond}
@@ -38,12 +38,12 @@ factor (suc a) d D h = absurd (none d (a * d) D (sym (suc-mul a d) ∙ h))
 pub cut_mono : (w : ℕ) (x y : Float) → T (le x y) → to_unsigned w x ≤ to_unsigned w y
 unfolding to_unsigned
 cut_mono w nan y h = absurd (unfold le in h)
-cut_mono w (inf true) y h = zero_le
+cut_mono w (inf true) y h = zero-le
 cut_mono w (inf false) nan h = absurd (unfold le in h)
 cut_mono w (inf false) (inf true) h = absurd (unfold le in h)
 cut_mono w (inf false) (inf false) h = le_refl (2 ^ w - 1)
 cut_mono w (inf false) (fin t n d) h = absurd (unfold le in h)
-cut_mono w (fin true m e) y h = zero_le
+cut_mono w (fin true m e) y h = zero-le
 cut_mono w (fin false m e) nan h = absurd (unfold le in h)
 cut_mono w (fin false m e) (inf true) h = absurd (unfold le in h)
 cut_mono w (fin false m e) (inf false) h = under (to_unsigned w (fin false m e)) (2 ^ w) (to_unsigned-lt w (fin false m e))
@@ -82,7 +82,7 @@ cut_capped f w a n t N = go (lt (of_int f (pos n)) a) refl
     go false h = nan? (is_nan a) refl
       where
         nan? : (c : Bool) → is_nan a ≡ c → to_unsigned w a ≤ n
-        nan? true k = subst (λ (q : ℕ). q ≤ n) (sym (cut_nan w a (subst T (sym k) tt))) zero_le
+        nan? true k = subst (λ (q : ℕ). q ≤ n) (sym (cut_nan w a (subst T (sym k) tt))) zero-le
         nan? false k = le_trans (cut_mono w a z (not_lt→le z a (of_int_no_nan f w n t N) (subst (λ (c : Bool). T (not c)) (sym k) tt) (subst (λ (c : Bool). T (not c)) (sym h) tt))) (le_of_eq is)
 
 -- ---- the two ends: `cut` above 2 ^ 64, and below 0

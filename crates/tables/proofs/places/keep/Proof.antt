@@ -3,7 +3,7 @@ use mathlib.Core.List.{List, ◌++◌}
 use Rattle.model.specs.declared.Place.{Place}
 use Rattle.tables.specs.Holds.{Run}
 use mathlib.Core.Path.{◌≡◌, refl, subst}
-use Prim.Native.Nat.{ℕ, zero_le, ◌≤◌, ◌-◌, ◌+◌}
+use Prim.Native.Nat.{ℕ, zero-le, ◌≤◌, ◌-◌, ◌+◌}
 use lib.ListN.{length}
 use Rattle.tables.specs.Places.{Keeping}
 use Rattle.tables.proofs.Runs.{keeping_none}
@@ -20,7 +20,7 @@ abbrev decreases-loop : tie.decreases-loop
 decreases-loop nums₀ reals₀ n g kept₀ i₀ nums reals kept i = n - i
 
 loop-holds : tie.Need-loop-init invariant-loop decreases-loop
-loop-holds c = (zero_le, zero_le, refl, refl, λ live rest e h. keeping_none c.before.before.args.g live rest h)
+loop-holds c = (zero-le, zero-le, refl, refl, λ live rest e h. keeping_none c.before.before.args.g live rest h)
 
 keep-one-requires : tie.Need-keep-one-requires invariant-loop decreases-loop
 keep-one-requires c κs = search rules

@@ -3,7 +3,7 @@ use mathlib.Core.List.{List, ◌++◌}
 use Rattle.model.specs.declared.Place.{Place}
 use Rattle.tables.specs.Holds.{Run}
 use mathlib.Core.Path.{◌≡◌}
-use Prim.Native.Nat.{zero_le, ◌≤◌, ◌-◌, ◌+◌}
+use Prim.Native.Nat.{zero-le, ◌≤◌, ◌-◌, ◌+◌}
 use lib.ListN.{length}
 use Rattle.tables.proofs.Runs.{Passing, passing_none, passing_more, passed_here, passed_all}
 use native.Mathlib.Omega.{arith}
@@ -18,7 +18,7 @@ abbrev decreases-loop : tie.decreases-loop
 decreases-loop nums reals n s i₀ i = n - i
 
 loop-holds : tie.Need-loop-init invariant-loop decreases-loop
-loop-holds c = (zero_le, λ live rest e h. passing_none c.before.before.args.s live)
+loop-holds c = (zero-le, λ live rest e h. passing_none c.before.before.args.s live)
 
 get-place-requires : tie.Need-get-place-requires invariant-loop decreases-loop
 get-place-requires c κs = search rules

@@ -3,7 +3,7 @@ use mathlib.Core.List.{List, ◌∷◌, ◌++◌}
 use Rattle.model.specs.declared.Place.{Place}
 use Rattle.tables.specs.Holds.{Run}
 use mathlib.Core.Path.{◌≡◌, refl, subst}
-use Prim.Native.Nat.{ℕ, zero_le, ◌≤◌, ◌-◌, ◌+◌}
+use Prim.Native.Nat.{ℕ, zero-le, ◌≤◌, ◌-◌, ◌+◌}
 use lib.ListN.{length}
 use Rattle.tables.proofs.Runs.{Moved, free_first, moved_down, pull_ends}
 use native.Mathlib.Omega.{arith}
@@ -19,7 +19,7 @@ abbrev decreases-loop : tie.decreases-loop
 decreases-loop nums₀ reals₀ n i₀ nums reals i = n - i
 
 loop-holds : tie.Need-loop-init invariant-loop decreases-loop
-loop-holds c = (zero_le, refl, refl, λ live rest x e h. free_first live rest x h)
+loop-holds c = (zero-le, refl, refl, λ live rest x e h. free_first live rest x h)
 
 add-get-place : tie.Need-overflow-add-get-place invariant-loop decreases-loop
 add-get-place c = search rules
