@@ -197,7 +197,7 @@ module _ (l x r : Float) (h9 : T (le shortest l)) (h48 : T (le l longest)) (lr :
     left-deep : T (le (sub binary64 (sub binary64 F.low greatest_radius) greatest_radius) (add binary64 l mn))
     left-deep = subst (λ (z : Float). T (le (sub binary64 (sub binary64 F.low greatest_radius) greatest_radius) z)) (sym left_is)
         (O.le_trans (sub binary64 (sub binary64 F.low greatest_radius) greatest_radius) (sub binary64 F.low greatest_radius) (sub binary64 l s) F.down
-        (sub_mono binary64 F.low l greatest_radius s F.low_plain pl half_plain s-plain F.low_half_lem s-l F.low_le s-half))
+        (sub_mono binary64 F.low l greatest_radius s F.low_plain pl half_plain s-plain F.low_half s-l F.low_le s-half))
 
     below-edge : Placed 2 (cells_of l) (kernel l (cells_of l) fzero mx ++ kernel l (cells_of l) (add binary64 l mn) l)
     below-edge = joined (cells_of l) (first_cell l (cells_of l) fzero) (end_cell l (cells_of l) mx) (first_cell l (cells_of l) (add binary64 l mn)) (end_cell l (cells_of l) l)
