@@ -9,7 +9,7 @@ use crate::columns::{BOX, COLUMNS, KEPT, MOST};
 const LINE: usize = 97;
 
 // What was read by the plan, and the numbers of the first grains.
-#[derive(Drop)]
+#[derive(Clone, Copy)]
 pub struct Reader {
     pub text: text::Reader,
     pub grains: [u64; KEPT],

@@ -21,7 +21,7 @@ const FLAG: u8 = HEX + NUMBERS as u8;
 const PAST: u8 = FLAG + NUMBERS as u8;
 
 // What was read: the place in the plan, n, the lines ended, and the numbers that the plan names.
-#[derive(Drop)]
+#[derive(Clone, Copy)]
 pub struct Reader {
     pub at: usize,
     pub n: u64,

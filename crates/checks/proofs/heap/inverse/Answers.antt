@@ -1,0 +1,33 @@
+use mathlib.Core.Path.{sym, ◌∙◌}
+use borrow.Author.Tests.{not-true, not-false}
+use Prim.Native.Nat.{◌-◌}
+use native.Mathlib.Nat.{sub-zero}
+use Rattle.halting.proofs.Tests.{passed, failed, ended}
+use Rattle.model.specs.Check.{leads_back}
+use native.Mathlib.Omega.{arith}
+use Rattle.checks.proofs.heap.inverse.Goals as goal
+
+pub loop-i-init : goal.loop-i-init
+loop-i-init c = (omega arith, rw sub-zero)
+
+pub returns-then-not-leads_back : goal.returns-then-not-leads_back
+returns-then-not-leads_back c =
+    let c2 = c in
+    let c3 = c2.before in
+    let c6 = c3.before.before.before in
+    let g = c6.args in
+    sym (failed (leads_back g.a.now g.b.now g.n) _ _ c2.loop-test.taken (sym c.leads_back.ensures ∙ not-true _ c.if-not-leads_back.true)) ∙ c3.loop.inv.1
+
+pub loop-i-preserved : goal.loop-i-preserved
+loop-i-preserved c =
+    let c2 = c in
+    let c3 = c2.before in
+    let c6 = c3.before.before.before in
+    let g = c6.args in
+    let h = c2.loop-test.taken in
+    (omega (arith, h), sym (passed (leads_back g.a.now g.b.now g.n) _ _ h (sym c.leads_back.ensures ∙ not-false _ c.if-not-leads_back.false)) ∙ c3.loop.inv.1)
+
+pub returns : goal.returns
+returns c =
+    let g = c.args in
+    sym (ended (leads_back g.a.now g.b.now g.n) _ _ c.loop-i-test.false) ∙ c.loop-i.invariant.1

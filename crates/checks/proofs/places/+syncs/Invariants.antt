@@ -1,0 +1,5 @@
+use Prim.Native.Nat.{◌-◌}
+use Rattle.checks.proofs.places.+syncs.Given as goal
+
+abbrev pub decreases-syncs : goal.decreases-syncs
+decreases-syncs l = l.k

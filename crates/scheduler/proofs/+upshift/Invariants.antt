@@ -1,0 +1,4 @@
+use Rattle.scheduler.proofs.+upshift.Given as goal
+
+abbrev pub decreases-upshift : goal.decreases-upshift
+decreases-upshift l = l.c

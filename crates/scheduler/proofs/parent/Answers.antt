@@ -1,0 +1,37 @@
+use Rattle.scheduler.proofs.Laws.{parent_out, parent_root, parent_early, parent_late}
+use Rattle.scheduler.specs.Heap.{time_in, parent}
+use Rattle.scheduler.specs.Inside.{head_in}
+use Rattle.scheduler.specs.Head.{earlier}
+use mathlib.Core.Bool.{true, false}
+use mathlib.Core.Path.{◌≡◌, sym}
+use native.Mathlib.Omega.{arith}
+use Rattle.scheduler.proofs.parent.Goals as goal
+
+pub returns-then-cells-c : goal.returns-then-cells-c
+returns-then-cells-c c =
+    let a = c.args in
+    let h = head_in a.times.now a.held.now a.room in
+    sym (parent_out h a.heap.now a.cells a.c c.if-cells-c.true)
+
+pub returns-then-c-eq0 : goal.returns-then-c-eq0
+returns-then-c-eq0 c =
+    let a = c.args in
+    let h = head_in a.times.now a.held.now a.room in
+    sym (parent_root h a.heap.now a.cells a.c c.if-c-eq0.true)
+
+pub overflow_sub-p : goal.overflow_sub-p
+overflow_sub-p c = omega (arith, c.if-c-eq0.false)
+
+pub returns-then-earlier : goal.returns-then-earlier
+returns-then-earlier c =
+    let a = c.args in
+    let h = head_in a.times.now a.held.now a.room in
+    let e : earlier (time_in h a.heap.now a.cells a.c) (time_in h a.heap.now a.cells (parent a.c)) ≡ true = rw (c.earlier.ensures, c.time_in-tc.ensures, c.time_in-tp.ensures) at c.if-earlier.true in
+    sym (parent_early h a.heap.now a.cells a.c c.if-cells-c.false e)
+
+pub returns-else-earlier : goal.returns-else-earlier
+returns-else-earlier c =
+    let a = c.args in
+    let h = head_in a.times.now a.held.now a.room in
+    let e : earlier (time_in h a.heap.now a.cells a.c) (time_in h a.heap.now a.cells (parent a.c)) ≡ false = rw (c.earlier.ensures, c.time_in-tc.ensures, c.time_in-tp.ensures) at c.if-earlier.false in
+    sym (parent_late h a.heap.now a.cells a.c c.if-cells-c.false e)

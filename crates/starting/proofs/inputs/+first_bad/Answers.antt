@@ -1,0 +1,65 @@
+use Prim.Native.Nat.{◌-◌}
+use mathlib.Core.Path.{sym, ap, ◌∙◌}
+use lib.ListN.{length}
+use borrow.Author.Tests.{not-true, not-false}
+use Rattle.layout.specs.Widths.{input_wide}
+use Rattle.starting.proofs.InputLaws.{bad-none, bad-first, bad-later, bad-most}
+use Rattle.checks.proofs.Cut.{less_rows, rest_long}
+use Rattle.model.specs.Sizes.{grain_ok}
+use native.Mathlib.Omega.{arith}
+use Rattle.starting.proofs.inputs.+first_bad.Goals as goal
+
+pub returns-then-n-eq0 : goal.returns-then-n-eq0
+returns-then-n-eq0 t c =
+    let a = c.args in
+    bad-none a.domain a.n a.inputs.now c.if-n-eq0.true
+
+pub read_input-requires : goal.read_input-requires
+read_input-requires t c =
+    let a = c.args in
+    (less_rows a.n input_wide (length a.inputs.now) c.if-n-eq0.false c.requires).0
+
+pub returns-then-not-grain_ok : goal.returns-then-not-grain_ok
+returns-then-not-grain_ok t c =
+    let a = c.args in
+    bad-first a.domain a.n a.inputs.now c.if-n-eq0.false (sym (c.grain_ok.ensures ∙ ap (grain_ok a.domain) c.read_input.ensures) ∙ not-true _ c.if-not-grain_ok.true)
+
+pub slice_bounds-first_bad-count : goal.slice_bounds-first_bad-count
+slice_bounds-first_bad-count t c =
+    let a = c.args in
+    let h = (less_rows a.n input_wide (length a.inputs.now) c.if-n-eq0.false c.requires).0 in
+    omega arith
+
+pub slice_bounds-first_bad-start : goal.slice_bounds-first_bad-start
+slice_bounds-first_bad-start t c =
+    let a = c.args in
+    let h = (less_rows a.n input_wide (length a.inputs.now) c.if-n-eq0.false c.requires).0 in
+    omega arith
+
+pub slice_bounds-first_bad-end : goal.slice_bounds-first_bad-end
+slice_bounds-first_bad-end t c =
+    let a = c.args in
+    let h = (less_rows a.n input_wide (length a.inputs.now) c.if-n-eq0.false c.requires).0 in
+    omega arith
+
+pub overflow_sub-n : goal.overflow_sub-n
+overflow_sub-n t c =
+    let a = c.args in
+    omega (arith, c.if-n-eq0.false)
+
+pub first_bad-requires : goal.first_bad-requires
+first_bad-requires t c =
+    let a = c.args in
+    (omega (arith, c.decreases, c.if-n-eq0.false), rest_long a.n input_wide a.inputs.now c.if-n-eq0.false c.requires)
+
+pub overflow_add-result : goal.overflow_add-result
+overflow_add-result t c =
+    let a = c.args in
+    let e = c.first_bad.ensures in
+    let m = bad-most a.domain (a.n - 1) (mid_of input_wide (length a.inputs.now - input_wide) a.inputs.now) in
+    omega (arith, e, m)
+
+pub returns : goal.returns
+returns t c =
+    let a = c.args in
+    bad-later a.domain a.n a.inputs.now c.first_bad.result c.if-n-eq0.false (sym (c.grain_ok.ensures ∙ ap (grain_ok a.domain) c.read_input.ensures) ∙ not-false _ c.if-not-grain_ok.false) c.first_bad.ensures

@@ -1,0 +1,5 @@
+use Prim.Native.Nat.{◌-◌}
+use Rattle.starting.proofs.inputs.+first_bad.Given as goal
+
+abbrev pub decreases-first_bad : goal.decreases-first_bad
+decreases-first_bad l = l.n

@@ -1,0 +1,33 @@
+use Rattle.step.proofs.Does.{after, does_stop, does_on}
+use Rattle.model.specs.Doing.{forget}
+use mathlib.Core.Path.{◌∙◌}
+use Rattle.step.proofs.execute.forget_both.Goals as goal
+
+pub forget-r-requires : goal.forget-r-requires
+forget-r-requires c =
+    (c.requires.0, c.requires.1)
+
+pub returns-then-r-ne0 : goal.returns-then-r-ne0
+returns-then-r-ne0 c =
+    let a = c.args in
+    does_stop (λ s. forget a.q) c.if-r-ne0.true c.forget-r.ensures
+
+pub forget-requires : goal.forget-requires
+forget-requires c =
+    (after c.forget-r.ensures c.requires.0, c.requires.2)
+
+pub shape_of-queue : goal.shape_of-queue
+shape_of-queue c =
+    c.forget.auto.queue ∙ c.forget-r.auto.queue
+
+pub shape_of-events : goal.shape_of-events
+shape_of-events c =
+    c.forget.auto.events ∙ c.forget-r.auto.events
+
+pub shape_of-order : goal.shape_of-order
+shape_of-order c =
+    c.forget.auto.order ∙ c.forget-r.auto.order
+
+pub returns : goal.returns
+returns c =
+    does_on c.if-r-ne0.false c.forget-r.ensures c.forget.ensures

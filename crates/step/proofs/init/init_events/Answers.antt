@@ -1,0 +1,13 @@
+use Rattle.step.proofs.Does.{range_all}
+use Rattle.model.specs.Doing.{init_cell}
+use native.Mathlib.Omega.{arith}
+use Rattle.step.proofs.init.init_events.Goals as goal
+
+pub init_from-requires : goal.init_from-requires
+init_from-requires c =
+    (c.requires.0, c.requires.1, omega arith)
+
+pub returns : goal.returns
+returns c =
+    let a = c.args in
+    range_all init_cell a.z.cells c.init_from.ensures

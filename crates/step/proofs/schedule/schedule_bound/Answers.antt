@@ -1,0 +1,57 @@
+use Rattle.step.proofs.Scheduling.{bound_does, both_stop, both_on}
+use Rattle.step.proofs.Does.{after}
+use Rattle.model.specs.Rows.{finder}
+use Rattle.tables.proofs.GrainLaws.{grain_fits}
+use Rattle.model.specs.Doing.{schedule_by}
+use mathlib.Core.Path.{◌∙◌}
+use Rattle.step.proofs.schedule.schedule_bound.Goals as goal
+
+pub get_grain-a-requires : goal.get_grain-a-requires
+get_grain-a-requires c =
+    let a = c.args in
+    let o = c.requires.0 in
+    grain_fits o.1.grained o.1.queued.ranged a.p c.requires.2
+
+pub plan_bound-requires : goal.plan_bound-requires
+plan_bound-requires c =
+    c.requires.1.is
+
+pub put-r-requires : goal.put-r-requires
+put-r-requires c =
+    let o = c.requires.0 in
+    ((o.0, o.1.queued), c.requires.1.inside)
+
+pub returns-then-r-ne0 : goal.returns-then-r-ne0
+returns-then-r-ne0 c =
+    let a = c.args in
+    both_stop (schedule_by (finder a.kind) a.cell.index a.p) c.if-r-ne0.true
+    (bound_does (finder a.kind) 0 a.cell.index a.p c.plan_bound.result c.plan_bound.ensures c.get_grain-a.ensures c.put-r.ensures)
+
+pub plan_bound-requires-2 : goal.plan_bound-requires-2
+plan_bound-requires-2 c =
+    c.requires.1.is
+
+pub put-requires : goal.put-requires
+put-requires c =
+    let a = c.args in
+    let o = after (bound_does (finder a.kind) 0 a.cell.index a.p c.plan_bound.result c.plan_bound.ensures c.get_grain-a.ensures c.put-r.ensures) c.requires.0 in
+    ((o.0, o.1.queued), c.requires.1.inside)
+
+pub shape_of-queue : goal.shape_of-queue
+shape_of-queue c =
+    c.put.auto.queue ∙ c.put-r.auto.queue
+
+pub shape_of-events : goal.shape_of-events
+shape_of-events c =
+    c.put.auto.events ∙ c.put-r.auto.events
+
+pub shape_of-order : goal.shape_of-order
+shape_of-order c =
+    c.put.auto.order ∙ c.put-r.auto.order
+
+pub returns : goal.returns
+returns c =
+    let a = c.args in
+    both_on (schedule_by (finder a.kind) a.cell.index a.p) c.if-r-ne0.false
+    (bound_does (finder a.kind) 0 a.cell.index a.p c.plan_bound.result c.plan_bound.ensures c.get_grain-a.ensures c.put-r.ensures)
+    (bound_does (finder a.kind) 1 a.cell.index a.p c.plan_bound-2.result c.plan_bound-2.ensures c.get_grain-a.ensures c.put.ensures)

@@ -1,0 +1,36 @@
+use Rattle.step.proofs.Scheduling.{unless_out, unless_in, collide_does}
+use Rattle.tables.proofs.GrainLaws.{grain_fits}
+use Rattle.model.specs.Doing.{schedule_collision}
+use Rattle.step.proofs.schedule.schedule_collision.Goals as goal
+
+pub returns-then-but-q : goal.returns-then-but-q
+returns-then-but-q c =
+    let a = c.args in
+    unless_out a.but (schedule_collision a.cell.index a.p) a.q c.if-but-q.true
+
+pub get_grain-a-requires : goal.get_grain-a-requires
+get_grain-a-requires c =
+    let a = c.args in
+    let o = c.requires.0 in
+    grain_fits o.1.grained o.1.queued.ranged a.p c.requires.2
+
+pub get_grain-b-requires : goal.get_grain-b-requires
+get_grain-b-requires c =
+    let a = c.args in
+    let o = c.requires.0 in
+    grain_fits o.1.grained o.1.queued.ranged a.q c.requires.3
+
+pub schedule-plan-requires : goal.schedule-plan-requires
+schedule-plan-requires c =
+    c.requires.1.is
+
+pub put-requires : goal.put-requires
+put-requires c =
+    let o = c.requires.0 in
+    ((o.0, o.1.queued), c.requires.1.inside)
+
+pub returns : goal.returns
+returns c =
+    let a = c.args in
+    unless_in a.but (schedule_collision a.cell.index a.p) a.q c.if-but-q.false
+    (collide_does a.cell.index a.p a.q c.schedule-plan.result c.schedule-plan.ensures c.get_grain-a.ensures c.get_grain-b.ensures c.put.ensures)

@@ -1,0 +1,33 @@
+use Rattle.step.proofs.Does.{after, does_stop, does_on}
+use Rattle.model.specs.Doing.{boundaries}
+use mathlib.Core.Path.{◌∙◌}
+use Rattle.step.proofs.schedule.schedule_stepped.Goals as goal
+
+pub schedule_collisions-r-requires : goal.schedule_collisions-r-requires
+schedule_collisions-r-requires c =
+    (c.requires.0, c.requires.1, c.requires.2, c.requires.3)
+
+pub returns-then-r-ne0 : goal.returns-then-r-ne0
+returns-then-r-ne0 c =
+    let a = c.args in
+    does_stop (λ s. boundaries a.cell.index a.p) c.if-r-ne0.true c.schedule_collisions-r.ensures
+
+pub schedule_bounds-requires : goal.schedule_bounds-requires
+schedule_bounds-requires c =
+    (after c.schedule_collisions-r.ensures c.requires.0, c.requires.1, c.requires.2)
+
+pub shape_of-queue : goal.shape_of-queue
+shape_of-queue c =
+    c.schedule_bounds.auto.queue ∙ c.schedule_collisions-r.auto.queue
+
+pub shape_of-events : goal.shape_of-events
+shape_of-events c =
+    c.schedule_bounds.auto.events ∙ c.schedule_collisions-r.auto.events
+
+pub shape_of-order : goal.shape_of-order
+shape_of-order c =
+    c.schedule_bounds.auto.order ∙ c.schedule_collisions-r.auto.order
+
+pub returns : goal.returns
+returns c =
+    does_on c.if-r-ne0.false c.schedule_collisions-r.ensures c.schedule_bounds.ensures

@@ -1,0 +1,7 @@
+use lib.ListN.{get_or}
+use Rattle.model.specs.Events.{zero_p}
+use Rattle.tables.proofs.Runs.{place_read}
+use Rattle.tables.proofs.places.get_place.Goals as goal
+
+pub returns : goal.returns
+returns c = let c = c.before.before.before.before.before in let i = c.args.i in λ ps h. c.get-head.ensures (get_or ps i zero_p) [] (place_read h i c.requires.1 c.requires.2)

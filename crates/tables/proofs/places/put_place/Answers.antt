@@ -1,0 +1,9 @@
+use lib.ListN.{get_or}
+use Rattle.model.specs.Events.{zero_p}
+use Rattle.tables.proofs.Runs.{place_read, place_written}
+use Rattle.tables.proofs.places.put_place.Goals as goal
+
+pub returns : goal.returns
+returns c =
+    let i = c.args.i in
+    λ ps h. place_written h i c.requires.1 c.requires.2 (c.put_head.ensures (get_or ps i zero_p) [] (place_read h i c.requires.1 c.requires.2))

@@ -1,0 +1,5 @@
+use Prim.Native.Nat.{◌-◌}
+use Rattle.tables.proofs.rows.+pull.Given as goal
+
+abbrev pub decreases-pull : goal.decreases-pull
+decreases-pull l = l.n

@@ -1,0 +1,17 @@
+use borrow.Author.Tests.{lt-ltb, le-ltb}
+use Rattle.text.proofs.hex.hex_value.Goals as goal
+
+pub returns-then-b-lt48 : goal.returns-then-b-lt48
+returns-then-b-lt48 c = simp (lt-ltb _ _ c.if-b-lt48.true)
+
+pub returns-then-b-lt58 : goal.returns-then-b-lt58
+returns-then-b-lt58 c = simp (le-ltb _ _ c.if-b-lt48.false, lt-ltb _ _ c.if-b-lt58.true)
+
+pub returns-then-b-lt65 : goal.returns-then-b-lt65
+returns-then-b-lt65 c = simp (le-ltb _ _ c.if-b-lt48.false, le-ltb _ _ c.if-b-lt58.false, lt-ltb _ _ c.if-b-lt65.true)
+
+pub returns-then-b-lt71 : goal.returns-then-b-lt71
+returns-then-b-lt71 c = simp (le-ltb _ _ c.if-b-lt48.false, le-ltb _ _ c.if-b-lt58.false, le-ltb _ _ c.if-b-lt65.false, lt-ltb _ _ c.if-b-lt71.true)
+
+pub returns : goal.returns
+returns c = simp (le-ltb _ _ c.if-b-lt48.false, le-ltb _ _ c.if-b-lt58.false, le-ltb _ _ c.if-b-lt65.false, le-ltb _ _ c.if-b-lt71.false)

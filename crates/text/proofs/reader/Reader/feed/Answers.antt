@@ -1,0 +1,23 @@
+use borrow.Author.Tests.{le-leb, lt-leb, eq-eqb, ne_eqb}
+use Rattle.text.specs.Reading.{feed_of}
+use Rattle.text.proofs.reader.Reader.feed.Goals as goal
+
+pub returns-then-plan-at : goal.returns-then-plan-at
+unfolding feed_of
+returns-then-plan-at c = simp (le-leb _ _ c.if-plan-at.true)
+
+pub returns-then-self : goal.returns-then-self
+unfolding feed_of
+returns-then-self c =
+    let c3 = c in
+    simp (lt-leb _ _ c3.before.before.if1.false, eq-eqb _ _ c3.if2.true, le-leb _ _ c.if-self.true) c.stuck.ensures
+
+pub returns-then-at-line : goal.returns-then-at-line
+unfolding feed_of
+returns-then-at-line c =
+    let c3 = c in
+    simp (lt-leb _ _ c3.before.before.if1.false, eq-eqb _ _ c3.if2.true, lt-leb _ _ c.if-self.false) c.wanted.ensures
+
+pub returns : goal.returns
+unfolding feed_of
+returns c = simp (lt-leb _ _ c.if-plan-at.false, ne_eqb _ _ c.if-at-line.false) c.wanted-2.ensures
