@@ -6,23 +6,13 @@ pub bounds-out-at : goal.bounds-out-at
 bounds-out-at t c = omega (arith, decimal_short c.args.v c.if-v-lt10.true)
 
 pub returns-then-v-lt10 : goal.returns-then-v-lt10
-returns-then-v-lt10 t c =
-    let c2 = c in
-    decimal_first c2.args.at c2.args.v c2.args.out.now c.if-v-lt10.true c2.requires.1
+returns-then-v-lt10 t c = decimal_first c.args.at c.args.v c.args.out.now c.if-v-lt10.true c.requires
 
 pub put_decimal-next-requires : goal.put_decimal-next-requires
 put_decimal-next-requires t c = (omega arith, omega (arith, decimal_longer c.args.v c.if-v-lt10.false))
 
 pub bounds-out-next : goal.bounds-out-next
-bounds-out-next t c =
-    let c2 = c in
-    let c4 = c2.before.before in
-    let c6 = c4.before.before in
-    decimal_room c6.args.at c2.put-decimal.result c6.args.v c6.args.out.now c2.put-decimal.new.0 c4.if1.false c6.requires.1 c2.put-decimal.ensures
+bounds-out-next t c = decimal_room c.args.at c.put_decimal-next.result c.args.v c.args.out.now c.put_decimal-next.new.out c.if-v-lt10.false c.requires c.put_decimal-next.ensures
 
 pub returns : goal.returns
-returns t c =
-    let c2 = c in
-    let c4 = c2.before.before in
-    let c6 = c4.before.before in
-    decimal_last c6.args.at c2.put-decimal.result c6.args.v c6.args.out.now c2.put-decimal.new.0 c4.if1.false c6.requires.1 c2.put-decimal.ensures
+returns t c = decimal_last c.args.at c.put_decimal-next.result c.args.v c.args.out.now c.put_decimal-next.new.out c.if-v-lt10.false c.requires c.put_decimal-next.ensures

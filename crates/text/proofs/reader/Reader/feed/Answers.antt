@@ -8,15 +8,11 @@ returns-then-plan-at c = simp (le-leb _ _ c.if-plan-at.true)
 
 pub returns-then-self : goal.returns-then-self
 unfolding feed_of
-returns-then-self c =
-    let c3 = c in
-    simp (lt-leb _ _ c3.before.before.if1.false, eq-eqb _ _ c3.if2.true, le-leb _ _ c.if-self.true) c.stuck.ensures
+returns-then-self c = simp (lt-leb _ _ c.if-plan-at.false, eq-eqb _ _ c.if-at-line.true, le-leb _ _ c.if-self.true) c.stuck.ensures
 
 pub returns-then-at-line : goal.returns-then-at-line
 unfolding feed_of
-returns-then-at-line c =
-    let c3 = c in
-    simp (lt-leb _ _ c3.before.before.if1.false, eq-eqb _ _ c3.if2.true, lt-leb _ _ c.if-self.false) c.wanted.ensures
+returns-then-at-line c = simp (lt-leb _ _ c.if-plan-at.false, eq-eqb _ _ c.if-at-line.true, lt-leb _ _ c.if-self.false) c.wanted.ensures
 
 pub returns : goal.returns
 unfolding feed_of

@@ -7,8 +7,4 @@ pub returns-then-d-ge16 : goal.returns-then-d-ge16
 returns-then-d-ge16 c = c.stuck.ensures ∙ hexed_bad _ _ _ _ _ _ c.hex_value-d.ensures c.if-d-ge16.true
 
 pub returns : goal.returns
-returns c =
-    let c1 = c in
-    let c3 = c1.before.before in
-    let c4 = c3.before in
-    c.step.ensures ∙ ap (stepped_of _ _) c1.numbered.ensures ∙ hexed_good _ _ _ _ _ _ c4.hex-value.ensures c3.if1.false
+returns c = c.step.ensures ∙ ap (stepped_of _ _) c.numbered-next.ensures ∙ hexed_good _ _ _ _ _ _ c.hex_value-d.ensures c.if-d-ge16.false

@@ -16,18 +16,8 @@ returns-then-b-gt57 c = simp (ne_eqb _ _ c.if-b-eq13.false, le-ltb _ _ c.if-b-lt
 
 pub returns-then-self-eq0 : goal.returns-then-self-eq0
 unfolding more_of
-returns-then-self-eq0 c =
-    let c1 = c in
-    let c3 = c1.before.before in
-    let c4 = c3.before in
-    let c5 = c4.before in
-    simp (ne_eqb _ _ c5.if1.false, le-ltb _ _ c4.if2.false, le-ltb _ _ c3.if3.false, eq-eqb _ _ c1.if4.true) c.stuck-then-self-eq0.ensures
+returns-then-self-eq0 c = simp (ne_eqb _ _ c.if-b-eq13.false, le-ltb _ _ c.if-b-lt48.false, le-ltb _ _ c.if-b-gt57.false, eq-eqb _ _ c.if-self-eq0.true) c.stuck-then-self-eq0.ensures
 
 pub returns : goal.returns
 unfolding more_of
-returns c =
-    let c1 = c in
-    let c3 = c1.before.before in
-    let c4 = c3.before in
-    let c5 = c4.before in
-    simp (ne_eqb _ _ c5.if1.false, le-ltb _ _ c4.if2.false, le-ltb _ _ c3.if3.false, ne_eqb _ _ c1.if4.false) c.counted.ensures
+returns c = simp (ne_eqb _ _ c.if-b-eq13.false, le-ltb _ _ c.if-b-lt48.false, le-ltb _ _ c.if-b-gt57.false, ne_eqb _ _ c.if-self-eq0.false) c.counted.ensures

@@ -16,29 +16,12 @@ returns-then-want-lt-HEX c = simp (ne_eqb _ _ c.if-want-eq35.false, ne_eqb _ _ c
 
 pub returns-then-want-lt-FLAG : goal.returns-then-want-lt-FLAG
 unfolding wanted_of
-returns-then-want-lt-FLAG c =
-    let c1 = c in
-    let c2 = c1.before in
-    let c3 = c2.before in
-    let c4 = c3.before in
-    simp (ne_eqb _ _ c4.if1.false, ne_eqb _ _ c3.if2.false, le-ltb _ _ c2.if3.false, lt-ltb _ _ c1.if4.true) c.hexed.ensures
+returns-then-want-lt-FLAG c = simp (ne_eqb _ _ c.if-want-eq35.false, ne_eqb _ _ c.if-want-eq43.false, le-ltb _ _ c.if-want-lt-HEX.false, lt-ltb _ _ c.if-want-lt-FLAG.true) c.hexed.ensures
 
 pub returns-then-want-lt-PAST : goal.returns-then-want-lt-PAST
 unfolding wanted_of
-returns-then-want-lt-PAST c =
-    let c1 = c in
-    let c2 = c1.before in
-    let c3 = c2.before in
-    let c4 = c3.before in
-    let c5 = c4.before in
-    simp (ne_eqb _ _ c5.if1.false, ne_eqb _ _ c4.if2.false, le-ltb _ _ c3.if3.false, le-ltb _ _ c2.if4.false, lt-ltb _ _ c1.if5.true) c.flagged.ensures
+returns-then-want-lt-PAST c = simp (ne_eqb _ _ c.if-want-eq35.false, ne_eqb _ _ c.if-want-eq43.false, le-ltb _ _ c.if-want-lt-HEX.false, le-ltb _ _ c.if-want-lt-FLAG.false, lt-ltb _ _ c.if-want-lt-PAST.true) c.flagged.ensures
 
 pub returns : goal.returns
 unfolding wanted_of
-returns c =
-    let c1 = c in
-    let c2 = c1.before in
-    let c3 = c2.before in
-    let c4 = c3.before in
-    let c5 = c4.before in
-    simp (ne_eqb _ _ c5.if1.false, ne_eqb _ _ c4.if2.false, le-ltb _ _ c3.if3.false, le-ltb _ _ c2.if4.false, le-ltb _ _ c1.if5.false) c.matched-2.ensures
+returns c = simp (ne_eqb _ _ c.if-want-eq35.false, ne_eqb _ _ c.if-want-eq43.false, le-ltb _ _ c.if-want-lt-HEX.false, le-ltb _ _ c.if-want-lt-FLAG.false, le-ltb _ _ c.if-want-lt-PAST.false) c.matched-2.ensures
