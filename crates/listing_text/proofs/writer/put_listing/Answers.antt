@@ -8,8 +8,4 @@ pub returns-then-n-gt-MOST : goal.returns-then-n-gt-MOST
 returns-then-n-gt-MOST c = put_as (simp (lt-ltb _ _ c.if-n-gt-MOST.true)) (put_none 0 c.args.out.now (search rules))
 
 pub returns : goal.returns
-returns c =
-    let c3 = c in
-    let c7 = c3.before.before.before.before in
-    let c8 = c7.before in
-    put_as (listed_is c8.args.time c8.args.n c8.args.numbers.now c7.if1.false) (put_then c3.put-bytes.ensures c.put_lines.ensures)
+returns c = put_as (listed_is c.args.time c.args.n c.args.numbers.now c.if-n-gt-MOST.false) (put_then c.put_bytes-next.ensures c.put_lines.ensures)

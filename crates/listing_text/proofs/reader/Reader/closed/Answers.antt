@@ -5,11 +5,7 @@ use Rattle.text.proofs.Turns.{closed_ended, closed_same}
 use Rattle.listing_text.proofs.reader.Reader.closed.Goals as goal
 
 pub returns-then-ended-eq-LINE : goal.returns-then-ended-eq-LINE
-returns-then-ended-eq-LINE c =
-    let c2 = c in
-    closed_ended feed_of plan_place _ c2.before.before.args.self _ (c2.feed2.ensures ∙ ap (λ (r : Reader). feed_of r 10) c2.before.feed.ensures) c.if-ended-eq-LINE.true
+returns-then-ended-eq-LINE c = closed_ended feed_of plan_place _ c.args.self _ (c.feed-ended.ensures ∙ ap (λ (r : Reader). feed_of r 10) c.feed-half.ensures) c.if-ended-eq-LINE.true
 
 pub returns : goal.returns
-returns c =
-    let c2 = c in
-    closed_same feed_of plan_place _ c2.before.before.args.self _ (c2.feed2.ensures ∙ ap (λ (r : Reader). feed_of r 10) c2.before.feed.ensures) c.if-ended-eq-LINE.false
+returns c = closed_same feed_of plan_place _ c.args.self _ (c.feed-ended.ensures ∙ ap (λ (r : Reader). feed_of r 10) c.feed-half.ensures) c.if-ended-eq-LINE.false

@@ -9,5 +9,3 @@ invariant-loop-k l = (l.k ≤ columns) × Put l.i (take l.k (drop box_numbers l.
 
 abbrev pub decreases-loop-k : goal.decreases-loop-k
 decreases-loop-k l = columns - l.k
-
--- how many l.numbers were read, and how many the rows hold
