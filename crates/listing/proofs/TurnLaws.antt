@@ -5,7 +5,7 @@ use mathlib.Core.Bool.{Bool, true, false, true≢false}
 use mathlib.Core.List.{List, [], ◌∷◌, ◌++◌}
 use lib.IntN.{ℤ}
 use lib.ListN.{length, take}
-use Rattle.libc.specs.Io.{Moved}
+use Rattle.pipes.specs.Counts.{Moved}
 use Rattle.pipes.specs.declared.reading.Heard.{Heard}
 use Rattle.pipes.specs.Reads.{Read, read_by, bytes_of, goes_on_of, failed_of, over_of, heard_of}
 use Rattle.pipes.proofs.ReadLaws.{heard_text, one_read, reads_then, reads_most, text_then, end_then, over_is}

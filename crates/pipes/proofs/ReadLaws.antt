@@ -10,7 +10,7 @@ use lib.ListN.{length, take, drop, length-take, take-append-drop}
 use lib.Seq.{take_at, length-take-le}
 use lib.Signed.{lt_z}
 use borrow.Author.Tests.{lt-ltb, le-ltb}
-use Rattle.libc.specs.Io.{Moved}
+use Rattle.pipes.specs.Counts.{Moved}
 use Rattle.io.specs.Counts.{clamp_len}
 use Rattle.pipes.specs.declared.reading.Heard.{Heard}
 use Rattle.pipes.specs.Reads.{Read, failed, over, gave, Reads, spent, ended, broken, more, read_by, bytes_of, by_end, goes_on_of, failed_of, over_of, heard_of}

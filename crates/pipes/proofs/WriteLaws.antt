@@ -4,18 +4,26 @@ use mathlib.Core.Path.{◌≡◌, refl, sym, ap, ◌∙◌, subst}
 use mathlib.Core.Bool.{Bool, true, false}
 use mathlib.Core.List.{List, [], ◌∷◌, ◌++◌, append_assoc}
 use native.Mathlib.Omega.{arith}
-use lib.IntN.{ℤ}
+use Rattle.std.proofs.Math.Nat.{min-eq_left}
+use lib.IntN.{ℤ, pos, negsuc}
 use lib.Dec.{eqb}
 use borrow.Author.Tests.{ne_eqb}
 use lib.ListN.{length, take, drop, length-append, length-drop, drop_of_length-le}
-use lib.Seq.{take-length, drop-drop}
-use Rattle.libc.specs.Io.{Moved}
+use lib.Seq.{take-length, length-take-le, drop-drop}
+use Rattle.pipes.specs.Counts.{Moved}
 use Rattle.io.specs.Counts.{clamp_len}
 use Rattle.pipes.specs.Writes.{Took, Handed, all, stopped, part, HandedOut}
 
 -- as many bytes as the number z says that a write gives back, read off a copy y
 pub took_some : {y z : ℤ} → y ≡ z → (n : ℕ) (s : List ℕ) → Moved (length s) z → n ≡ clamp_len y (length s) → n ≡ length (take n s) → (p : List ℕ) × Took s p × (n ≡ length p)
 took_some {y} {z} c n s m e l = (take n s, record { got = z; moved = m; first = ap (λ (k : ℕ). take k s) e ∙ ap (λ (w : ℤ). take (clamp_len w (length s)) s) c }, l)
+
+-- a write that says how many bytes it took, and one that fails
+pub took_count : (n : ℕ) (s : List ℕ) → n ≤ length s → (p : List ℕ) × Took s p × (n ≡ length p)
+took_count n s h = took_some {y = pos n} refl n s h (sym (min-eq_left h)) (sym (length-take-le n s h))
+
+pub took_none : (s : List ℕ) → (p : List ℕ) × Took s p × (0 ≡ length p)
+took_none s = took_some {y = negsuc 0} refl 0 s refl refl refl
 
 -- what a write takes is the front of what it is handed
 took_front : {s p : List ℕ} → Took s p → p ++ drop (length p) s ≡ s

@@ -1,6 +1,6 @@
 -- Bytes that are handed out by a row of writes. Assumes nothing: these are definitions.
 use Rattle.std.specs.Prelude.{ℕ, ◌<◌, ◌≡◌, Bool, true, false, List, [], ◌∷◌, ◌++◌, ℤ, length, take}
-use Rattle.libc.specs.Io.{Moved}
+use Rattle.pipes.specs.Counts.{Moved}
 use Rattle.io.specs.Counts.{clamp_len}
 
 -- a write of s takes p: its first bytes, as many as the call says, and none where it fails

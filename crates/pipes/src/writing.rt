@@ -2,23 +2,28 @@
 ghost use Rattle.std.specs.Prelude.{◌≡◌, List, ℕ, length};
 ghost use Rattle.pipes.specs.Writes.{Took, HandedOut};
 
-use libc::STDOUT_FILENO;
+use std::io::{Stderr, Stdout};
 
-// One write; how many of the first bytes it took, 0 where it failed.
-fn write_some(bytes: &[u8]) -> usize
+// One write; how many of the first bytes it took, 0 where it failed. A failure is said on standard error.
+fn write_some(out: Stdout, said: Stderr, bytes: &[u8]) -> usize
     ensures { (p : List ℕ) × Took bytes.now p × (result ≡ length p) }
 {
-    let got = libc::write(STDOUT_FILENO, bytes);
-    io::count(got, bytes)
+    match out.write_some(bytes) {
+        Ok(n) => n,
+        Err(e) => {
+            let _ = eprintln!(said; "standard output: {e}");
+            0
+        }
+    }
 }
 
 // All of the bytes, by as many writes as it takes: false at the first that takes nothing or fails.
-pub fn hand_out(bytes: &[u8]) -> bool
+pub fn hand_out(out: Stdout, said: Stderr, bytes: &[u8]) -> bool
     ensures { HandedOut bytes.now result }
 {
     let mut done: usize = 0;
     while done < bytes.len() {
-        let took = write_some(&bytes[done..]);
+        let took = write_some(out, said, &bytes[done..]);
         if took == 0 {
             return false;
         }

@@ -4,7 +4,7 @@ use mathlib.Core.Path.{sym, subst}
 use mir.Syntax.{w64}
 use mir.Val.{SFits}
 use mir.Facts.{to_z-of_z}
-use Rattle.libc.specs.Io.{Moved}
+use Rattle.pipes.specs.Counts.{Moved}
 use Rattle.listing.proofs.TurnLaws.{turned_once}
 use borrow.Author.Rules.{rules}
 use Rattle.listing.proofs.read_some.Statement.{statement}
