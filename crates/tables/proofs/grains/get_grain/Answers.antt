@@ -4,4 +4,4 @@ use lib.ListN.{get_or}
 use Rattle.tables.proofs.grains.get_grain.Goals as goal
 
 pub returns : goal.returns
-returns c = let c = c.before.before.before in λ z gs G. c.read-grain.ensures (get_or gs c.args.i zero_g) (grain_read G c.args.i c.requires.1)
+returns c = λ z gs G. c.read_grain.ensures (get_or gs c.args.i zero_g) (grain_read G c.args.i c.requires.1)

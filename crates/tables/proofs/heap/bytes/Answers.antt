@@ -6,7 +6,12 @@ use native.Mathlib.Omega.{arith}
 use Rattle.tables.proofs.heap.bytes.Goals as goal
 
 pub loop-i-preserved : goal.loop-i-preserved
-loop-i-preserved c = let c = c.before.before.loop in let a = c.before.before.before.args in (omega arith, simp length-set c.invariant.1, copied_more c.i c.a a.t.now (omega arith) (omega arith) c.invariant.2)
+loop-i-preserved c = 
+    let l = c.loop-i in
+    (omega arith, simp length-set l.invariant.1, copied_more l.i l.a c.args.t.now (omega arith) (omega arith) l.invariant.2)
 
 pub returns : goal.returns
-returns c = let c = c.before.loop in let b = c.before.before in let e : c.i ≡ 256 = omega arith in copied_all 256 c.a b.args.t.now c.invariant.1 b.requires (rw e at c.invariant.2)
+returns c = 
+    let l = c.loop-i in
+    let e : l.i ≡ 256 = omega arith in
+    copied_all 256 l.a c.args.t.now l.invariant.1 c.requires (rw e at l.invariant.2)

@@ -15,7 +15,7 @@ loop-i-preserved c =
       omega arith,
       search rules,
       search rules,
-      λ kept given rest e d h. clearing_more (l.inv.4 kept given rest e d h) e d l.inv.0 c.loop-i-test.true c.zero_place.ensures c.put_place.ensures,
+      λ kept given rest e d h. clearing_more (l.invariant.4 kept given rest e d h) e d l.invariant.0 c.loop-i-test.true c.zero_place.ensures c.put_place.ensures,
     )
 
 pub returns : goal.returns

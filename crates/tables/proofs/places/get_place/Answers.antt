@@ -1,7 +1,8 @@
 use lib.ListN.{get_or}
+use mathlib.Core.List.{[]}
 use Rattle.model.specs.Events.{zero_p}
 use Rattle.tables.proofs.Runs.{place_read}
 use Rattle.tables.proofs.places.get_place.Goals as goal
 
 pub returns : goal.returns
-returns c = let c = c.before.before.before.before.before in let i = c.args.i in λ ps h. c.get-head.ensures (get_or ps i zero_p) [] (place_read h i c.requires.1 c.requires.2)
+returns c = let i = c.args.i in λ ps h. c.get_head.ensures (get_or ps i zero_p) [] (place_read h i c.requires.1 c.requires.2)

@@ -17,11 +17,11 @@ loop-i-preserved c =
       omega arith,
       search rules,
       search rules,
-      λ live rest e h. c.keep_one-kept.ensures.1 live rest (let t = c.loop-i-test.true in omega arith) (l.inv.4 live rest e h),
+      λ live rest e h. c.keep_one-kept.ensures.1 live rest (let t = c.loop-i-test.true in omega arith) (l.invariant.4 live rest e h),
     )
 
 pub returns : goal.returns
 returns c =
     let l = c.loop-i in
     let p : l.i ≡ c.args.n = omega arith in
-    (omega arith, λ live rest e h. subst (λ (k : ℕ). Keeping c.args.g live rest k l.auto l.nums l.reals) p (l.invariant.4 live rest e h))
+    (omega arith, λ live rest e h. subst (λ (k : ℕ). Keeping c.args.g live rest k l.kept l.nums l.reals) p (l.invariant.4 live rest e h))

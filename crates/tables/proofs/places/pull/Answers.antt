@@ -14,11 +14,11 @@ loop-i-preserved c =
       omega arith,
       search rules,
       search rules,
-      λ live rest x e h. moved_down (l.inv.3 live rest x e h) (let t = c.loop-i-test.true in omega arith) c.get_place-next.ensures c.put_place.ensures,
+      λ live rest x e h. moved_down (l.invariant.3 live rest x e h) (let t = c.loop-i-test.true in omega arith) c.get_place-next.ensures c.put_place.ensures,
     )
 
 pub returns : goal.returns
 returns c =
     let l = c.loop-i in
     let p : l.i ≡ c.args.n = omega arith in
-    λ live rest x e h. pull_ends (subst (λ (k : ℕ). Moved live rest k l.nums l.reals) p (l.inv.3 live rest x e h)) e c.zero_place.ensures c.put_place-2.ensures
+    λ live rest x e h. pull_ends (subst (λ (k : ℕ). Moved live rest k l.nums l.reals) p (l.invariant.3 live rest x e h)) e c.zero_place.ensures c.put_place-2.ensures

@@ -14,11 +14,11 @@ loop-i-preserved c =
       omega arith,
       search rules,
       search rules,
-      λ live rest x e h. moved_up (l.inv.3 live rest x e h) c.loop-i-test.true
+      λ live rest x e h. moved_up (l.invariant.3 live rest x e h) c.loop-i-test.true
           c.get_place-last.ensures c.put_place.ensures,
     )
 
 pub returns : goal.returns
 returns c =
     let l = c.loop-i in
-    λ live rest x e h. push_ends (l.inv.3 live rest x e h) (omega arith) c.put_head.ensures
+    λ live rest x e h. push_ends (l.invariant.3 live rest x e h) (omega arith) c.put_head.ensures

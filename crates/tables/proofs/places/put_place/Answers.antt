@@ -1,4 +1,5 @@
 use lib.ListN.{get_or}
+use mathlib.Core.List.{[]}
 use Rattle.model.specs.Events.{zero_p}
 use Rattle.tables.proofs.Runs.{place_read, place_written}
 use Rattle.tables.proofs.places.put_place.Goals as goal

@@ -4,7 +4,7 @@ use native.Mathlib.Omega.{arith}
 use Rattle.tables.proofs.rows.+remove.Goals as goal
 
 pub bounds-nums-0 : goal.bounds-nums-0
-bounds-nums-0 t c = let c = c.before.before in let q = has_some c.args.x c.args.n c.args.nums.now c.requires.1.1 in omega (arith, q.0, q.1, c.requires.1.0)
+bounds-nums-0 t c = let q = has_some c.args.x c.args.n c.args.nums.now c.requires.1 in omega (arith, q.0, q.1, c.requires.0)
 
 pub overflow_sub-n : goal.overflow_sub-n
 overflow_sub-n t c =

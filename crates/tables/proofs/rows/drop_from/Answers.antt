@@ -6,13 +6,13 @@ use native.Mathlib.Omega.{arith}
 use Rattle.tables.proofs.rows.drop_from.Goals as goal
 
 pub bounds-row-0 : goal.bounds-row-0
-bounds-row-0 c = let c = c.before.before in omega (arith, row_fits c.requires.0 c.requires.1, row_some c.args.x c.requires.0 c.requires.1 c.requires.2)
+bounds-row-0 c = omega (arith, row_fits c.requires.0 c.requires.1, row_some c.args.x c.requires.0 c.requires.1 c.requires.2)
 
 pub slice_bounds-remove-count : goal.slice_bounds-remove-count
-slice_bounds-remove-count c = let c = c.before.before in omega (arith, row_fits c.requires.0 c.requires.1, row_some c.args.x c.requires.0 c.requires.1 c.requires.2)
+slice_bounds-remove-count c = omega (arith, row_fits c.requires.0 c.requires.1, row_some c.args.x c.requires.0 c.requires.1 c.requires.2)
 
 pub slice_bounds-remove-start : goal.slice_bounds-remove-start
-slice_bounds-remove-start c = let c = c.before.before in omega (arith, row_fits c.requires.0 c.requires.1, row_some c.args.x c.requires.0 c.requires.1 c.requires.2)
+slice_bounds-remove-start c = omega (arith, row_fits c.requires.0 c.requires.1, row_some c.args.x c.requires.0 c.requires.1 c.requires.2)
 
 pub remove-requires : goal.remove-requires
 remove-requires c =
@@ -21,11 +21,6 @@ remove-requires c =
 pub overflow_sub-row : goal.overflow_sub-row
 overflow_sub-row c =
     omega (arith, row_fits c.requires.0 c.requires.1, row_some c.args.x c.requires.0 c.requires.1 c.requires.2)
-
-pub bounds-row-0-2 : goal.bounds-row-0-2
-bounds-row-0-2 c =
-    let l = c.args.row.now in
-    omega (arith, same_len_mid 1 (length l - 1) l c.remove.new.nums c.remove.auto.nums, row_fits c.requires.0 c.requires.1)
 
 pub returns : goal.returns
 returns c =

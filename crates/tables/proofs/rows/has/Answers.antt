@@ -14,14 +14,14 @@ pub returns-then-rest-x : goal.returns-then-rest-x
 returns-then-rest-x c =
     let l = c.loop-left in
     let a = c.args in
-    l.inv.1 true (has_here a.x l.left l.rest.now (some c.loop-left-test.true) l.inv.0 c.if-rest-x.true)
+    l.invariant.1 true (has_here a.x l.left l.rest.now (some c.loop-left-test.true) l.invariant.0 c.if-rest-x.true)
 
 pub loop-left-preserved : goal.loop-left-preserved
 loop-left-preserved c =
     let l = c.loop-left in
     let a = c.args in
     let e = tail_long 1 l.rest.now in
-    (omega arith, λ r e. l.inv.1 r (e ∙ has_more a.x l.left l.rest.now (some c.loop-left-test.true) l.inv.0 c.if-rest-x.false))
+    (omega arith, λ r e. l.invariant.1 r (e ∙ has_more a.x l.left l.rest.now (some c.loop-left-test.true) l.invariant.0 c.if-rest-x.false))
 
 pub returns : goal.returns
-returns c = let c = c.before.loop in c.invariant.1 false (has_none _ c.left c.rest-1.now (omega arith))
+returns c = let l = c.loop-left in l.invariant.1 false (has_none _ l.left l.rest.now (omega arith))
