@@ -15,9 +15,6 @@ pull-requires t c = (omega arith, simp (length-set, length-take, length-drop) (o
 pub returns-then-n-eq0 : goal.returns-then-n-eq0
 returns-then-n-eq0 t c = pull_none c.if-n-eq0.true
 
-pub slice_bounds-pull-count : goal.slice_bounds-pull-count
-slice_bounds-pull-count t c = simp length-set (omega arith)
-
 pub returns : goal.returns
 returns t c =
     pull_more c.if-n-eq0.false c.pull.ensures
