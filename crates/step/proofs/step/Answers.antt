@@ -6,16 +6,10 @@ use Rattle.model.specs.Acts.{taken}
 use Rattle.model.specs.Grid.{cells}
 use Rattle.step.proofs.step.Goals as goal
 
-abbrev entry : tie.After-take → tie.Start
-entry c = search
-
 pub bounds-order-0 : goal.bounds-order-0
 bounds-order-0 c =
     let o = c.requires.0 in
     order_some o.0 o.1.0
-
-pub overflow_cast-cell : goal.overflow_cast-cell
-overflow_cast-cell c = omega (arith, c.slice_known-6-1.given 0)
 
 pub take-place-requires : goal.take-place-requires
 take-place-requires c =
@@ -33,23 +27,10 @@ execute-code-requires c =
       c.requires.1,
     )
 
-pub shape_of-queue : goal.shape_of-queue
-shape_of-queue c =
-    c.execute-code.auto.queue ∙ c.take-place.auto.queue
-
-pub shape_of-events : goal.shape_of-events
-shape_of-events c =
-    c.execute-code.auto.events ∙ c.take-place.auto.events
-
-pub shape_of-order : goal.shape_of-order
-shape_of-order c =
-    c.execute-code.auto.order ∙ c.take-place.auto.order
-
 pub returns : goal.returns
 returns c =
-    let b = entry c in
-    let a = b.args in
+    let a = c.args in
     λ s h k sg f. let st = stands s f sg in let t = c.take-place.ensures s h.queued (root_is s h) in (
-      step_says s h st a.domain a.grid k b.pre.1.cells_are c.take-place.result c.event_of-e.result t.0 c.event_of-e.ensures t.1 a.rate c.execute-code.ensures,
-      step_sync s h st a.domain a.grid k b.pre.1.cells_are c.take-place.result c.event_of-e.result t.0 c.event_of-e.ensures t.1 c.is_sync.ensures,
+      step_says s h st a.domain a.grid k c.requires.1.cells_are c.take-place.result c.event_of-e.result t.0 c.event_of-e.ensures t.1 a.rate c.execute-code.ensures,
+      step_sync s h st a.domain a.grid k c.requires.1.cells_are c.take-place.result c.event_of-e.result t.0 c.event_of-e.ensures t.1 c.is_sync.ensures,
     )

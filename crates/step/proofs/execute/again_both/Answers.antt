@@ -16,22 +16,6 @@ pub again-requires : goal.again-requires
 again-requires c =
     (after c.again-r.ensures c.requires.0, c.requires.1, c.requires.3)
 
-pub shape_of-grains : goal.shape_of-grains
-shape_of-grains c =
-    c.again.auto.grains ∙ c.again-r.auto.grains
-
-pub shape_of-queue : goal.shape_of-queue
-shape_of-queue c =
-    c.again.auto.queue ∙ c.again-r.auto.queue
-
-pub shape_of-events : goal.shape_of-events
-shape_of-events c =
-    c.again.auto.events ∙ c.again-r.auto.events
-
-pub shape_of-order : goal.shape_of-order
-shape_of-order c =
-    c.again.auto.order ∙ c.again-r.auto.order
-
 pub returns : goal.returns
 returns c =
     does_on c.if-r-ne0.false c.again-r.ensures c.again.ensures

@@ -11,43 +11,27 @@ store_both-r-requires c =
 pub returns-then-r-ne0 : goal.returns-then-r-ne0
 returns-then-r-ne0 c =
     let a = c.args in
-    collision-first a.p a.q a.x a.y c.if-r-ne0.true (stores_do a.p a.q a.x a.y c.IsStore-both.ensures)
+    collision-first a.p a.q a.x a.y c.if-r-ne0.true (stores_do a.p a.q a.x a.y c.store_both-r.ensures)
 
 pub forget_both-r-requires : goal.forget_both-r-requires
 forget_both-r-requires c =
     let a = c.args in
-    let o = after (stores_do a.p a.q a.x a.y c.IsStore-both.ensures) c.requires.0 in
+    let o = after (stores_do a.p a.q a.x a.y c.store_both-r.ensures) c.requires.0 in
     ((o.0, record { listed = o.1.listed; queued = o.1.seen.queued }), c.requires.2, c.requires.3)
 
 pub returns-then-r-ne0-2 : goal.returns-then-r-ne0-2
 returns-then-r-ne0-2 c =
     let a = c.args in
-    collision-second a.p a.q a.x a.y c.if-r-ne0.false c.if-r-ne0-2.true (stores_do a.p a.q a.x a.y c.IsStore-both.ensures)
+    collision-second a.p a.q a.x a.y c.if-r-ne0.false c.if-r-ne0-2.true (stores_do a.p a.q a.x a.y c.store_both-r.ensures)
     (forgets_held a.p a.q c.forget_both-r.ensures)
 
 pub again_both-requires : goal.again_both-requires
 again_both-requires c =
     let a = c.args in
-    (after (forgets_held a.p a.q c.forget_both-r.ensures) (after (stores_do a.p a.q a.x a.y c.IsStore-both.ensures) c.requires.0), c.requires.1, c.requires.2, c.requires.3)
-
-pub shape_of-grains : goal.shape_of-grains
-shape_of-grains c =
-    c.again_both.auto.grains ∙ c.IsStore-both.kept.0
-
-pub shape_of-queue : goal.shape_of-queue
-shape_of-queue c =
-    c.again_both.auto.queue ∙ c.forget_both-r.auto.queue
-
-pub shape_of-events : goal.shape_of-events
-shape_of-events c =
-    c.again_both.auto.events ∙ c.forget_both-r.auto.events
-
-pub shape_of-order : goal.shape_of-order
-shape_of-order c =
-    c.again_both.auto.order ∙ c.forget_both-r.auto.order
+    (after (forgets_held a.p a.q c.forget_both-r.ensures) (after (stores_do a.p a.q a.x a.y c.store_both-r.ensures) c.requires.0), c.requires.1, c.requires.2, c.requires.3)
 
 pub returns : goal.returns
 returns c =
     let a = c.args in
-    collision-third a.p a.q a.x a.y c.if-r-ne0.false c.if-r-ne0-2.false (stores_do a.p a.q a.x a.y c.IsStore-both.ensures)
+    collision-third a.p a.q a.x a.y c.if-r-ne0.false c.if-r-ne0-2.false (stores_do a.p a.q a.x a.y c.store_both-r.ensures)
     (forgets_held a.p a.q c.forget_both-r.ensures) c.again_both.ensures

@@ -28,10 +28,6 @@ schedule_events-requires c =
     let a = c.args in
     (after (enter_does a.p a.cell c.enter-r.ensures) (after (land_does a.p a.pos c.land-r.ensures) c.requires.0), c.requires.1, c.requires.2, c.requires.3)
 
-pub shape_of-grains : goal.shape_of-grains
-shape_of-grains c =
-    c.schedule_events.auto.grains ∙ c.land-r.auto.grains
-
 pub returns : goal.returns
 returns c =
     let a = c.args in

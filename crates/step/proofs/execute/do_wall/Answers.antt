@@ -29,22 +29,6 @@ again-requires c =
     let a = c.args in
     (after (forget_held a.p c.forget-r.ensures) (after (store_does a.p a.x c.store-r.ensures) c.requires.0), c.requires.1, c.requires.2)
 
-pub shape_of-grains : goal.shape_of-grains
-shape_of-grains c =
-    c.again.auto.grains ∙ c.store-r.auto.grains
-
-pub shape_of-queue : goal.shape_of-queue
-shape_of-queue c =
-    c.again.auto.queue ∙ c.forget-r.auto.queue
-
-pub shape_of-events : goal.shape_of-events
-shape_of-events c =
-    c.again.auto.events ∙ c.forget-r.auto.events
-
-pub shape_of-order : goal.shape_of-order
-shape_of-order c =
-    c.again.auto.order ∙ c.forget-r.auto.order
-
 pub returns : goal.returns
 returns c =
     let a = c.args in

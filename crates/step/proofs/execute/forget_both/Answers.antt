@@ -16,18 +16,6 @@ pub forget-requires : goal.forget-requires
 forget-requires c =
     (after c.forget-r.ensures c.requires.0, c.requires.2)
 
-pub shape_of-queue : goal.shape_of-queue
-shape_of-queue c =
-    c.forget.auto.queue ∙ c.forget-r.auto.queue
-
-pub shape_of-events : goal.shape_of-events
-shape_of-events c =
-    c.forget.auto.events ∙ c.forget-r.auto.events
-
-pub shape_of-order : goal.shape_of-order
-shape_of-order c =
-    c.forget.auto.order ∙ c.forget-r.auto.order
-
 pub returns : goal.returns
 returns c =
     does_on c.if-r-ne0.false c.forget-r.ensures c.forget.ensures

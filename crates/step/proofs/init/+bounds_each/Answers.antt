@@ -28,18 +28,6 @@ bounds_each-requires t c =
       (after c.schedule_bounds-r.ensures c.requires.0, c.requires.1, (all_tail (λ n. n < a.z.grains) a.list.now c.requires.2 c.if-list-eq0.false).1),
     )
 
-pub shape_of-queue : goal.shape_of-queue
-shape_of-queue t c =
-    c.bounds_each.auto.queue ∙ c.schedule_bounds-r.auto.queue
-
-pub shape_of-events : goal.shape_of-events
-shape_of-events t c =
-    c.bounds_each.auto.events ∙ c.schedule_bounds-r.auto.events
-
-pub shape_of-order : goal.shape_of-order
-shape_of-order t c =
-    c.bounds_each.auto.order ∙ c.schedule_bounds-r.auto.order
-
 pub returns : goal.returns
 returns t c =
     let a = c.args in

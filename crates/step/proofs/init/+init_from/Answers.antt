@@ -27,18 +27,6 @@ pub init_from-requires : goal.init_from-requires
 init_from-requires t c =
     (omega (arith, c.decreases), (after c.init_cell-r.ensures c.requires.0, c.requires.1, omega arith))
 
-pub shape_of-queue : goal.shape_of-queue
-shape_of-queue t c =
-    c.init_from.auto.queue ∙ c.init_cell-r.auto.queue
-
-pub shape_of-events : goal.shape_of-events
-shape_of-events t c =
-    c.init_from.auto.events ∙ c.init_cell-r.auto.events
-
-pub shape_of-order : goal.shape_of-order
-shape_of-order t c =
-    c.init_from.auto.order ∙ c.init_cell-r.auto.order
-
 pub returns : goal.returns
 returns t c =
     let a = c.args in

@@ -30,18 +30,6 @@ pairs-requires t c =
       (after c.schedule_collisions-r.ensures c.requires.0, c.requires.1, (all_tail (λ n. n < a.z.grains) a.list.now c.requires.2 c.if-list-eq0.false).1),
     )
 
-pub shape_of-queue : goal.shape_of-queue
-shape_of-queue t c =
-    c.pairs.auto.queue ∙ c.schedule_collisions-r.auto.queue
-
-pub shape_of-events : goal.shape_of-events
-shape_of-events t c =
-    c.pairs.auto.events ∙ c.schedule_collisions-r.auto.events
-
-pub shape_of-order : goal.shape_of-order
-shape_of-order t c =
-    c.pairs.auto.order ∙ c.schedule_collisions-r.auto.order
-
 pub returns : goal.returns
 returns t c =
     let a = c.args in

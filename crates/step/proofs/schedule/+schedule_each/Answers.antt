@@ -28,22 +28,6 @@ schedule_each-requires t c =
       (after c.schedule_events-r.ensures c.requires.0, c.requires.1, c.requires.2, (all_tail (λ n. n < a.z.cells) a.list.now c.requires.3 c.if-list-eq0.false).1),
     )
 
-pub shape_of-grains : goal.shape_of-grains
-shape_of-grains t c =
-    c.schedule_each.auto.grains ∙ c.schedule_events-r.auto.grains
-
-pub shape_of-queue : goal.shape_of-queue
-shape_of-queue t c =
-    c.schedule_each.auto.queue ∙ c.schedule_events-r.auto.queue
-
-pub shape_of-events : goal.shape_of-events
-shape_of-events t c =
-    c.schedule_each.auto.events ∙ c.schedule_events-r.auto.events
-
-pub shape_of-order : goal.shape_of-order
-shape_of-order t c =
-    c.schedule_each.auto.order ∙ c.schedule_events-r.auto.order
-
 pub returns : goal.returns
 returns t c =
     let a = c.args in

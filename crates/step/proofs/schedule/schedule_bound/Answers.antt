@@ -37,18 +37,6 @@ put-requires c =
     let o = after (bound_does (finder a.kind) 0 a.cell.index a.p c.plan_bound.result c.plan_bound.ensures c.get_grain-a.ensures c.put-r.ensures) c.requires.0 in
     ((o.0, o.1.queued), c.requires.1.inside)
 
-pub shape_of-queue : goal.shape_of-queue
-shape_of-queue c =
-    c.put.auto.queue ∙ c.put-r.auto.queue
-
-pub shape_of-events : goal.shape_of-events
-shape_of-events c =
-    c.put.auto.events ∙ c.put-r.auto.events
-
-pub shape_of-order : goal.shape_of-order
-shape_of-order c =
-    c.put.auto.order ∙ c.put-r.auto.order
-
 pub returns : goal.returns
 returns c =
     let a = c.args in

@@ -16,18 +16,6 @@ pub schedule_bound-r-requires-2 : goal.schedule_bound-r-requires-2
 schedule_bound-r-requires-2 c =
     (after c.schedule_bound-r.ensures c.requires.0, c.requires.1, c.requires.2)
 
-pub shape_of-queue-then-r-ne0-2 : goal.shape_of-queue-then-r-ne0-2
-shape_of-queue-then-r-ne0-2 c =
-    c.schedule_bound-r-2.auto.queue ∙ c.schedule_bound-r.auto.queue
-
-pub shape_of-events-then-r-ne0-2 : goal.shape_of-events-then-r-ne0-2
-shape_of-events-then-r-ne0-2 c =
-    c.schedule_bound-r-2.auto.events ∙ c.schedule_bound-r.auto.events
-
-pub shape_of-order-then-r-ne0-2 : goal.shape_of-order-then-r-ne0-2
-shape_of-order-then-r-ne0-2 c =
-    c.schedule_bound-r-2.auto.order ∙ c.schedule_bound-r.auto.order
-
 pub returns-then-r-ne0-2 : goal.returns-then-r-ne0-2
 returns-then-r-ne0-2 c =
     let a = c.args in
@@ -36,18 +24,6 @@ returns-then-r-ne0-2 c =
 pub schedule_bound-requires : goal.schedule_bound-requires
 schedule_bound-requires c =
     (after c.schedule_bound-r-2.ensures (after c.schedule_bound-r.ensures c.requires.0), c.requires.1, c.requires.2)
-
-pub shape_of-queue : goal.shape_of-queue
-shape_of-queue c =
-    c.schedule_bound.auto.queue ∙ c.schedule_bound-r-2.auto.queue ∙ c.schedule_bound-r.auto.queue
-
-pub shape_of-events : goal.shape_of-events
-shape_of-events c =
-    c.schedule_bound.auto.events ∙ c.schedule_bound-r-2.auto.events ∙ c.schedule_bound-r.auto.events
-
-pub shape_of-order : goal.shape_of-order
-shape_of-order c =
-    c.schedule_bound.auto.order ∙ c.schedule_bound-r-2.auto.order ∙ c.schedule_bound-r.auto.order
 
 pub returns : goal.returns
 returns c =

@@ -1,4 +1,3 @@
-use mathlib.Core.Path.{refl, ◌∙◌}
 use Prim.Native.Nat.{◌<◌}
 use Rattle.model.specs.Doing.{schedule_collision}
 use Rattle.acts.proofs.InTurn.{all_tail, tail_less}
@@ -10,36 +9,24 @@ use Rattle.step.proofs.schedule.schedule_collisions.Goals as goal
 pub loop-rest-init : goal.loop-rest-init
 loop-rest-init c =
     let p = c.requires in
-    (p.0, p.3, refl, refl, refl, λ q e o r d. d)
+    (p.0, p.3, λ q e o r d. d)
 
 pub schedule_collision-r-requires : goal.schedule_collision-r-requires
 schedule_collision-r-requires c =
     let l = c.loop-rest in
     let u = ne_of_gt c.loop-rest-test.true in (
-      l.inv.0,
+      l.invariant.0,
       c.requires.1,
       c.requires.2,
-      (all_tail (λ n. n < c.args.z.grains) l.rest.now l.inv.1 u).0,
+      (all_tail (λ n. n < c.args.z.grains) l.rest.now l.invariant.1 u).0,
     )
-
-pub shape_of-queue-then-r-ne0 : goal.shape_of-queue-then-r-ne0
-shape_of-queue-then-r-ne0 c =
-    c.schedule_collision-r.auto.queue ∙ c.loop-rest.invariant.2
-
-pub shape_of-events-then-r-ne0 : goal.shape_of-events-then-r-ne0
-shape_of-events-then-r-ne0 c =
-    c.schedule_collision-r.auto.events ∙ c.loop-rest.invariant.3
-
-pub shape_of-order-then-r-ne0 : goal.shape_of-order-then-r-ne0
-shape_of-order-then-r-ne0 c =
-    c.schedule_collision-r.auto.order ∙ c.loop-rest.invariant.4
 
 pub returns-then-r-ne0 : goal.returns-then-r-ne0
 returns-then-r-ne0 c =
     let l = c.loop-rest in
     let u = ne_of_gt c.loop-rest-test.true in
     let a = c.args in
-    l.inv.5 _ _ _ _
+    l.invariant.2 _ _ _ _
     (but_stop a.but (schedule_collision a.cell.index a.p) l.rest.now u c.if-r-ne0.true c.schedule_collision-r.ensures)
 
 pub loop-rest-smaller : goal.loop-rest-smaller
@@ -52,16 +39,13 @@ loop-rest-preserved c =
     let a = c.args in
     let u = ne_of_gt c.loop-rest-test.true in
     let d = c.schedule_collision-r in (
-      after d.ensures l.inv.0,
-      (all_tail (λ n. n < a.z.grains) l.rest.now l.inv.1 u).1,
-      d.kept.1.0 ∙ l.inv.2,
-      d.kept.1.1.0 ∙ l.inv.3,
-      d.kept.1.1.1.0 ∙ l.inv.4,
-      λ q e o r n. l.inv.5 q e o r (but_on a.but (schedule_collision a.cell.index a.p) l.rest.now u c.if-r-ne0.false d.ensures n),
+      after d.ensures l.invariant.0,
+      (all_tail (λ n. n < a.z.grains) l.rest.now l.invariant.1 u).1,
+      λ q e o r n. l.invariant.2 q e o r (but_on a.but (schedule_collision a.cell.index a.p) l.rest.now u c.if-r-ne0.false d.ensures n),
     )
 
 pub returns : goal.returns
 returns c =
     let l = c.loop-rest in
     let a = c.args in
-    l.inv.5 _ _ _ _ (but_none a.but (schedule_collision a.cell.index a.p) l.rest.now (omega arith))
+    l.invariant.2 _ _ _ _ (but_none a.but (schedule_collision a.cell.index a.p) l.rest.now (omega arith))

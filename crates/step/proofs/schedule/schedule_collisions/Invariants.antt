@@ -1,4 +1,3 @@
-use mathlib.Core.Path.{◌≡◌}
 use Prim.Native.Nat.{ℕ, ◌<◌}
 use mathlib.Core.List.{List}
 use lib.ListN.{length}
@@ -12,7 +11,6 @@ use Rattle.step.proofs.schedule.schedule_collisions.Given as goal
 
 abbrev pub invariant-loop-rest : goal.invariant-loop-rest
 invariant-loop-rest l = Some (Seen l.z l.w l.grains l.queue l.events l.order) × All (λ (q : ℕ). q < l.z.grains) l.rest
-    × (length l.queue ≡ length l.initial.queue) × (length l.events ≡ length l.initial.events) × (length l.order ≡ length l.initial.order)
     × ((q : List ℕ) (e : List Float) (o : List ℕ) (r : ℕ) → Does (Seen l.z l.w l.grains l.queue l.events l.order) (Seen l.z l.w l.grains q e o) r (each_of (schedule_collision l.cell.index l.p) (others l.but l.rest))
     → Does (Seen l.z l.w l.grains l.initial.queue l.initial.events l.initial.order) (Seen l.z l.w l.grains q e o) r (each_of (schedule_collision l.cell.index l.p) (others l.but l.list)))
 

@@ -16,18 +16,6 @@ pub schedule_bounds-requires : goal.schedule_bounds-requires
 schedule_bounds-requires c =
     (after c.schedule_collisions-r.ensures c.requires.0, c.requires.1, c.requires.2)
 
-pub shape_of-queue : goal.shape_of-queue
-shape_of-queue c =
-    c.schedule_bounds.auto.queue ∙ c.schedule_collisions-r.auto.queue
-
-pub shape_of-events : goal.shape_of-events
-shape_of-events c =
-    c.schedule_bounds.auto.events ∙ c.schedule_collisions-r.auto.events
-
-pub shape_of-order : goal.shape_of-order
-shape_of-order c =
-    c.schedule_bounds.auto.order ∙ c.schedule_collisions-r.auto.order
-
 pub returns : goal.returns
 returns c =
     does_on c.if-r-ne0.false c.schedule_collisions-r.ensures c.schedule_bounds.ensures
