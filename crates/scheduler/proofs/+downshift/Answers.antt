@@ -6,7 +6,7 @@ use Rattle.scheduler.specs.declared.Scheduler.{Scheduler}
 use mathlib.Core.Path.{◌≡◌, refl, sym, ap, ◌∙◌}
 use native.Mathlib.Omega.{arith}
 use native.Mathlib.Numerals.{one-add}
-use Prim.Native.Nat.{ℕ, suc, ◌-◌}
+use Prim.Native.Nat.{ℕ, suc}
 use Rattle.scheduler.proofs.+downshift.Goals as goal
 
 pub returns-then-n-p : goal.returns-then-n-p
