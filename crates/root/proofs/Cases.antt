@@ -5,7 +5,7 @@ use native.Mathlib.Nat.{zero-mul, zero-lt-suc, mul-pos, lt_irrefl, le-add_right,
 use native.Mathlib.Omega.{arith}
 use mathlib.Core.Bool.{Bool, true, false, not, ◌||◌, beq}
 use lib.IntN.{ℤ, pos}
-use lib.Dec.{T, eqb, ltb, ltb→lt, lt→ltb, eqb→eq}
+use lib.Dec.{T, eqb, ltb→lt, lt→ltb, eqb→eq}
 use lib.Ieee.{Float, nan, inf, fin, binary64, up, down, lt, eq, ne, is_nan, fits, of_bits, to_bits, nan_bits}
 use lib.Ieee.Fits.{up_pos, and_l, and_i, eq→eqb}
 use lib.Ieee.Bits.{nan_bits_is}

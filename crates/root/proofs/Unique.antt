@@ -1,6 +1,6 @@
 -- Only one value has the rule of the square root at a given value (`rooted_unique`). Assumes nothing.
 use mathlib.Core.Path.{◌≡◌, refl, sym, ap, ◌∙◌, subst}
-use Prim.Native.Nat.{ℕ, zero, suc, ◌+◌, ◌-◌, ◌*◌, ◌^◌, ◌≤◌, ◌<◌}
+use Prim.Native.Nat.{ℕ, zero, suc, ◌+◌, ◌*◌, ◌^◌, ◌≤◌, ◌<◌}
 use native.Mathlib.Nat.{zero-lt-suc, mul-pos, mul_comm, mul_assoc, mul_left_comm, mul_right_comm, mul-one, eq_of_mul-eq-mul_right, pow-succ', mul-le-mul_left, mul-mul-mul_comm, suc_inj}
 use native.Mathlib.Omega.{arith}
 use mathlib.Core.Bool.{Bool, false}
