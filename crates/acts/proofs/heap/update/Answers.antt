@@ -1,6 +1,7 @@
 use Rattle.acts.proofs.Updates.{update_same}
 use Rattle.acts.specs.Queues.{shifted_to}
 use lib.ListN.{get_or}
+use borrow.Rule.Slice.PartMut.{mid_of}
 use mathlib.Core.Bool.{Bool}
 use Rattle.layout.specs.Widths.{heap_wide}
 use Rattle.tables.proofs.HeapLaws.{front_long}
@@ -13,18 +14,14 @@ use Rattle.scheduler.specs.declared.head.Head.{Head}
 use Prim.Native.Nat.{ℕ, ◌+◌, ◌≤◌}
 use mathlib.Core.Path.{◌≡◌, refl, sym, ap, subst, ◌∙◌}
 use native.Mathlib.Omega.{arith}
+use borrow.Author.Rules.{rules}
 use Rattle.acts.proofs.heap.update.Goals as goal
-
-pub overflow_cast-at : goal.overflow_cast-at
-overflow_cast-at c =
-    let a = c.args in
-    omega (arith, c.slice_known-2-1.given (256 + a.cell))
 
 pub shifted_to-to-requires : goal.shifted_to-to-requires
 shifted_to-to-requires c =
     let a = c.args in
     let t = a.order.now in
-    (omega (arith, front_long t c.requires.0), omega (arith, c.slice_known-2-1.given (256 + a.cell)), c.requires.3)
+    (omega (arith, front_long t c.requires.0), search rules, c.requires.3)
 
 pub returns-then-to-at : goal.returns-then-to-at
 returns-then-to-at c =

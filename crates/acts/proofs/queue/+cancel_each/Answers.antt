@@ -2,7 +2,6 @@ use Rattle.tables.specs.Holds.{Queued}
 use Rattle.acts.proofs.InTurn.{of_none, of-stop, of-on, all_tail, tail_less}
 use Rattle.model.specs.Acts.{cancel, cancelled}
 use lib.ListN.{get_or}
-use mathlib.Core.Path.{◌∙◌}
 use native.Mathlib.Omega.{arith}
 use Prim.Native.Nat.{◌<◌}
 use Rattle.acts.proofs.queue.+cancel_each.Goals as goal
@@ -17,18 +16,6 @@ cancel-r-requires t c =
     let a = c.args in
     (c.requires.0, (all_tail (λ n. n < a.z.cells) a.list.now c.requires.1 c.if-list-eq0.false).0)
 
-pub shape_of-queue-then-r-ne0 : goal.shape_of-queue-then-r-ne0
-shape_of-queue-then-r-ne0 t c =
-    c.cancel-r.auto.queue
-
-pub shape_of-events-then-r-ne0 : goal.shape_of-events-then-r-ne0
-shape_of-events-then-r-ne0 t c =
-    c.cancel-r.auto.events
-
-pub shape_of-order-then-r-ne0 : goal.shape_of-order-then-r-ne0
-shape_of-order-then-r-ne0 t c =
-    c.cancel-r.auto.order
-
 pub returns-then-r-ne0 : goal.returns-then-r-ne0
 returns-then-r-ne0 t c =
     let a = c.args in
@@ -39,18 +26,6 @@ cancel_each-requires t c =
     let a = c.args in
     let o = c.requires.0 in
     (omega (arith, tail_less a.list.now c.if-list-eq0.false, c.decreases), ((cancelled a.g (get_or a.list.now 0 0) o.0, (c.cancel-r.ensures o.0 o.1).1), (all_tail (λ n. n < a.z.cells) a.list.now c.requires.1 c.if-list-eq0.false).1))
-
-pub shape_of-queue : goal.shape_of-queue
-shape_of-queue t c =
-    c.cancel_each.auto.queue ∙ c.cancel-r.auto.queue
-
-pub shape_of-events : goal.shape_of-events
-shape_of-events t c =
-    c.cancel_each.auto.events ∙ c.cancel-r.auto.events
-
-pub shape_of-order : goal.shape_of-order
-shape_of-order t c =
-    c.cancel_each.auto.order ∙ c.cancel-r.auto.order
 
 pub returns : goal.returns
 returns t c =

@@ -18,10 +18,6 @@ step_grain-one-requires t c =
     let a = c.args in
     (c.requires.0, c.requires.1, omega (arith, c.requires.2, c.if-g-z.false))
 
-pub shape_of-grains-then-one-ne0 : goal.shape_of-grains-then-one-ne0
-shape_of-grains-then-one-ne0 t c =
-    c.step_grain-one.auto.grains
-
 pub returns-then-one-ne0 : goal.returns-then-one-ne0
 returns-then-one-ne0 t c =
     let a = c.args in
@@ -37,10 +33,6 @@ step_from-requires t c =
     let a = c.args in
     let u = timed a.domain a.clock c.requires.0.0 in
     (omega (arith, c.decreases, c.requires.2, c.if-g-z.false), (((step_grain a.g u).st, (c.step_grain-one.ensures u c.requires.0.1 (refl, refl)).1), c.requires.1, omega (arith, c.requires.2, c.if-g-z.false)))
-
-pub shape_of-grains : goal.shape_of-grains
-shape_of-grains t c =
-    c.step_from.auto.grains ∙ c.step_grain-one.auto.grains
 
 pub returns : goal.returns
 returns t c =

@@ -3,7 +3,7 @@ use Rattle.tables.proofs.GrainLaws.{grain_fits}
 use Rattle.acts.proofs.store.step_grain.Goals as goal
 
 pub get_grain-p-requires : goal.get_grain-p-requires
-get_grain-p-requires c κs = let c = c.before.before in let a = c.args in grain_fits c.requires.0.1 c.requires.1 a.g c.requires.2
+get_grain-p-requires c = grain_fits c.requires.0.1 c.requires.1 c.args.g c.requires.2
 
 pub returns : goal.returns
 returns c =

@@ -10,7 +10,7 @@ use native.Mathlib.Omega.{arith}
 use Rattle.acts.proofs.store.step_others.Goals as goal
 
 pub loop-rest-init : goal.loop-rest-init
-loop-rest-init c = let c = c.before.before.requires in (c.0, c.2, refl, λ t r k. k)
+loop-rest-init c = (c.requires.0, c.requires.2, refl, λ t r k. k)
 
 pub loop-rest-smaller-then-g-p : goal.loop-rest-smaller-then-g-p
 loop-rest-smaller-then-g-p c =
@@ -21,28 +21,24 @@ loop-rest-preserved-then-g-p c =
     let l = c.loop-rest in
     let a = c.args in
     let z : length l.rest.now ≡ 0 → ⊥ = (let h = c.loop-rest-test.true in λ (e : length c.loop-rest.rest.now ≡ 0). absurd (omega (arith, e, h))) in (
-      l.inv.0,
-      (all_tail (λ g. g < a.z.grains) l.rest.now l.inv.1 z).1,
-      l.inv.2,
-      λ t r k. l.inv.3 t r (λ s S u. others-skip step_grain s (InGrains a.z t) a.p l.rest.now z c.if-g-p.true (k s S u)),
+      l.invariant.0,
+      (all_tail (λ g. g < a.z.grains) l.rest.now l.invariant.1 z).1,
+      l.invariant.2,
+      λ t r k. l.invariant.3 t r (λ s S u. others-skip step_grain s (InGrains a.z t) a.p l.rest.now z c.if-g-p.true (k s S u)),
     )
 
 pub step_grain-one-requires : goal.step_grain-one-requires
 step_grain-one-requires c =
     let l = c.loop-rest in
     let a = c in
-    (l.inv.0, a.pre.1, (all_tail (λ g. g < a.args.z.grains) l.rest.now l.inv.1 (let h = c.loop-rest-test.true in λ (e : length c.loop-rest.rest.now ≡ 0). absurd (omega (arith, e, h)))).0)
-
-pub shape_of-grains-then-one-ne0 : goal.shape_of-grains-then-one-ne0
-shape_of-grains-then-one-ne0 c =
-    c.step_grain-one.auto.grains ∙ c.loop-rest.invariant.2
+    (l.invariant.0, a.requires.1, (all_tail (λ g. g < a.args.z.grains) l.rest.now l.invariant.1 (let h = c.loop-rest-test.true in λ (e : length c.loop-rest.rest.now ≡ 0). absurd (omega (arith, e, h)))).0)
 
 pub returns-then-one-ne0 : goal.returns-then-one-ne0
 returns-then-one-ne0 c =
     let l = c.loop-rest in
     let a = c.args in
     let d = c.step_grain-one in
-    l.inv.3 d.last.0 d.result (λ s S u. others-stop step_grain s (InGrains a.z d.last.0) a.p l.rest.now (let h = c.loop-rest-test.true in λ (e : length c.loop-rest.rest.now ≡ 0). absurd (omega (arith, e, h))) c.if-g-p.false (d.ensures s S u) c.if-one-ne0.true)
+    l.invariant.3 d.new.grains d.result (λ s S u. others-stop step_grain s (InGrains a.z d.new.grains) a.p l.rest.now (let h = c.loop-rest-test.true in λ (e : length c.loop-rest.rest.now ≡ 0). absurd (omega (arith, e, h))) c.if-g-p.false (d.ensures s S u) c.if-one-ne0.true)
 
 pub loop-rest-smaller : goal.loop-rest-smaller
 loop-rest-smaller c =
@@ -55,16 +51,13 @@ loop-rest-preserved c =
     let d = c.step_grain-one in
     let z : length l.rest.now ≡ 0 → ⊥ = (let h = c.loop-rest-test.true in λ (e : length c.loop-rest.rest.now ≡ 0). absurd (omega (arith, e, h))) in
     let g = get_or l.rest.now 0 0 in
-    let v = timed a.domain a.clock l.inv.0.0 in (
-      ((step_grain g v).st, (d.ensures v l.inv.0.1 (refl, refl)).1),
-      (all_tail (λ g. g < a.z.grains) l.rest.now l.inv.1 z).1,
-      d.kept.0 ∙ l.inv.2,
-      λ t r k. l.inv.3 t r (λ s S u. others-on step_grain s (InGrains a.z d.last.0) (InGrains a.z t) a.p l.rest.now z c.if-g-p.false (d.ensures s S u) c.if-one-ne0.false
+    let v = timed a.domain a.clock l.invariant.0.0 in (
+      ((step_grain g v).st, (d.ensures v l.invariant.0.1 (refl, refl)).1),
+      (all_tail (λ g. g < a.z.grains) l.rest.now l.invariant.1 z).1,
+      d.auto.grains ∙ l.invariant.2,
+      λ t r k. l.invariant.3 t r (λ s S u. others-on step_grain s (InGrains a.z d.new.grains) (InGrains a.z t) a.p l.rest.now z c.if-g-p.false (d.ensures s S u) c.if-one-ne0.false
           (k (step_grain g s).st (d.ensures s S u).1 (at_on a.domain a.clock s (step_grain g s).st (step_only g s) u))),
     )
-
-pub shape_of-grains : goal.shape_of-grains
-shape_of-grains c = c.loop-rest.invariant.2
 
 pub returns : goal.returns
 returns c =

@@ -1,13 +1,12 @@
 use Rattle.acts.proofs.StoreLaws.{store_refused, store_done}
 use Rattle.tables.proofs.GrainLaws.{grain_fits}
-use borrow.Author.Tests.{not-true, not-false}
 use mathlib.Core.Path.{sym, ◌∙◌}
 use Rattle.acts.proofs.store.store.Goals as goal
 
 pub returns-then-not-fine_grain : goal.returns-then-not-fine_grain
 returns-then-not-fine_grain c =
     let a = c.args in
-    store_refused a.g a.p (sym c.fine_grain.ensures ∙ not-true _ c.if-not-fine_grain.true)
+    store_refused a.g a.p (sym c.fine_grain.ensures ∙ c.if-not-fine_grain.true)
 
 pub put_grain-requires : goal.put_grain-requires
 put_grain-requires c =
@@ -17,4 +16,4 @@ put_grain-requires c =
 pub returns : goal.returns
 returns c =
     let a = c.args in
-    store_done a.g a.p (sym c.fine_grain.ensures ∙ not-false _ c.if-not-fine_grain.false) c.put_grain.ensures
+    store_done a.g a.p (sym c.fine_grain.ensures ∙ c.if-not-fine_grain.false) c.put_grain.ensures
