@@ -18,10 +18,10 @@ ghost use Rattle.leaves.specs.Tested.{OfBox, Small};
 
 use cell::{Cell, Grid};
 use event::{inter_particle_collision, move_out_of_cell, move_to_neighbour, wall_reflection};
-use libc::STDOUT_FILENO;
 use model::{Domain, Particle, Place, Plan};
 use myvec::MyVec;
 use particle::Spans;
+use std::io::{Stdin, Stdout};
 use tables::places;
 use text::{bits_of_float, float_of_bits};
 use words::{NONE, Word, next};
@@ -87,11 +87,11 @@ struct Want {
     place: [u64; 14],
 }
 
-fn wanted() -> Want {
-    let mut answer = next();
+fn wanted(input: Stdin) -> Want {
+    let mut answer = next(input);
     let mut place = [0u64; 14];
     if answer == 1 {
-        if !words::fill(&mut place) {
+        if !words::fill(input, &mut place) {
             answer = NONE;
         }
     }
@@ -177,14 +177,14 @@ fn plan_holds(kind: u64, domain: Domain, named: Named, w: &[u64; 22], want: Want
 }
 
 // A scheduling: a collision's case has 22 words before what is wanted, any other's 13.
-fn schedule_holds(kind: u64) -> bool {
+fn schedule_holds(input: Stdin, kind: u64) -> bool {
     let mut w = [0u64; 22];
     let full = if kind == 1 {
-        words::fill(&mut w)
+        words::fill(input, &mut w)
     } else {
-        words::fill(&mut w[..13])
+        words::fill(input, &mut w[..13])
     };
-    let want = wanted();
+    let want = wanted(input);
     if !full || !flagged(&w) {
         return false;
     }
@@ -192,9 +192,9 @@ fn schedule_holds(kind: u64) -> bool {
     plan_holds(kind, domain, cell_of(domain, w[5]), &w, want)
 }
 
-fn stepping_holds() -> bool {
+fn stepping_holds(input: Stdin) -> bool {
     let mut w = [0u64; 9];
-    if !words::fill(&mut w) {
+    if !words::fill(input, &mut w) {
         return false;
     }
     let domain = Domain::new(vec(w[0], w[1]), true, true);
@@ -259,9 +259,9 @@ fn same_cells(n0: usize, x: Spans, y: Spans, n: usize, wanted: &[u64; 4]) -> boo
     true
 }
 
-fn cells_hold() -> bool {
+fn cells_hold(input: Stdin) -> bool {
     let mut w = [0u64; 6];
-    if !words::fill(&mut w) {
+    if !words::fill(input, &mut w) {
         return false;
     }
     let n = w[5] as usize;
@@ -269,7 +269,7 @@ fn cells_hold() -> bool {
         return false;
     }
     let mut wanted = [0u64; 4];
-    if !words::fill(&mut wanted[..n]) {
+    if !words::fill(input, &mut wanted[..n]) {
         return false;
     }
     let domain = Domain::new(vec(w[0], w[1]), true, true);
@@ -289,9 +289,9 @@ fn cells_hold() -> bool {
     same_cells(grid.n0, x, y, n, &wanted)
 }
 
-fn box_holds() -> bool {
+fn box_holds(input: Stdin) -> bool {
     let mut w = [0u64; 3];
-    if !words::fill(&mut w) {
+    if !words::fill(input, &mut w) {
         return false;
     }
     let refused = !cell::box_ok(Domain::new(vec(w[0], w[1]), true, true));
@@ -300,41 +300,43 @@ fn box_holds() -> bool {
 
 // ---- the sections
 
-fn holds(kind: u64) -> bool {
+fn holds(input: Stdin, kind: u64) -> bool {
     match kind {
-        1 | 2 | 3 | 4 => schedule_holds(kind),
-        5 => stepping_holds(),
-        6 => cells_hold(),
-        _ => box_holds(),
+        1 | 2 | 3 | 4 => schedule_holds(input, kind),
+        5 => stepping_holds(input),
+        6 => cells_hold(input),
+        _ => box_holds(input),
     }
 }
 
-fn section(kind: u64, what: &[u8]) {
-    let cases = next();
+fn section(input: Stdin, out: Stdout, kind: u64, what: &[u8]) {
+    let cases = next(input);
     if cases > 1000000 {
-        words::report(0, what, 1);
+        words::report(out, 0, what, 1);
         return;
     }
     let mut differ = 0u64;
     for i in 0..cases {
-        differ += words::miss(holds(kind));
+        differ += words::miss(holds(input, kind));
     }
-    words::report(cases, what, differ);
+    words::report(out, cases, what, differ);
 }
 
-fn main() {
-    section(1, b"collisions");
-    section(2, b"neighbours");
-    section(3, b"outs");
-    section(4, b"walls");
-    section(5, b"steppings");
-    section(6, b"cells");
-    section(7, b"boxes");
-    let rest = words::read();
+fn main(rt: HostRuntime) {
+    let input = rt.stdin();
+    let out = rt.stdout();
+    section(input, out, 1, b"collisions");
+    section(input, out, 2, b"neighbours");
+    section(input, out, 3, b"outs");
+    section(input, out, 4, b"walls");
+    section(input, out, 5, b"steppings");
+    section(input, out, 6, b"cells");
+    section(input, out, 7, b"boxes");
+    let rest = words::read(input);
     match rest {
         Word::End => {}
         _ => {
-            io::write_all(STDOUT_FILENO, b"more words follow\n");
+            let _ = println!(out; "more words follow");
         }
     }
 }

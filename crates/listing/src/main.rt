@@ -8,12 +8,12 @@ ghost use Rattle.listing_text.specs.Reading.{start_of};
 ghost use Rattle.listing.specs.Turns.{turn_of, Turned, most_reads, ended_of, Responded};
 
 use answers::write_answer;
-use libc::STDIN_FILENO;
 use listing_text::{Reader, feed_all, start};
 use pipes::hear;
+use std::io::{Stderr, Stdin, Stdout};
 
 // What has been read so far; whether more may follow, and whether a read failed.
-#[derive(Drop)]
+#[derive(Clone, Copy)]
 struct Turn {
     reader: Reader,
     more: bool,
@@ -45,23 +45,23 @@ fn took(reader: Reader, got: isize, buf: &[u8]) -> Turn
 }
 
 // Reads once.
-fn read_some(reader: Reader) -> Turn
+fn read_some(input: Stdin, said: Stderr, reader: Reader) -> Turn
     ensures { Turned 1 reader result }
 {
     let mut buf = io::buffer();
-    let got = libc::read(STDIN_FILENO, &mut buf);
+    let got = pipes::read_some(input, said, &mut buf);
     took(reader, got, &buf)
 }
 
 // Reads to the end. (Nothing says that an input ends, and a proved loop does: it counts its turns down, from a number that no run uses up.)
-fn read_all() -> Turn
+fn read_all(input: Stdin, said: Stderr) -> Turn
     ensures { Turned most_reads start_of result }
 {
     let mut turn = opened();
     let mut turns = u64::MAX;
     while turns > 0 && turn.more {
         let reader = turn.reader;
-        turn = read_some(reader);
+        turn = read_some(input, said, reader);
         turns -= 1;
     }
     turn
@@ -78,17 +78,16 @@ fn ended(turn: Turn) -> bool
 }
 
 // Reads to the end and hands out the answer; whether all of it was taken.
-fn respond() -> bool
+fn respond(input: Stdin, out: Stdout, said: Stderr) -> bool
     ensures { Responded result }
 {
-    let turn = read_all();
+    let turn = read_all(input, said);
     if ended(turn) {
-        return write_answer(turn.reader);
+        return write_answer(out, said, turn.reader);
     }
-    os::fail(b"standard input");
     false
 }
 
-fn main() {
-    respond();
+fn main(rt: HostRuntime) {
+    respond(rt.stdin(), rt.stdout(), rt.stderr());
 }

@@ -3,9 +3,9 @@
 #![tactic(auto)]
 
 use answers::write_answer;
-use libc::STDIN_FILENO;
 use listing_text::{Reader, feed_all, start};
-use pipes::hear;
+use pipes::{hear, read_some};
+use std::io::{Stderr, Stdout};
 
 // A thousand lines of a still grain.
 fn feed_lines(reader: Reader) -> Reader {
@@ -20,10 +20,10 @@ fn feed_lines(reader: Reader) -> Reader {
 }
 
 // One byte.
-fn take(reader: Reader, b: u8) -> Reader {
+fn take(out: Stdout, said: Stderr, reader: Reader, b: u8) -> Reader {
     match b {
         0 => {
-            write_answer(reader);
+            write_answer(out, said, reader);
             start()
         }
         1 => feed_lines(reader),
@@ -32,28 +32,26 @@ fn take(reader: Reader, b: u8) -> Reader {
 }
 
 // A part of the input.
-fn take_all(reader: Reader, s: &[u8]) -> Reader {
+fn take_all(out: Stdout, said: Stderr, reader: Reader, s: &[u8]) -> Reader {
     let mut state = reader;
     let mut i = 0;
     while i < s.len() {
-        state = take(state, s[i]);
+        state = take(out, said, state, s[i]);
         i += 1;
     }
     state
 }
 
-fn main() {
+fn main(rt: HostRuntime) {
+    let said = rt.stderr();
     let mut state = start();
     let mut more = true;
     let mut turns = u64::MAX;
     while turns > 0 && more {
         let mut buf = io::buffer();
-        let heard = hear(libc::read(STDIN_FILENO, &mut buf), &buf);
-        if heard.failed {
-            os::fail(b"standard input");
-        }
+        let heard = hear(read_some(rt.stdin(), said, &mut buf), &buf);
         let n = heard.count;
-        state = take_all(state, &buf[..n]);
+        state = take_all(rt.stdout(), said, state, &buf[..n]);
         more = heard.more;
         turns -= 1;
     }

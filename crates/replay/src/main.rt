@@ -12,31 +12,31 @@
 
 ghost use Rattle.std.specs.Prelude.{◌<◌, ◌≤◌};
 
-use libc::STDOUT_FILENO;
 use model::{Domain, Report, Started};
 use myvec::MyVec;
+use std::io::{Stdin, Stdout};
 use text::{bits_of_float, float_of_bits};
 use words::next;
 
 // ---- what is read
 
-fn next_float() -> f64 {
-    float_of_bits(next())
+fn next_float(input: Stdin) -> f64 {
+    float_of_bits(next(input))
 }
 
 // The next word as a length, at most as much as there is.
-fn next_length(most: usize) -> usize
+fn next_length(input: Stdin, most: usize) -> usize
     ensures { result ≤ most }
 {
-    let n = next() as usize;
+    let n = next(input) as usize;
     if n < most { n } else { most }
 }
 
-fn next_domain() -> Domain {
-    let x = next_float();
-    let y = next_float();
-    let periodic0 = next() == 1;
-    let periodic1 = next() == 1;
+fn next_domain(input: Stdin) -> Domain {
+    let x = next_float(input);
+    let y = next_float(input);
+    let periodic0 = next(input) == 1;
+    let periodic1 = next(input) == 1;
     Domain::new(MyVec::new(x, y), periodic0, periodic1)
 }
 
@@ -48,10 +48,10 @@ struct Asked {
     room: u64,
 }
 
-fn next_start() -> Asked {
-    let domain = next_domain();
-    let count = next();
-    let room = next();
+fn next_start(input: Stdin) -> Asked {
+    let domain = next_domain(input);
+    let count = next(input);
+    let room = next(input);
     Asked {
         domain,
         count,
@@ -59,29 +59,28 @@ fn next_start() -> Asked {
     }
 }
 
-fn fill_floats(t: &mut [f64]) {
+fn fill_floats(input: Stdin, t: &mut [f64]) {
     let mut i: usize = 0;
     while i < t.len() {
-        t[i] = next_float();
+        t[i] = next_float(input);
         i += 1;
     }
 }
 
 // ---- what is written
 
-fn text(s: &[u8]) {
-    io::write_all(STDOUT_FILENO, s);
+fn text(out: Stdout, s: &[u8]) {
+    let _ = out.write_all(s);
 }
 
-fn number(w: u64) {
-    text(b" ");
-    io::print_hex(STDOUT_FILENO, w, 1);
+fn number(out: Stdout, w: u64) {
+    let _ = print!(out; " {w:x}");
 }
 
 // What the places behind it are of.
-fn title(show: bool, s: &[u8]) {
+fn title(out: Stdout, show: bool, s: &[u8]) {
     if show {
-        text(s);
+        text(out, s);
     }
 }
 
@@ -93,30 +92,30 @@ fn mixed(sum: u64, half: u64) -> u64
 }
 
 // A place of a table goes into the checksum; it is shown if it is not zero.
-fn taken(sum: u64, place: usize, w: u64, show: bool) -> u64 {
+fn taken(out: Stdout, sum: u64, place: usize, w: u64, show: bool) -> u64 {
     if show && w != 0 {
-        number(place as u64);
-        number(w);
-        text(b"\n");
+        number(out, place as u64);
+        number(out, w);
+        text(out, b"\n");
     }
     mixed(mixed(sum, w % 4294967296), w / 4294967296)
 }
 
-fn numbers(t: &[u64], show: bool, first: u64) -> u64 {
+fn numbers(out: Stdout, t: &[u64], show: bool, first: u64) -> u64 {
     let mut sum = first;
     let mut i: usize = 0;
     while i < t.len() {
-        sum = taken(sum, i, t[i], show);
+        sum = taken(out, sum, i, t[i], show);
         i += 1;
     }
     sum
 }
 
-fn floats(t: &[f64], show: bool, first: u64) -> u64 {
+fn floats(out: Stdout, t: &[f64], show: bool, first: u64) -> u64 {
     let mut sum = first;
     let mut i: usize = 0;
     while i < t.len() {
-        sum = taken(sum, i, bits_of_float(t[i]), show);
+        sum = taken(out, sum, i, bits_of_float(t[i]), show);
         i += 1;
     }
     sum
@@ -126,70 +125,78 @@ fn wide(b: u8) -> u64 {
     b as u64
 }
 
-fn bytes(t: &[u8], show: bool, first: u64) -> u64 {
+fn bytes(out: Stdout, t: &[u8], show: bool, first: u64) -> u64 {
     let mut sum = first;
     let mut i: usize = 0;
     while i < t.len() {
-        sum = taken(sum, i, wide(t[i]), show);
+        sum = taken(out, sum, i, wide(t[i]), show);
         i += 1;
     }
     sum
 }
 
 // The checksum of the tables ends a line; where they are shown, they stand before it.
-fn close(lists: &[u64], grains: &[f64], queue: &[u64], events: &[f64], order: &[u8], show: bool) {
-    title(show, b"lists\n");
-    let a = numbers(lists, show, 1);
-    title(show, b"grains\n");
-    let b = floats(grains, show, a);
-    title(show, b"queue\n");
-    let c = numbers(queue, show, b);
-    title(show, b"events\n");
-    let d = floats(events, show, c);
-    title(show, b"order\n");
-    let e = bytes(order, show, d);
-    title(show, b"all");
-    number(e);
-    text(b"\n");
+fn close(
+    out: Stdout,
+    lists: &[u64],
+    grains: &[f64],
+    queue: &[u64],
+    events: &[f64],
+    order: &[u8],
+    show: bool,
+) {
+    title(out, show, b"lists\n");
+    let a = numbers(out, lists, show, 1);
+    title(out, show, b"grains\n");
+    let b = floats(out, grains, show, a);
+    title(out, show, b"queue\n");
+    let c = numbers(out, queue, show, b);
+    title(out, show, b"events\n");
+    let d = floats(out, events, show, c);
+    title(out, show, b"order\n");
+    let e = bytes(out, order, show, d);
+    title(out, show, b"all");
+    number(out, e);
+    text(out, b"\n");
 }
 
 // An answer's name, and what stands beside it.
-fn answer(name: &[u8], n: u64) {
-    text(name);
-    number(n);
+fn answer(out: Stdout, name: &[u8], n: u64) {
+    text(out, name);
+    number(out, n);
 }
 
-fn answer_start(started: Started) {
+fn answer_start(out: Stdout, started: Started) {
     match started {
-        Started::Accepted => text(b"accepted"),
-        Started::Halted { number } => answer(b"halted", number),
-        Started::Refused { number } => answer(b"refused", number),
-        Started::BadGrain { grain } => answer(b"grain", grain),
+        Started::Accepted => text(out, b"accepted"),
+        Started::Halted { number } => answer(out, b"halted", number),
+        Started::Refused { number } => answer(out, b"refused", number),
+        Started::BadGrain { grain } => answer(out, b"grain", grain),
     }
 }
 
-fn done(clock: f64, events: u64) {
-    number(bits_of_float(clock));
-    number(events);
+fn done(out: Stdout, clock: f64, events: u64) {
+    number(out, bits_of_float(clock));
+    number(out, events);
 }
 
-fn answer_run(report: Report) {
+fn answer_run(out: Stdout, report: Report) {
     match report {
         Report::Synchronised { clock, events } => {
-            text(b"synchronised");
-            done(clock, events);
+            text(out, b"synchronised");
+            done(out, clock, events);
         }
         Report::Spent { clock, events } => {
-            text(b"spent");
-            done(clock, events);
+            text(out, b"spent");
+            done(out, clock, events);
         }
         Report::Refused {
             number,
             clock,
             events,
         } => {
-            answer(b"refused", number);
-            done(clock, events);
+            answer(out, b"refused", number);
+            done(out, clock, events);
         }
     }
 }
@@ -197,18 +204,20 @@ fn answer_run(report: Report) {
 // ---- the commands
 
 fn runs(
+    input: Stdin,
+    out: Stdout,
     lists: &mut [u64],
     grains: &mut [f64],
     queue: &mut [u64],
     events: &mut [f64],
     order: &mut [u8],
 ) {
-    let rate = next_float();
-    let budget = (next() % 4294967296) as u32;
-    let times = next() % 65536;
+    let rate = next_float(input);
+    let budget = (next(input) % 4294967296) as u32;
+    let times = next(input) % 65536;
     for i in 0..times {
-        answer_run(simulator::run::run(lists, grains, queue, events, order, rate, budget));
-        close(lists, grains, queue, events, order, false);
+        answer_run(out, simulator::run::run(lists, grains, queue, events, order, rate, budget));
+        close(out, lists, grains, queue, events, order, false);
     }
 }
 
@@ -231,15 +240,16 @@ fn put_byte(t: &mut [u8], place: usize, w: u64) {
 }
 
 fn put(
+    input: Stdin,
     lists: &mut [u64],
     grains: &mut [f64],
     queue: &mut [u64],
     events: &mut [f64],
     order: &mut [u8],
 ) {
-    let table = next();
-    let place = next() as usize;
-    let w = next();
+    let table = next(input);
+    let place = next(input) as usize;
+    let w = next(input);
     match table {
         0 => put_number(lists, place, w),
         1 => put_float(grains, place, w),
@@ -251,17 +261,19 @@ fn put(
 
 // One command; false where there is none.
 fn command(
+    input: Stdin,
+    out: Stdout,
     lists: &mut [u64],
     grains: &mut [f64],
     queue: &mut [u64],
     events: &mut [f64],
     order: &mut [u8],
 ) -> bool {
-    let name = next();
+    let name = next(input);
     match name {
-        1 => runs(lists, grains, queue, events, order),
-        2 => put(lists, grains, queue, events, order),
-        3 => close(lists, grains, queue, events, order, true),
+        1 => runs(input, out, lists, grains, queue, events, order),
+        2 => put(input, lists, grains, queue, events, order),
+        3 => close(out, lists, grains, queue, events, order, true),
         _ => {
             return false;
         }
@@ -270,6 +282,8 @@ fn command(
 }
 
 fn commands(
+    input: Stdin,
+    out: Stdout,
     lists: &mut [u64],
     grains: &mut [f64],
     queue: &mut [u64],
@@ -277,7 +291,7 @@ fn commands(
     order: &mut [u8],
 ) {
     for i in 0..100000u64 {
-        if !command(lists, grains, queue, events, order) {
+        if !command(input, out, lists, grains, queue, events, order) {
             break;
         }
     }
@@ -285,6 +299,8 @@ fn commands(
 
 // A start over the tables lent.
 fn start(
+    input: Stdin,
+    out: Stdout,
     inputs: &mut [f64],
     lists: &mut [u64],
     grains: &mut [f64],
@@ -292,9 +308,9 @@ fn start(
     events: &mut [f64],
     order: &mut [u8],
 ) {
-    let asked = next_start();
-    fill_floats(inputs);
-    answer_start(simulator::start::start(
+    let asked = next_start(input);
+    fill_floats(input, inputs);
+    answer_start(out, simulator::start::start(
         asked.domain,
         asked.count,
         asked.room,
@@ -305,11 +321,13 @@ fn start(
         events,
         order,
     ));
-    close(lists, grains, queue, events, order, false);
+    close(out, lists, grains, queue, events, order, false);
 }
 
 // A start, and the commands behind it.
 fn follow(
+    input: Stdin,
+    out: Stdout,
     inputs: &mut [f64],
     lists: &mut [u64],
     grains: &mut [f64],
@@ -317,12 +335,14 @@ fn follow(
     events: &mut [f64],
     order: &mut [u8],
 ) {
-    start(inputs, lists, grains, queue, events, order);
-    commands(lists, grains, queue, events, order);
+    start(input, out, inputs, lists, grains, queue, events, order);
+    commands(input, out, lists, grains, queue, events, order);
 }
 
 // Lends the first places of each table.
 fn lend(
+    input: Stdin,
+    out: Stdout,
     inputs: &mut [f64],
     lists: &mut [u64],
     grains: &mut [f64],
@@ -330,13 +350,15 @@ fn lend(
     events: &mut [f64],
     order: &mut [u8],
 ) {
-    let a = next_length(lists.len());
-    let b = next_length(grains.len());
-    let c = next_length(queue.len());
-    let d = next_length(events.len());
-    let e = next_length(order.len());
-    let n = next_length(inputs.len());
+    let a = next_length(input, lists.len());
+    let b = next_length(input, grains.len());
+    let c = next_length(input, queue.len());
+    let d = next_length(input, events.len());
+    let e = next_length(input, order.len());
+    let n = next_length(input, inputs.len());
     follow(
+        input,
+        out,
         &mut inputs[..n],
         &mut lists[..a],
         &mut grains[..b],
@@ -347,6 +369,8 @@ fn lend(
 }
 
 fn replay(
+    input: Stdin,
+    out: Stdout,
     inputs: &mut [f64],
     lists: &mut [u64],
     grains: &mut [f64],
@@ -354,13 +378,13 @@ fn replay(
     events: &mut [f64],
     order: &mut [u8],
 ) {
-    let starts = next() % 1000;
+    let starts = next(input) % 1000;
     for i in 0..starts {
-        lend(inputs, lists, grains, queue, events, order);
+        lend(input, out, inputs, lists, grains, queue, events, order);
     }
 }
 
-fn main() {
+fn main(rt: HostRuntime) {
     let mut inputs = [0.0f64; 1560];
     let mut lists = [0u64; 10768];
     let mut grains = [0.0f64; 2048];
@@ -368,6 +392,8 @@ fn main() {
     let mut events = [0.0f64; 81936];
     let mut order = [0u8; 520];
     replay(
+        rt.stdin(),
+        rt.stdout(),
         &mut inputs,
         &mut lists,
         &mut grains,

@@ -5,6 +5,7 @@
 ghost use Rattle.std.specs.Prelude.{◌≤◌};
 
 use root::Root;
+use std::io::Stdin;
 use text::{bits_of_float, float_of_bits};
 use words::Word;
 
@@ -25,8 +26,8 @@ enum Answer {
 }
 
 // Whether x's root is as the next word says.
-fn compared_with_next(x: u64) -> Answer {
-    let word = words::read();
+fn compared_with_next(input: Stdin, x: u64) -> Answer {
+    let word = words::read(input);
     match word {
         Word::Bits(y) => {
             if agrees(x, y) {
@@ -40,10 +41,10 @@ fn compared_with_next(x: u64) -> Answer {
 }
 
 // The next line; one that is cut off differs.
-fn next() -> Answer {
-    let word = words::read();
+fn next(input: Stdin) -> Answer {
+    let word = words::read(input);
     match word {
-        Word::Bits(x) => compared_with_next(x),
+        Word::Bits(x) => compared_with_next(input, x),
         Word::Bad => Answer::Differs,
         Word::End => Answer::End,
     }
@@ -59,16 +60,17 @@ fn misses(a: Answer) -> u64
     }
 }
 
-fn main() {
+fn main(rt: HostRuntime) {
+    let input = rt.stdin();
     let mut compared = 0u64;
     let mut differ = 0u64;
     while compared < 1000000 {
-        let a = next();
+        let a = next(input);
         if let Answer::End = a {
             break;
         }
         differ += misses(a);
         compared += 1;
     }
-    words::report(compared, b"roots", differ);
+    words::report(rt.stdout(), compared, b"roots", differ);
 }

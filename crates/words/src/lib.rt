@@ -1,9 +1,9 @@
 // Words of 64 bits on standard input, each 16 upper-case hexadecimal digits and one byte behind them; and the line that a comparison writes.
 #![tactic(auto)]
 
-ghost use Rattle.std.specs.Prelude.{◌≤◌};
+ghost use Rattle.std.specs.Prelude.{◌≤◌, length};
 
-use libc::{STDIN_FILENO, STDOUT_FILENO};
+use std::io::{Read, Stdin, Stdout};
 use text::hex_value;
 
 // What is read: a word, something that is none, or the end.
@@ -27,10 +27,34 @@ fn spelled(text: &[u8; 17]) -> Word {
     Word::Bits(bits)
 }
 
+// One read, of at most so many bytes as the buffer has; none where it fails.
+fn read_some(input: Stdin, buf: &mut [u8]) -> usize
+    ensures { result ≤ length buf.new }
+{
+    let mut from = input;
+    match from.read(buf) {
+        Ok(n) => n,
+        Err(_) => 0,
+    }
+}
+
+// Reads until the buffer is full, the input ends or a read fails; how many bytes came.
+fn read_full(input: Stdin, buf: &mut [u8; 17]) -> usize {
+    let mut done: usize = 0;
+    while done < buf.len() {
+        let n = read_some(input, &mut buf[done..]);
+        if n == 0 {
+            break;
+        }
+        done += n;
+    }
+    done
+}
+
 // The next word; one that is cut off is none.
-pub fn read() -> Word {
+pub fn read(input: Stdin) -> Word {
     let mut text = [0u8; 17];
-    let n = io::read_full(STDIN_FILENO, &mut text);
+    let n = read_full(input, &mut text);
     if n == 0 {
         return Word::End;
     }
@@ -44,8 +68,8 @@ pub fn read() -> Word {
 pub const NONE: u64 = 18446744073709551615;
 
 // The next word, or NONE where it is none.
-pub fn next() -> u64 {
-    let word = read();
+pub fn next(input: Stdin) -> u64 {
+    let word = read(input);
     match word {
         Word::Bits(bits) => bits,
         _ => NONE,
@@ -53,10 +77,10 @@ pub fn next() -> u64 {
 }
 
 // Fills a table with the next words; false at the first that is none.
-pub fn fill(t: &mut [u64]) -> bool {
+pub fn fill(input: Stdin, t: &mut [u64]) -> bool {
     let mut i = 0;
     while i < t.len() {
-        let word = read();
+        let word = read(input);
         let Word::Bits(bits) = word else {
             return false;
         };
@@ -74,11 +98,8 @@ pub fn miss(same: bool) -> u64
 }
 
 // One line: how many were compared, of what, and how many differ.
-pub fn report(compared: u64, what: &[u8], differ: u64) {
-    io::print_decimal(STDOUT_FILENO, compared);
-    io::write_all(STDOUT_FILENO, b" ");
-    io::write_all(STDOUT_FILENO, what);
-    io::write_all(STDOUT_FILENO, b", ");
-    io::print_decimal(STDOUT_FILENO, differ);
-    io::write_all(STDOUT_FILENO, b" differ\n");
+pub fn report(out: Stdout, compared: u64, what: &[u8], differ: u64) {
+    let _ = print!(out; "{compared} ");
+    let _ = out.write_all(what);
+    let _ = println!(out; ", {differ} differ");
 }
