@@ -1,6 +1,8 @@
 use Prim.Native.Nat.{ℕ, ◌-◌}
 use mathlib.Core.Path.{refl, ap, ◌∙◌}
+use mathlib.Core.List.{[]}
 use lib.ListN.{length, replicate}
+use borrow.Rule.Slice.PartMut.{put_mid}
 use Rattle.layout.specs.Widths.{order_wide}
 use Rattle.tables.specs.Layout.{order_bytes}
 use Rattle.starting.proofs.Zeros.{start_long}

@@ -21,10 +21,6 @@ enter_row-one-requires t c =
     let E = c.requires in
     enters_front (row_cells a.n0 (cells_in a.x) a.lo) (grid_cells a.n0 (cells_in a.x) (between (a.lo + 1) a.hi)) (rows_step a.n0 (cells_in a.x) a.lo a.hi c.if-hi-lo.false) E
 
-pub shape_of-lists-then-one-ne0 : goal.shape_of-lists-then-one-ne0
-shape_of-lists-then-one-ne0 t c =
-    c.enter_row-one.auto.lists
-
 pub returns-then-one-ne0 : goal.returns-then-one-ne0
 returns-then-one-ne0 t c =
     let a = c.args in
@@ -47,10 +43,6 @@ enter_rows-requires t c =
       omega (arith, c.decreases, c.if-hi-lo.false),
       enters_back u v (rows_step a.n0 (cells_in a.x) a.lo a.hi c.if-hi-lo.false) E ((each_of (enter a.grain) u L.0).st, (c.enter_row-one.ensures L.0 L.1).1),
     )
-
-pub shape_of-lists : goal.shape_of-lists
-shape_of-lists t c =
-    c.enter_rows.auto.lists ∙ c.enter_row-one.auto.lists
 
 pub returns : goal.returns
 returns t c =

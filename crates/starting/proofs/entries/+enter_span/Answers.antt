@@ -34,10 +34,6 @@ enter-one-requires t c =
     let f = enters_first (a.lo + a.n0 * a.j) (row_cells a.n0 (between (a.lo + 1) a.hi) a.j) (span_step a.n0 a.j a.lo a.hi c.if-hi-lo.false) E in
     (E.lists, E.ranged, E.known, f)
 
-pub shape_of-lists-then-one-ne0 : goal.shape_of-lists-then-one-ne0
-shape_of-lists-then-one-ne0 t c =
-    c.enter-one.auto.lists
-
 pub returns-then-one-ne0 : goal.returns-then-one-ne0
 returns-then-one-ne0 t c =
     let a = c.args in
@@ -60,10 +56,6 @@ enter_span-requires t c =
       omega (arith, c.decreases, c.if-hi-lo.false),
       enters_rest u v (span_step a.n0 a.j a.lo a.hi c.if-hi-lo.false) E ((enter a.grain u L.0).st, (c.enter-one.ensures L.0 L.1).1),
     )
-
-pub shape_of-lists : goal.shape_of-lists
-shape_of-lists t c =
-    c.enter_span.auto.lists ∙ c.enter-one.auto.lists
 
 pub returns : goal.returns
 returns t c =

@@ -13,10 +13,6 @@ enter_rows-one-requires c =
     let E = c.requires in
     enters_front (grid_cells a.n0 (cells_in a.x) (between a.y.a0 a.y.b0)) (grid_cells a.n0 (cells_in a.x) (between a.y.a1 a.y.b1)) (grid-two a.n0 (cells_in a.x) a.y) E
 
-pub shape_of-lists-then-one-ne0 : goal.shape_of-lists-then-one-ne0
-shape_of-lists-then-one-ne0 c =
-    c.enter_rows-one.auto.lists
-
 pub returns-then-one-ne0 : goal.returns-then-one-ne0
 returns-then-one-ne0 c =
     let a = c.args in
@@ -31,10 +27,6 @@ enter_rows-requires c =
     let v = grid_cells a.n0 (cells_in a.x) (between a.y.a1 a.y.b1) in
     let L = E.lists in
     enters_back u v (grid-two a.n0 (cells_in a.x) a.y) E ((each_of (enter a.grain) u L.0).st, (c.enter_rows-one.ensures L.0 L.1).1)
-
-pub shape_of-lists : goal.shape_of-lists
-shape_of-lists c =
-    c.enter_rows.auto.lists ∙ c.enter_rows-one.auto.lists
 
 pub returns : goal.returns
 returns c =

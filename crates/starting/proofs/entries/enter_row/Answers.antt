@@ -12,10 +12,6 @@ enter_span-one-requires c =
     let E = c.requires in
     enters_front (row_cells a.n0 (between a.x.a0 a.x.b0) a.j) (row_cells a.n0 (between a.x.a1 a.x.b1) a.j) (row_two a.n0 a.x a.j) E
 
-pub shape_of-lists-then-one-ne0 : goal.shape_of-lists-then-one-ne0
-shape_of-lists-then-one-ne0 c =
-    c.enter_span-one.auto.lists
-
 pub returns-then-one-ne0 : goal.returns-then-one-ne0
 returns-then-one-ne0 c =
     let a = c.args in
@@ -30,10 +26,6 @@ enter_span-requires c =
     let v = row_cells a.n0 (between a.x.a1 a.x.b1) a.j in
     let L = E.lists in
     enters_back u v (row_two a.n0 a.x a.j) E ((each_of (enter a.grain) u L.0).st, (c.enter_span-one.ensures L.0 L.1).1)
-
-pub shape_of-lists : goal.shape_of-lists
-shape_of-lists c =
-    c.enter_span.auto.lists ∙ c.enter_span-one.auto.lists
 
 pub returns : goal.returns
 returns c =

@@ -21,14 +21,6 @@ goes_in-one-requires t c =
     let G = c.requires.0 in
     (G, omega (arith, c.requires.1, c.if-i-z.false))
 
-pub shape_of-lists-then-one-ne0 : goal.shape_of-lists-then-one-ne0
-shape_of-lists-then-one-ne0 t c =
-    c.goes_in-one.auto.lists
-
-pub shape_of-grains-then-one-ne0 : goal.shape_of-grains-then-one-ne0
-shape_of-grains-then-one-ne0 t c =
-    c.goes_in-one.auto.grains
-
 pub returns-then-one-ne0 : goal.returns-then-one-ne0
 returns-then-one-ne0 t c =
     let a = c.args in
@@ -46,14 +38,6 @@ go_in-requires t c =
     let a = c.args in
     let G = c.requires.0 in
     (omega (arith, c.decreases, c.requires.1, c.if-i-z.false), (going_on G (goes_in (inputs_of a.z.grains a.inputs.now) a.i G.held.0).st (c.goes_in-one.ensures G.held.0 G.held.1).1, omega (arith, c.requires.1, c.if-i-z.false)))
-
-pub shape_of-lists : goal.shape_of-lists
-shape_of-lists t c =
-    c.go_in.auto.lists ∙ c.goes_in-one.auto.lists
-
-pub shape_of-grains : goal.shape_of-grains
-shape_of-grains t c =
-    c.go_in.auto.grains ∙ c.goes_in-one.auto.grains
 
 pub returns : goal.returns
 returns t c =

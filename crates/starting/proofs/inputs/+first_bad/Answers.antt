@@ -1,7 +1,7 @@
 use Prim.Native.Nat.{◌-◌}
 use mathlib.Core.Path.{sym, ap, ◌∙◌}
 use lib.ListN.{length}
-use borrow.Author.Tests.{not-true, not-false}
+use borrow.Rule.Slice.PartMut.{mid_of}
 use Rattle.layout.specs.Widths.{input_wide}
 use Rattle.starting.proofs.InputLaws.{bad-none, bad-first, bad-later, bad-most}
 use Rattle.checks.proofs.Cut.{less_rows, rest_long}
@@ -22,7 +22,7 @@ read_input-requires t c =
 pub returns-then-not-grain_ok : goal.returns-then-not-grain_ok
 returns-then-not-grain_ok t c =
     let a = c.args in
-    bad-first a.domain a.n a.inputs.now c.if-n-eq0.false (sym (c.grain_ok.ensures ∙ ap (grain_ok a.domain) c.read_input.ensures) ∙ not-true _ c.if-not-grain_ok.true)
+    bad-first a.domain a.n a.inputs.now c.if-n-eq0.false (sym (c.grain_ok.ensures ∙ ap (grain_ok a.domain) c.read_input.ensures) ∙ c.if-not-grain_ok.true)
 
 pub slice_bounds-first_bad-count : goal.slice_bounds-first_bad-count
 slice_bounds-first_bad-count t c =
@@ -62,4 +62,4 @@ overflow_add-result t c =
 pub returns : goal.returns
 returns t c =
     let a = c.args in
-    bad-later a.domain a.n a.inputs.now c.first_bad.result c.if-n-eq0.false (sym (c.grain_ok.ensures ∙ ap (grain_ok a.domain) c.read_input.ensures) ∙ not-false _ c.if-not-grain_ok.false) c.first_bad.ensures
+    bad-later a.domain a.n a.inputs.now c.first_bad.result c.if-n-eq0.false (sym (c.grain_ok.ensures ∙ ap (grain_ok a.domain) c.read_input.ensures) ∙ c.if-not-grain_ok.false) c.first_bad.ensures
