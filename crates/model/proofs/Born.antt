@@ -19,7 +19,7 @@ use Rattle.model.specs.FromPToC.{width, first_cell, end_cell, kernel, reached, c
 use Rattle.order.proofs.Mono.{plain, positive_plain, fr→le, sub_is, sub_mono, add_plain, sub_plain, not_inf, sub_under, div_minus, round_cut, sub_le_add, add_minus_zero, sub_minus_zero, sum_mono}
 use Rattle.order.proofs.Value.{round_own}
 use Rattle.model.proofs.Eighths.{four, Facts, facts, half_plain, least_plain, least_half}
-use Rattle.model.proofs.Kernels.{half_self, lo_last, cut, eight, eight_plain, fortyeight_plain, from_zero, hi_in, hi_one, hi_some, inside, lo_far, low, max_cut_le, nine_plain, one_plain, plain_self, zero_le_plain, zero_plain}
+use Rattle.model.proofs.Kernels.{half_self, lo_last, cut, eight, eight_plain, fortyeight_plain, from_zero, hi_in, hi_one, hi_some, inside, lo_far, max_cut_le, nine_plain, one_plain, plain_self, zero_le_plain, zero_plain}
 use Rattle.model.proofs.Few.{few_inside}
 use mathlib.Core.List.{List, ◌++◌}
 use Rattle.model.specs.declared.Domain.{Domain}

@@ -11,7 +11,6 @@ use lib.Ieee.{binary64, of_bits, le, fits}
 use lib.Ieee.Scale.{finite}
 use Rattle.scheduler.specs.declared.Scheduler.{Scheduler}
 use Rattle.model.specs.declared.Domain.{Domain}
-use Rattle.halting.specs.Out.{each}
 use Rattle.order.specs.Numbers.{fzero}
 use Rattle.scheduler.specs.declared.head.Head.{Head}
 use Rattle.scheduler.specs.declared.head.Head.TheVariants.{Empty}

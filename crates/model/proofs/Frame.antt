@@ -21,7 +21,7 @@ use Rattle.order.proofs.Order.{le_refl}
 use Rattle.order.proofs.Clock.{finite_no_nan}
 use Rattle.model.specs.Grid.{cells}
 use Rattle.model.specs.Events.{insert_by, keep_by, gone_by, names, event_of, place_of, zero_p}
-use Rattle.model.specs.State.{Row, row, none, State, grain, home, listed, queue, live_at, has, pushed, pulled, requeued, with_grains}
+use Rattle.model.specs.State.{Row, row, none, State, home, listed, queue, live_at, has, pushed, pulled, requeued, with_grains}
 use Rattle.model.specs.Acts.{store, insert, inserted, put, cancelled, enter, entered, leave, gone, queue_row}
 use Rattle.halting.specs.Every.{All}
 use Rattle.model.specs.Standing.{syncs, one_if}

@@ -30,7 +30,7 @@ use Rattle.model.specs.Start.{begin}
 use Rattle.model.specs.Standing.{Once, syncs, one_if}
 use Rattle.model.proofs.Sound.{Sound, Held, Named, Stands}
 use Rattle.model.specs.Reached.{Reached}
-use Rattle.model.specs.Rows.{about, Rule, pair, bound, sync, Act, moving, turning, trying, cancelling, entering, leaving, Acts, doing, only, ◌⨟◌, in_turn, stepping, scheduling, reschedules, syncing, acts_of, initiates}
+use Rattle.model.specs.Rows.{about, Rule, pair, bound, sync, Act, moving, turning, trying, cancelling, entering, leaving, doing, only, ◌⨟◌, in_turn, stepping, scheduling, reschedules, syncing, acts_of, initiates}
 use Rattle.model.specs.History.{did, took, History, row_done, Dated, named_by, dated_places, keep_dated, dated, step_done, start_done, history}
 use Rattle.model.specs.Missing.{Owes, Owed, NothingElse}
 use Rattle.model.specs.Doing.{execution}

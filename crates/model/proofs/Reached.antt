@@ -11,7 +11,7 @@ use Rattle.model.specs.declared.Event.{Event}
 use Rattle.model.specs.declared.Event.TheVariants.{InterParticleCollision, MoveToNeighbour, MoveOutOfCell, WallReflection, Synchronisation}
 use Rattle.model.specs.State.{State}
 use Rattle.model.specs.Sizes.{rated}
-use Rattle.model.specs.Execute.{synchronised, halted, Moved, was_sync, finish, head_event, event, step}
+use Rattle.model.specs.Execute.{halted, Moved, was_sync, finish, head_event, event, step}
 use Rattle.model.specs.Run.{How, spent, refused, run_from}
 use Rattle.model.specs.Start.{start, started}
 use Rattle.model.proofs.Sound.{Sound, Stands}

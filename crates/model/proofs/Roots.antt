@@ -34,7 +34,6 @@ use Rattle.model.specs.declared.Plan.{Plan}
 use Rattle.model.specs.declared.Plan.TheVariants.{Nothing, Due, Refused}
 use Rattle.halting.specs.Out.{then, each, each_of}
 use Rattle.halting.proofs.Laws.{then_sound, each_sound}
-use Rattle.model.specs.Grid.{cells}
 use Rattle.model.specs.Stepping.{new_pos, due}
 use Rattle.model.specs.Periodic.{apart}
 use Rattle.model.specs.Collision.{reach, collide, planned, struck, collision}

@@ -35,7 +35,6 @@ use Rattle.model.specs.Missing.{same_rule, Concerns}
 use Rattle.model.proofs.Cases.{on_test, store_case, insert_case}
 use Rattle.model.proofs.Lists.{eqb_sym}
 use Rattle.model.proofs.Performs.{is_one}
-use Rattle.model.specs.Acts.{first}
 use Rattle.model.proofs.Told.{then_whole, one_told, Every, every_before, every_each, every_turn}
 use Rattle.model.proofs.Tries.{Fits, Kept, Spares, tried_now, row_spares}
 

@@ -17,7 +17,7 @@ use Rattle.order.specs.Numbers.{fzero}
 use Rattle.model.specs.Grid.{cells}
 use Rattle.model.specs.Events.{zero_p}
 use Rattle.model.specs.FromPToC.{cells_of_grain}
-use Rattle.model.specs.State.{State, zero_g, grain, home, listed, queue, has, marked}
+use Rattle.model.specs.State.{State, zero_g, home, listed, queue, has, marked}
 use Rattle.model.specs.Acts.{store, insert, enter}
 use Rattle.model.specs.Doing.{schedule_collision, boundaries, sync_at, goes_in, pairs, init_cell, beginning}
 use Rattle.model.specs.Stepping.{at_zero}

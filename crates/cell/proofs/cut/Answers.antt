@@ -6,7 +6,7 @@ use Rattle.cell.proofs.cut.Goals as goal
 
 pub truncating_f64_to_u64-n-requires : goal.truncating_f64_to_u64-n-requires
 unfolding of_bits neg
-truncating_f64_to_u64-n-requires c = (subst T (sym c.if-x.true) tt, subst T (sym c.if-x-2.true) tt)
+truncating_f64_to_u64-n-requires c = record { lower_bound = subst T (sym c.if-x.true) tt; upper_bound = subst T (sym c.if-x-2.true) tt }
 
 pub returns-then-x : goal.returns-then-x
 unfolding of_bits neg

@@ -5,13 +5,12 @@ use Rattle.cell.proofs.Laws.{other}
 use Rattle.cell.proofs.Grid.beside.Goals as goal
 
 pub cell_at-requires : goal.cell_at-requires
-cell_at-requires c κs = let c = div-le_self c.before.before.args.cell c.before.before.args.self.n0 in search rules
+cell_at-requires c = let h = div-le_self c.args.cell c.args.self.n0 in search rules
 
 pub cell_at-requires-else-dim-eq0 : goal.cell_at-requires-else-dim-eq0
-cell_at-requires-else-dim-eq0 c κs = let c = mod-le c.before.before.args.cell c.before.before.args.self.n0 in search rules
+cell_at-requires-else-dim-eq0 c = let h = mod-le c.args.cell c.args.self.n0 in search rules
 
 pub returns-else-dim-eq0 : goal.returns-else-dim-eq0
 returns-else-dim-eq0 c =
-    let c2 = c in
-    let c3 = c2.before in
-    c.cell_at-else-dim-eq0.ensures ∙ other (λ d. beside_in c3.args.self d c3.args.cell c3.args.index) _ c3.args.dim c2.if1.false (λ k. refl)
+    let a = c.args in
+    c.cell_at-else-dim-eq0.ensures ∙ other (λ d. beside_in a.self d a.cell a.index) _ a.dim c.if-dim-eq0.false (λ k. refl)
