@@ -1,7 +1,5 @@
 use Rattle.tables.specs.Layout.{grain_reals}
 use Rattle.chunks.proofs.Laws.{sets_all}
-use lib.ListN.{length-set}
-use native.Mathlib.Omega.{arith}
 use Rattle.tables.proofs.grains.write_grain.Goals as goal
 
 pub returns : goal.returns

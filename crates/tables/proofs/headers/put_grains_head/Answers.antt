@@ -1,5 +1,3 @@
-use lib.ListN.{length-set}
-use borrow.Author.Rules.{rules}
 use Rattle.tables.specs.Encode.{grains_head}
 use Rattle.tables.proofs.Over.{over_sets}
 use Rattle.tables.proofs.headers.put_grains_head.Goals as goal

@@ -1,7 +1,6 @@
 use Rattle.tables.proofs.HeapLaws.{copied_more, copied_all}
 use lib.ListN.{length, length-set}
 use mathlib.Core.Path.{◌≡◌}
-use Prim.Native.Nat.{◌-◌}
 use native.Mathlib.Omega.{arith}
 use borrow.Author.Rules.{rules}
 use Rattle.tables.proofs.heap.put_bytes.Goals as goal

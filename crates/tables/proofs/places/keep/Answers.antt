@@ -1,5 +1,5 @@
 use mathlib.Core.Path.{◌≡◌, refl, subst}
-use Prim.Native.Nat.{ℕ, zero-le, ◌-◌}
+use Prim.Native.Nat.{ℕ, zero-le}
 use Rattle.tables.specs.Places.{Keeping}
 use Rattle.tables.proofs.Runs.{keeping_none}
 use native.Mathlib.Omega.{arith}

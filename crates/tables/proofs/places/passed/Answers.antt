@@ -1,4 +1,4 @@
-use Prim.Native.Nat.{zero-le, ◌-◌}
+use Prim.Native.Nat.{zero-le}
 use Rattle.tables.proofs.Runs.{passing_none, passing_more, passed_here, passed_all}
 use native.Mathlib.Omega.{arith}
 use Rattle.tables.proofs.places.passed.Goals as goal

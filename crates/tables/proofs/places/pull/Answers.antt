@@ -1,5 +1,5 @@
 use mathlib.Core.Path.{◌≡◌, refl, subst}
-use Prim.Native.Nat.{ℕ, zero-le, ◌-◌}
+use Prim.Native.Nat.{ℕ, zero-le}
 use Rattle.tables.proofs.Runs.{Moved, free_first, moved_down, pull_ends}
 use native.Mathlib.Omega.{arith}
 use borrow.Author.Rules.{rules}

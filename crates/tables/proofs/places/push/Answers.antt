@@ -1,5 +1,4 @@
 use mathlib.Core.Path.{refl}
-use Prim.Native.Nat.{◌-◌}
 use Rattle.tables.proofs.Runs.{free_last, moved_up, push_ends}
 use native.Mathlib.Omega.{arith}
 use borrow.Author.Rules.{rules}

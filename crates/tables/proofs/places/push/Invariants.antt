@@ -2,7 +2,7 @@ use mathlib.Core.List.{List, ◌∷◌, ◌++◌}
 use Rattle.model.specs.declared.Place.{Place}
 use Rattle.tables.specs.Holds.{Run}
 use mathlib.Core.Path.{◌≡◌}
-use Prim.Native.Nat.{◌≤◌, ◌-◌, ◌+◌}
+use Prim.Native.Nat.{◌≤◌}
 use lib.ListN.{length}
 use Rattle.tables.proofs.Runs.{Moved}
 use Rattle.tables.proofs.places.push.Given as goal

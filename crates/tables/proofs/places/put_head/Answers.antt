@@ -1,5 +1,3 @@
-use native.Mathlib.Omega.{arith}
-use lib.ListN.{length-set}
 use Rattle.tables.proofs.places.put_head.Goals as goal
 
 pub returns : goal.returns

@@ -1,12 +1,6 @@
 use Rattle.tables.proofs.RowLaws.{pull_none, pull_more}
 use lib.ListN.{length-set, length-take, length-drop}
-use mathlib.Core.Path.{◌∙◌}
-use Prim.Native.Nat.{◌-◌}
-use mathlib.Core.List.{List}
-use lib.ListN.{length, set, get_or}
 use native.Mathlib.Omega.{arith}
-use borrow.Author.Rules.{rules}
-use Prim.Native.Nat.{ℕ}
 use Rattle.tables.proofs.rows.+pull.Goals as goal
 
 pub pull-requires : goal.pull-requires

@@ -1,4 +1,3 @@
-use Prim.Native.Nat.{◌-◌}
 use Rattle.tables.proofs.rows.+pull.Given as goal
 
 abbrev pub decreases-pull : goal.decreases-pull

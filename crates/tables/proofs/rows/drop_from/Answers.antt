@@ -1,5 +1,3 @@
-use lib.ListN.{length}
-use Prim.Native.Nat.{◌-◌}
 use Rattle.tables.proofs.RowLaws.{row_fits, row_some, row_has, row_dropped}
 use lib.ListN.{length-take, length-drop}
 use native.Mathlib.Omega.{arith}

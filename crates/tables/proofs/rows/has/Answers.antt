@@ -1,6 +1,5 @@
 use mathlib.Core.Path.{◌∙◌}
 use mathlib.Core.Bool.{true, false}
-use Prim.Native.Nat.{◌-◌}
 use Rattle.chunks.proofs.Laws.{some, tail_long}
 use Rattle.tables.proofs.RowLaws.{has_none, has_here, has_more}
 use native.Mathlib.Omega.{arith}
