@@ -11,11 +11,7 @@ returns-then-min c = taken _ _ _ _ c.if-min.true (joined_by _ _ _ _ _ c.kernel.e
 pub returns-then-length-max : goal.returns-then-length-max
 unfolding spans_of
 returns-then-length-max c =
-    let c1 = c in
-    let c2 = c1.before in
-    let c3 = c2.before in
-    let c4 = c3.before in
-    left _ _ _ _ c4.if1.false (taken _ _ _ _ c3.if2.true (joined_by _ _ _ _ _ c2.kernel3.ensures c1.kernel4.ensures c.joined-then-length-max.ensures))
+    left _ _ _ _ c.if-min.false (taken _ _ _ _ c.if-length-max.true (joined_by _ _ _ _ _ c.kernel-then-length-max.ensures c.kernel-then-length-max-2.ensures c.joined-then-length-max.ensures))
 
 pub returns : goal.returns
 unfolding spans_of
