@@ -16,50 +16,6 @@ pub needed-need-requires : goal.needed-need-requires
 needed-need-requires c =
     (c.requires.grains_most, few_cells c.requires, c.requires.room_most)
 
-pub slice_bounds-fill-count : goal.slice_bounds-fill-count
-slice_bounds-fill-count c =
-    let e = ends c.requires c.needed-need.ensures in
-    omega arith
-
-pub slice_bounds-fill-start : goal.slice_bounds-fill-start
-slice_bounds-fill-start c =
-    let e = ends c.requires c.needed-need.ensures in
-    omega arith
-
-pub slice_bounds-fill-end : goal.slice_bounds-fill-end
-slice_bounds-fill-end c =
-    let e = ends c.requires c.needed-need.ensures in
-    omega (arith, e.lists_to, c.clear.auto.lists)
-
-pub slice_bounds-fill-count-2 : goal.slice_bounds-fill-count-2
-slice_bounds-fill-count-2 c =
-    let e = ends c.requires c.needed-need.ensures in
-    omega arith
-
-pub slice_bounds-fill-start-2 : goal.slice_bounds-fill-start-2
-slice_bounds-fill-start-2 c =
-    let e = ends c.requires c.needed-need.ensures in
-    omega arith
-
-pub slice_bounds-fill-end-2 : goal.slice_bounds-fill-end-2
-slice_bounds-fill-end-2 c =
-    let e = ends c.requires c.needed-need.ensures in
-    omega (arith, e.grains_to, c.clear.auto.grains)
-
-pub slice_bounds-fill-end-3 : goal.slice_bounds-fill-end-3
-slice_bounds-fill-end-3 c =
-    let e = ends c.requires c.needed-need.ensures in
-    omega (arith, e.queue_to, c.clear.auto.queue)
-
-pub slice_bounds-fill-end-4 : goal.slice_bounds-fill-end-4
-slice_bounds-fill-end-4 c =
-    let e = ends c.requires c.needed-need.ensures in
-    omega (arith, e.events_to, c.clear.auto.events)
-
-pub slice_bounds-fill-end-5 : goal.slice_bounds-fill-end-5
-slice_bounds-fill-end-5 c =
-    omega (arith, c.requires.order_long, c.clear.auto.order)
-
 pub fill-number-requires : goal.fill-number-requires
 fill-number-requires c =
     let a = c.args in

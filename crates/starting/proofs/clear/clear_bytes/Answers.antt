@@ -5,9 +5,6 @@ use lib.ListN.{length-set}
 use Rattle.starting.proofs.Fills.{more, full}
 use Rattle.starting.proofs.clear.clear_bytes.Goals as goal
 
-pub loop-i-init : goal.loop-i-init
-loop-i-init c = (omega arith, refl)
-
 pub loop-i-preserved : goal.loop-i-preserved
 loop-i-preserved c =
     let i = c.loop-i.invariant in

@@ -27,12 +27,6 @@ returns-then-one-ne0 t c =
     let E = c.requires in
     λ s S. all_stop a.grain (row_cells a.n0 (cells_in a.x) a.lo) (grid_cells a.n0 (cells_in a.x) (between (a.lo + 1) a.hi)) (rows_step a.n0 (cells_in a.x) a.lo a.hi c.if-hi-lo.false) s (c.enter_row-one.ensures s S) c.if-one-ne0.true
 
-pub overflow_add-lo : goal.overflow_add-lo
-overflow_add-lo t c =
-    let a = c.args in
-    let E = c.requires in
-    omega (arith, c.if-hi-lo.false)
-
 pub enter_rows-requires : goal.enter_rows-requires
 enter_rows-requires t c =
     let a = c.args in

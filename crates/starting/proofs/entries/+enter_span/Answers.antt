@@ -40,12 +40,6 @@ returns-then-one-ne0 t c =
     let E = c.requires in
     λ s S. one_stop a.grain (a.lo + a.n0 * a.j) (row_cells a.n0 (between (a.lo + 1) a.hi) a.j) (span_step a.n0 a.j a.lo a.hi c.if-hi-lo.false) s (c.enter-one.ensures s S) c.if-one-ne0.true
 
-pub overflow_add-lo-2 : goal.overflow_add-lo-2
-overflow_add-lo-2 t c =
-    let a = c.args in
-    let E = c.requires in
-    omega (arith, c.if-hi-lo.false)
-
 pub enter_span-requires : goal.enter_span-requires
 enter_span-requires t c =
     let a = c.args in

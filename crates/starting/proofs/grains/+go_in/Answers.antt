@@ -15,23 +15,11 @@ returns-then-i-z t c =
     let G = c.requires.0 in
     λ s S. each-end (goes_in (inputs_of a.z.grains a.inputs.now)) s (InBoth a.z a.domain _ _) a.z.grains a.i c.if-i-z.true S
 
-pub goes_in-one-requires : goal.goes_in-one-requires
-goes_in-one-requires t c =
-    let a = c.args in
-    let G = c.requires.0 in
-    (G, omega (arith, c.requires.1, c.if-i-z.false))
-
 pub returns-then-one-ne0 : goal.returns-then-one-ne0
 returns-then-one-ne0 t c =
     let a = c.args in
     let G = c.requires.0 in
     λ s S. each-stop (goes_in (inputs_of a.z.grains a.inputs.now)) s (InBoth a.z a.domain _ _) a.z.grains a.i (let h : a.i < a.z.grains = omega (arith, c.requires.1, c.if-i-z.false) in h) (c.goes_in-one.ensures s S) c.if-one-ne0.true
-
-pub overflow_add-i : goal.overflow_add-i
-overflow_add-i t c =
-    let a = c.args in
-    let G = c.requires.0 in
-    omega (arith, c.requires.1, c.if-i-z.false, G.ranged.grains_most)
 
 pub go_in-requires : goal.go_in-requires
 go_in-requires t c =

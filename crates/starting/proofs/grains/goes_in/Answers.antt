@@ -6,18 +6,6 @@ use Rattle.tables.specs.Inputs.{inputs_of}
 use native.Mathlib.Omega.{arith}
 use Rattle.starting.proofs.grains.goes_in.Goals as goal
 
-pub get_input-p-requires : goal.get_input-p-requires
-get_input-p-requires c =
-    let a = c.args in
-    let G = c.requires.0 in
-    (G.inputs_long, c.requires.1, G.ranged.grains_most)
-
-pub store-stored-requires : goal.store-stored-requires
-store-stored-requires c =
-    let a = c.args in
-    let G = c.requires.0 in
-    ((G.held.0, G.held.1.grains), G.ranged, c.requires.1)
-
 pub returns-then-stored-ne0 : goal.returns-then-stored-ne0
 returns-then-stored-ne0 c =
     let a = c.args in

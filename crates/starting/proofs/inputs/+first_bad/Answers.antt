@@ -14,43 +14,10 @@ returns-then-n-eq0 t c =
     let a = c.args in
     bad-none a.domain a.n a.inputs.now c.if-n-eq0.true
 
-pub read_input-requires : goal.read_input-requires
-read_input-requires t c =
-    let a = c.args in
-    (less_rows a.n input_wide (length a.inputs.now) c.if-n-eq0.false c.requires).0
-
 pub returns-then-not-grain_ok : goal.returns-then-not-grain_ok
 returns-then-not-grain_ok t c =
     let a = c.args in
     bad-first a.domain a.n a.inputs.now c.if-n-eq0.false (sym (c.grain_ok.ensures ∙ ap (grain_ok a.domain) c.read_input.ensures) ∙ c.if-not-grain_ok.true)
-
-pub slice_bounds-first_bad-count : goal.slice_bounds-first_bad-count
-slice_bounds-first_bad-count t c =
-    let a = c.args in
-    let h = (less_rows a.n input_wide (length a.inputs.now) c.if-n-eq0.false c.requires).0 in
-    omega arith
-
-pub slice_bounds-first_bad-start : goal.slice_bounds-first_bad-start
-slice_bounds-first_bad-start t c =
-    let a = c.args in
-    let h = (less_rows a.n input_wide (length a.inputs.now) c.if-n-eq0.false c.requires).0 in
-    omega arith
-
-pub slice_bounds-first_bad-end : goal.slice_bounds-first_bad-end
-slice_bounds-first_bad-end t c =
-    let a = c.args in
-    let h = (less_rows a.n input_wide (length a.inputs.now) c.if-n-eq0.false c.requires).0 in
-    omega arith
-
-pub overflow_sub-n : goal.overflow_sub-n
-overflow_sub-n t c =
-    let a = c.args in
-    omega (arith, c.if-n-eq0.false)
-
-pub first_bad-requires : goal.first_bad-requires
-first_bad-requires t c =
-    let a = c.args in
-    (omega (arith, c.decreases, c.if-n-eq0.false), rest_long a.n input_wide a.inputs.now c.if-n-eq0.false c.requires)
 
 pub overflow_add-result : goal.overflow_add-result
 overflow_add-result t c =
