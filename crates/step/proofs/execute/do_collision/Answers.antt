@@ -3,11 +3,6 @@ use Rattle.step.proofs.Does.{after}
 use mathlib.Core.Path.{◌∙◌}
 use Rattle.step.proofs.execute.do_collision.Goals as goal
 
-pub store_both-r-requires : goal.store_both-r-requires
-store_both-r-requires c =
-    let o = c.requires.0 in
-    ((o.0, o.1.seen.grained), o.1.seen.queued.ranged, c.requires.2, c.requires.3)
-
 pub returns-then-r-ne0 : goal.returns-then-r-ne0
 returns-then-r-ne0 c =
     let a = c.args in

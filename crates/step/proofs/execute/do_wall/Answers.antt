@@ -3,11 +3,6 @@ use Rattle.step.proofs.Does.{after}
 use mathlib.Core.Path.{◌∙◌}
 use Rattle.step.proofs.execute.do_wall.Goals as goal
 
-pub store-r-requires : goal.store-r-requires
-store-r-requires c =
-    let o = c.requires.0 in
-    ((o.0, o.1.seen.grained), o.1.seen.queued.ranged, c.requires.2)
-
 pub returns-then-r-ne0 : goal.returns-then-r-ne0
 returns-then-r-ne0 c =
     let a = c.args in

@@ -3,10 +3,6 @@ use Rattle.model.specs.Doing.{forget}
 use mathlib.Core.Path.{◌∙◌}
 use Rattle.step.proofs.execute.forget_both.Goals as goal
 
-pub forget-r-requires : goal.forget-r-requires
-forget-r-requires c =
-    (c.requires.0, c.requires.1)
-
 pub returns-then-r-ne0 : goal.returns-then-r-ne0
 returns-then-r-ne0 c =
     let a = c.args in

@@ -3,10 +3,6 @@ use Rattle.step.proofs.Does.{does_stop, does_on}
 use Rattle.model.specs.Acts.{store}
 use Rattle.step.proofs.execute.store_both.Goals as goal
 
-pub store-r-requires : goal.store-r-requires
-store-r-requires c =
-    (c.requires.0, c.requires.1, c.requires.2)
-
 pub returns-then-r-ne0 : goal.returns-then-r-ne0
 returns-then-r-ne0 c =
     let a = c.args in

@@ -7,20 +7,10 @@ use Rattle.step.proofs.Does.{after}
 use native.Mathlib.Omega.{arith}
 use Rattle.step.proofs.init.init_cell.Goals as goal
 
-pub sync_in-r-requires : goal.sync_in-r-requires
-sync_in-r-requires c =
-    let o = c.requires.0 in
-    ((o.0, o.1.seen.queued), c.requires.2)
-
 pub returns-then-r-ne0 : goal.returns-then-r-ne0
 returns-then-r-ne0 c =
     let a = c.args in
     init_first a.cell c.if-r-ne0.true (sync_held a.cell c.sync_in-r.ensures)
-
-pub members_of-m-requires : goal.members_of-m-requires
-members_of-m-requires c =
-    let o = c.requires.0 in
-    ((o.0, o.1.listed), o.1.seen.queued.ranged, c.requires.2)
 
 pub new-c-requires : goal.new-c-requires
 new-c-requires c =

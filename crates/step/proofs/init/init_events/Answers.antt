@@ -3,10 +3,6 @@ use Rattle.model.specs.Doing.{init_cell}
 use native.Mathlib.Omega.{arith}
 use Rattle.step.proofs.init.init_events.Goals as goal
 
-pub init_from-requires : goal.init_from-requires
-init_from-requires c =
-    (c.requires.0, c.requires.1, omega arith)
-
 pub returns : goal.returns
 returns c =
     let a = c.args in

@@ -9,10 +9,6 @@ returns-then-cell-ne0 c =
     let a = c.args in
     sync_none a.cell c.if-cell-ne0.true
 
-pub insert-requires : goal.insert-requires
-insert-requires c =
-    (c.requires.0, omega arith)
-
 pub returns : goal.returns
 returns c =
     let a = c.args in

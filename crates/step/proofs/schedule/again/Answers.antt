@@ -2,11 +2,6 @@ use Rattle.step.proofs.Scheduling.{again_does}
 use Rattle.step.proofs.Leaves.{homes_below}
 use Rattle.step.proofs.schedule.again.Goals as goal
 
-pub cells_of-h-requires : goal.cells_of-h-requires
-cells_of-h-requires c =
-    let o = c.requires.0 in
-    ((o.0, o.1.listed), o.1.seen.queued.ranged, c.requires.2)
-
 pub schedule_each-requires : goal.schedule_each-requires
 schedule_each-requires c =
     let a = c.args in

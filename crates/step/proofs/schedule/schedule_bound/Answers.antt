@@ -12,24 +12,11 @@ get_grain-a-requires c =
     let o = c.requires.0 in
     grain_fits o.1.grained o.1.queued.ranged a.p c.requires.2
 
-pub plan_bound-requires : goal.plan_bound-requires
-plan_bound-requires c =
-    c.requires.1.is
-
-pub put-r-requires : goal.put-r-requires
-put-r-requires c =
-    let o = c.requires.0 in
-    ((o.0, o.1.queued), c.requires.1.inside)
-
 pub returns-then-r-ne0 : goal.returns-then-r-ne0
 returns-then-r-ne0 c =
     let a = c.args in
     both_stop (schedule_by (finder a.kind) a.cell.index a.p) c.if-r-ne0.true
     (bound_does (finder a.kind) 0 a.cell.index a.p c.plan_bound.result c.plan_bound.ensures c.get_grain-a.ensures c.put-r.ensures)
-
-pub plan_bound-requires-2 : goal.plan_bound-requires-2
-plan_bound-requires-2 c =
-    c.requires.1.is
 
 pub put-requires : goal.put-requires
 put-requires c =

@@ -3,10 +3,6 @@ use Rattle.step.proofs.Does.{after}
 use mathlib.Core.Path.{◌∙◌}
 use Rattle.step.proofs.schedule.schedule_bounds.Goals as goal
 
-pub schedule_bound-r-requires : goal.schedule_bound-r-requires
-schedule_bound-r-requires c =
-    (c.requires.0, c.requires.1, c.requires.2)
-
 pub returns-then-r-ne0 : goal.returns-then-r-ne0
 returns-then-r-ne0 c =
     let a = c.args in

@@ -20,15 +20,6 @@ get_grain-b-requires c =
     let o = c.requires.0 in
     grain_fits o.1.grained o.1.queued.ranged a.q c.requires.3
 
-pub schedule-plan-requires : goal.schedule-plan-requires
-schedule-plan-requires c =
-    c.requires.1.is
-
-pub put-requires : goal.put-requires
-put-requires c =
-    let o = c.requires.0 in
-    ((o.0, o.1.queued), c.requires.1.inside)
-
 pub returns : goal.returns
 returns c =
     let a = c.args in

@@ -4,11 +4,6 @@ use Rattle.step.proofs.Leaves.{members_below}
 use Rattle.step.proofs.Does.{after}
 use Rattle.step.proofs.schedule.schedule_events.Goals as goal
 
-pub members_of-m-requires : goal.members_of-m-requires
-members_of-m-requires c =
-    let o = c.requires.0 in
-    ((o.0, o.1.listed), o.1.seen.queued.ranged, c.requires.3)
-
 pub step_others-r-requires : goal.step_others-r-requires
 step_others-r-requires c =
     let a = c.args in
