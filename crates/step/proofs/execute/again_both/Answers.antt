@@ -3,10 +3,6 @@ use Rattle.model.specs.Doing.{again}
 use mathlib.Core.Path.{◌∙◌}
 use Rattle.step.proofs.execute.again_both.Goals as goal
 
-pub again-r-requires : goal.again-r-requires
-again-r-requires c =
-    (c.requires.0, c.requires.1, c.requires.2)
-
 pub returns-then-r-ne0 : goal.returns-then-r-ne0
 returns-then-r-ne0 c =
     let a = c.args in

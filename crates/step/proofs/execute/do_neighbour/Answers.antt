@@ -3,20 +3,10 @@ use Rattle.step.proofs.Does.{after}
 use mathlib.Core.Path.{◌∙◌}
 use Rattle.step.proofs.execute.do_neighbour.Goals as goal
 
-pub land-r-requires : goal.land-r-requires
-land-r-requires c =
-    let o = c.requires.0 in
-    ((o.0, o.1.seen.grained), o.1.seen.queued.ranged, c.requires.2)
-
 pub returns-then-r-ne0 : goal.returns-then-r-ne0
 returns-then-r-ne0 c =
     let a = c.args in
     neighbour_first a.p a.pos a.cell c.if-r-ne0.true (land_does a.p a.pos c.land-r.ensures)
-
-pub enter-r-requires : goal.enter-r-requires
-enter-r-requires c =
-    let o = c.requires.0 in
-    ((o.0, o.1.listed), o.1.seen.queued.ranged, c.requires.2, c.requires.3)
 
 pub returns-then-r-ne0-2 : goal.returns-then-r-ne0-2
 returns-then-r-ne0-2 c =

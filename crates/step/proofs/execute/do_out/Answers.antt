@@ -2,11 +2,6 @@ use Rattle.step.proofs.Executions.{land_pair, cancel_pair, leave_does, without_p
 use Rattle.step.proofs.Does.{after}
 use Rattle.step.proofs.execute.do_out.Goals as goal
 
-pub land-r-requires : goal.land-r-requires
-land-r-requires c =
-    let o = c.requires.0 in
-    ((o.0, o.1.0.seen.grained), o.1.0.seen.queued.ranged, c.requires.1)
-
 pub returns-then-r-ne0 : goal.returns-then-r-ne0
 returns-then-r-ne0 c =
     let a = c.args in
@@ -22,11 +17,6 @@ pub returns-then-r-ne0-2 : goal.returns-then-r-ne0-2
 returns-then-r-ne0-2 c =
     let a = c.args in
     out_second a.p a.pos a.cell c.if-r-ne0.false c.if-r-ne0-2.true (land_pair a.p a.pos a.cell c.land-r.ensures) (without_pair (cancel_pair a.p a.cell c.cancel-r.ensures))
-
-pub leave-requires : goal.leave-requires
-leave-requires c =
-    let o = c.requires.0 in
-    ((o.0, o.1.0.listed, o.1.1), o.1.0.seen.queued.ranged, c.requires.1, c.requires.2)
 
 pub returns : goal.returns
 returns c =

@@ -9,11 +9,6 @@ use lib.ListN.{length}
 use mathlib.Core.Path.{ap, ◌∙◌}
 use Rattle.step.proofs.execute.do_sync.Goals as goal
 
-pub step_all-r-requires : goal.step_all-r-requires
-step_all-r-requires c =
-    let o = c.requires.0 in
-    ((o.0, o.1.grained), o.1.queued.ranged)
-
 pub returns-then-r-ne0 : goal.returns-then-r-ne0
 returns-then-r-ne0 c =
     let a = c.args in

@@ -3,11 +3,6 @@ use Rattle.step.proofs.Scheduling.{forget_does}
 use Rattle.step.proofs.Leaves.{homes_below}
 use Rattle.step.proofs.execute.forget.Goals as goal
 
-pub cells_of-h-requires : goal.cells_of-h-requires
-cells_of-h-requires c =
-    let o = c.requires.0 in
-    ((o.0, o.1.listed), o.1.queued.ranged, c.requires.1)
-
 pub cancel_each-requires : goal.cancel_each-requires
 cancel_each-requires c =
     let a = c.args in

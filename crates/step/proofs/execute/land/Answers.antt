@@ -8,10 +8,6 @@ get_grain-a-requires c =
     let o = c.requires.0 in
     grain_fits o.1 c.requires.1 a.p c.requires.2
 
-pub store-requires : goal.store-requires
-store-requires c =
-    (c.requires.0, c.requires.1, c.requires.2)
-
 pub returns : goal.returns
 returns c =
     let a = c.args in

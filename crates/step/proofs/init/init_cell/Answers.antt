@@ -12,11 +12,6 @@ returns-then-r-ne0 c =
     let a = c.args in
     init_first a.cell c.if-r-ne0.true (sync_held a.cell c.sync_in-r.ensures)
 
-pub new-c-requires : goal.new-c-requires
-new-c-requires c =
-    let k = c.requires.2 in
-    (c.requires.1.laid, rw c.requires.1.cells_are k)
-
 pub pairs-r-requires : goal.pairs-r-requires
 pairs-r-requires c =
     let a = c.args in

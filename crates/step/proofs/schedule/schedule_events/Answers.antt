@@ -15,11 +15,6 @@ returns-then-r-ne0 c =
     let a = c.args in
     events_stop a.p a.cell _ (λ s h. c.members_of-m.ensures.2 s h.listed) c.if-r-ne0.true (others_held a.p _ c.step_others-r.ensures)
 
-pub new-c-requires : goal.new-c-requires
-new-c-requires c =
-    let k = c.requires.3 in
-    (c.requires.1.laid, rw c.requires.1.cells_are k)
-
 pub schedule_stepped-requires : goal.schedule_stepped-requires
 schedule_stepped-requires c =
     let a = c.args in

@@ -3,10 +3,6 @@ use Rattle.model.specs.Doing.{boundaries}
 use mathlib.Core.Path.{◌∙◌}
 use Rattle.step.proofs.schedule.schedule_stepped.Goals as goal
 
-pub schedule_collisions-r-requires : goal.schedule_collisions-r-requires
-schedule_collisions-r-requires c =
-    (c.requires.0, c.requires.1, c.requires.2, c.requires.3)
-
 pub returns-then-r-ne0 : goal.returns-then-r-ne0
 returns-then-r-ne0 c =
     let a = c.args in
