@@ -6,7 +6,7 @@
 --   order   the heap's bytes, then the lookups'
 -- How wide each is, is layout's to say (Widths).
 -- Assumes nothing: these are definitions.
-use Rattle.std.specs.Prelude.{ℕ, ◌+◌, List, [], ◌∷◌, ◌++◌, length, Float}
+use Rattle.std.specs.Prelude.{ℕ, List, [], ◌∷◌, ◌++◌, length, Float}
 use Rattle.chunks.specs.Flat.{flat}
 use Rattle.scheduler.specs.declared.Scheduler.{Scheduler}
 use Rattle.model.specs.declared.Particle.{Particle}

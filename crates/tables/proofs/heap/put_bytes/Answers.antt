@@ -6,13 +6,13 @@ use borrow.Author.Rules.{rules}
 use Rattle.tables.proofs.heap.put_bytes.Goals as goal
 
 pub loop-i-preserved : goal.loop-i-preserved
-loop-i-preserved c = 
+loop-i-preserved c =
     let l = c.loop-i in
     let h : length c.args.a ≡ 256 = search rules in
     (omega arith, simp length-set l.invariant.1, copied_more l.i l.t c.args.a (omega arith) (omega arith) l.invariant.2)
 
 pub returns : goal.returns
-returns c = 
+returns c =
     let l = c.loop-i in
     let h : length c.args.a ≡ 256 = search rules in
     let e : l.i ≡ 256 = omega arith in

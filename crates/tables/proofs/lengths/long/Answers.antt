@@ -2,7 +2,7 @@ use borrow.Author.Tests.{le-leb, lt-leb}
 use Rattle.tables.proofs.lengths.long.Goals as goal
 
 pub returns-then-lists-need : goal.returns-then-lists-need
-returns-then-lists-need c = 
+returns-then-lists-need c =
     let e = c.needed-need.ensures in
     rw (lt-leb _ _ (rw e at c.if-lists-need.true))
 

@@ -5,4 +5,4 @@ use Rattle.tables.proofs.parts.events_part.Goals as goal
 
 pub overflow_add-result : goal.overflow_add-result
 overflow_add-result c =
- let a = c.args in omega (arith, end_most a.cell (events_wide a.z.room) (events_wide 256) c.requires.1 (omega (arith, c.requires.0)) c.events_from-from.ensures c.events_wide.ensures)
+    let a = c.args in omega (arith, end_most a.cell (events_wide a.z.room) (events_wide 256) c.requires.1 (omega (arith, c.requires.0)) c.events_from-from.ensures c.events_wide.ensures)

@@ -16,8 +16,8 @@ cancel-kept-requires c = all_asks c.requires.0 c.requires.1 c.requires.2
 
 pub bounds-nums-0-2 : goal.bounds-nums-0-2
 bounds-nums-0-2 c =
- count_back c.requires.0 c.requires.1 c.cancel-kept.new.nums c.cancel-kept.auto.nums
+    count_back c.requires.0 c.requires.1 c.cancel-kept.new.nums c.cancel-kept.auto.nums
 
 pub returns : goal.returns
 returns c =
- λ r R. row_without r R c.args.g c.cancel-kept.ensures.1
+    λ r R. row_without r R c.args.g c.cancel-kept.ensures.1

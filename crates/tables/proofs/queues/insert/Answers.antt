@@ -13,16 +13,16 @@ slice_bounds-insert-start c = count_there c.requires.0 c.requires.1
 
 pub insert-requires : goal.insert-requires
 insert-requires c =
- more_asks c.requires.0 c.requires.1 _ (room_left c.requires.0 c.requires.1 c.requires.3) c.requires.2
+    more_asks c.requires.0 c.requires.1 _ (room_left c.requires.0 c.requires.1 c.requires.3) c.requires.2
 
 pub overflow_add-nums : goal.overflow_add-nums
 overflow_add-nums c =
- omega (arith, room_left c.requires.0 c.requires.1 c.requires.3, c.requires.2)
+    omega (arith, room_left c.requires.0 c.requires.1 c.requires.3, c.requires.2)
 
 pub bounds-nums-0-2 : goal.bounds-nums-0-2
 bounds-nums-0-2 c =
- count_back c.requires.0 c.requires.1 c.insert.new.nums c.insert.auto.nums
+    count_back c.requires.0 c.requires.1 c.insert.new.nums c.insert.auto.nums
 
 pub returns : goal.returns
 returns c =
- λ r R. row_placed r R c.args.e (more_asks c.requires.0 c.requires.1 _ (room_left c.requires.0 c.requires.1 c.requires.3) c.requires.2).2 c.insert.ensures
+    λ r R. row_placed r R c.args.e (more_asks c.requires.0 c.requires.1 _ (room_left c.requires.0 c.requires.1 c.requires.3) c.requires.2).2 c.insert.ensures
