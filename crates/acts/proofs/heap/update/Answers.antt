@@ -45,8 +45,7 @@ returns c =
     let t = a.order.now in
     let h = head_in a.events.now a.queue.now a.z.room in
     let s = scheduler_of a.z.cells t in
-    let is : (A : Type 0) (f : Scheduler → Head → A) → f c.load-s.result c.head_time-after.result ≡ f s (h a.cell) = λ A f. rw (c.load-s.ensures, c.head_time-after.ensures) refl in
- (
+    let is : (A : Type 0) (f : Scheduler → Head → A) → f c.load-s.result c.head_time-after.result ≡ f s (h a.cell) = λ A f. rw (c.load-s.ensures, c.head_time-after.ensures) refl in (
       c.store.ensures ∙ ap order_bytes (c.update-swaps.ensures.0 ∙ is Scheduler (λ x y. updated h x a.cell a.before y)),
       c.update-swaps.ensures.1 ∙ is ℕ (λ x y. update_swaps h x a.cell a.before y),
     )

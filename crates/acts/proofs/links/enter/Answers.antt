@@ -4,7 +4,7 @@ use mathlib.Core.Path.{subst}
 use lib.ListN.{get_or}
 use Rattle.layout.specs.Widths.{home_room, member_room}
 use Rattle.model.specs.State.{none}
-use Rattle.tables.proofs.ListLaws.{Within, home-in, member-in, member-part}
+use Rattle.tables.proofs.ListLaws.{home-in, member-in, member-part}
 use Rattle.acts.proofs.LinkLaws.{member_more, home_more, enter_listed, enter_full, enter_crowded, enter_done}
 use native.Mathlib.Omega.{arith}
 use Rattle.acts.proofs.links.enter.Goals as goal

@@ -1,7 +1,7 @@
 use borrow.Rule.Slice.PartMut.{mid_len}
 use Prim.Native.Nat.{◌<◌, ◌≤◌}
 use mathlib.Core.Path.{subst}
-use Rattle.tables.proofs.ListLaws.{Within, home-in, member-in}
+use Rattle.tables.proofs.ListLaws.{home-in, member-in}
 use Rattle.acts.proofs.LinkLaws.{member_there, home_there, leave_refused, leave_done}
 use native.Mathlib.Omega.{arith}
 use Rattle.acts.proofs.links.leave.Goals as goal

@@ -1,6 +1,4 @@
 use Rattle.acts.proofs.Queues.{row_asks, update_asks, cancel_asks, cancel_tables, cancel_done}
-use Prim.Native.Nat.{◌-◌}
-use native.Mathlib.Omega.{arith}
 use Rattle.acts.proofs.queue.cancel.Goals as goal
 
 pub row_of-a-requires : goal.row_of-a-requires

@@ -1,9 +1,6 @@
 use Rattle.acts.proofs.Queues.{row_asks, update_asks, count_there, insert_five, insert-six, insert-asks, insert-tables, insert-done}
-use Rattle.model.specs.Events.{fine_place}
 use mathlib.Core.Path.{subst, sym, ◌∙◌}
-use mathlib.Core.Bool.{true}
-use Prim.Native.Nat.{◌-◌, ◌<◌, ◌≤◌}
-use native.Mathlib.Omega.{arith}
+use Prim.Native.Nat.{◌<◌, ◌≤◌}
 use Rattle.acts.proofs.queue.insert.Goals as goal
 
 pub returns-then-not-fine_place : goal.returns-then-not-fine_place

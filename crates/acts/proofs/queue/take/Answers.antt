@@ -1,6 +1,4 @@
 use Rattle.acts.proofs.Queues.{row_asks, update_asks, take_asks, take_tables, take_done}
-use Prim.Native.Nat.{◌-◌}
-use native.Mathlib.Omega.{arith}
 use Rattle.acts.proofs.queue.take.Goals as goal
 
 pub row_of-a-requires : goal.row_of-a-requires

@@ -3,8 +3,7 @@ use Rattle.acts.proofs.Touch.{step_only, at_on}
 use Rattle.acts.proofs.InTurn.{each-end, each-stop, each_on}
 use Rattle.acts.specs.Tell.{InGrains}
 use Rattle.model.specs.Doing.{step_grain}
-use mathlib.Core.Path.{refl, ◌∙◌}
-use Prim.Native.Nat.{◌-◌}
+use mathlib.Core.Path.{refl}
 use native.Mathlib.Omega.{arith}
 use Rattle.acts.proofs.store.+step_from.Goals as goal
 
