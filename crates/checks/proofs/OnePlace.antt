@@ -41,7 +41,11 @@ module _ {xs : List Place} where
   syncs_step x ys e = rw e
 
 pub one_most : (e : Event) → one_if e ≤ 1
-one_most e = elim e [ InterParticleCollision p q x y v w k ↦ omega arith | MoveToNeighbour p x k ↦ omega arith | MoveOutOfCell p x k ↦ omega arith | WallReflection p x v w ↦ omega arith | Synchronisation ↦ omega arith ]
+one_most (InterParticleCollision p q x y v w k) = omega arith
+one_most (MoveToNeighbour p x k) = omega arith
+one_most (MoveOutOfCell p x k) = omega arith
+one_most (WallReflection p x v w) = omega arith
+one_most Synchronisation = omega arith
 
 pub syncs_most : (xs : List Place) → syncs xs ≤ length xs
 unfolding syncs

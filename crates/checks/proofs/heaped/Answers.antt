@@ -24,12 +24,11 @@ inverse-requires c =
 
 pub returns-then-not-inverse : goal.returns-then-not-inverse
 returns-then-not-inverse c =
-    let b = c in
-    let z = b.args.z in
-    let o = b.args.order.now in
-    let q = b.args.queue.now in
-    let e = b.args.events.now in
-    heaped_no (head_in e q z.room) z.cells (take heap_wide o) (take heap_wide (drop heap_wide o)) (sym c.inverse.ensures ∙ not-true _ c.if-not-inverse.true)
+    let z = c.args.z in
+    let o = c.args.order.now in
+    let q = c.args.queue.now in
+    let e = c.args.events.now in
+    heaped_no (head_in e q z.room) z.cells (take heap_wide o) (take heap_wide (drop heap_wide o)) (sym c.inverse.ensures ∙ c.if-not-inverse.true)
 
 pub slice_bounds-inverse-end-4 : goal.slice_bounds-inverse-end-4
 slice_bounds-inverse-end-4 c =
@@ -47,14 +46,11 @@ inverse-requires-2 c =
 
 pub returns-then-not-inverse-2 : goal.returns-then-not-inverse-2
 returns-then-not-inverse-2 c =
-    let c4 = c in
-    let c5 = c4.before in
-    let b = c5.before.before.before.before.before.before in
-    let z = b.args.z in
-    let o = b.args.order.now in
-    let q = b.args.queue.now in
-    let e = b.args.events.now in
-    heaped_no_2 (head_in e q z.room) z.cells (take heap_wide o) (take heap_wide (drop heap_wide o)) (sym c5.inverse.ensures ∙ not-false _ c4.if1.left) (sym c.inverse-2.ensures ∙ not-true _ c.if-not-inverse-2.true)
+    let z = c.args.z in
+    let o = c.args.order.now in
+    let q = c.args.queue.now in
+    let e = c.args.events.now in
+    heaped_no_2 (head_in e q z.room) z.cells (take heap_wide o) (take heap_wide (drop heap_wide o)) (sym c.inverse.ensures ∙ c.if-not-inverse.false) (sym c.inverse-2.ensures ∙ c.if-not-inverse-2.true)
 
 pub slice_bounds-ordered-end : goal.slice_bounds-ordered-end
 slice_bounds-ordered-end c =
@@ -72,12 +68,8 @@ ordered-requires c =
 
 pub returns : goal.returns
 returns c =
-    let c3 = c in
-    let c6 = c3.before.before.before in
-    let c7 = c6.before in
-    let b = c7.before.before.before.before.before.before in
-    let z = b.args.z in
-    let o = b.args.order.now in
-    let q = b.args.queue.now in
-    let e = b.args.events.now in
-    heaped_more (head_in e q z.room) z.cells (take heap_wide o) (take heap_wide (drop heap_wide o)) (sym c7.inverse.ensures ∙ not-false _ c6.if1.left) (sym c3.inverse2.ensures ∙ not-false _ c.if-not-inverse-2.false) c.ordered.ensures
+    let z = c.args.z in
+    let o = c.args.order.now in
+    let q = c.args.queue.now in
+    let e = c.args.events.now in
+    heaped_more (head_in e q z.room) z.cells (take heap_wide o) (take heap_wide (drop heap_wide o)) (sym c.inverse.ensures ∙ c.if-not-inverse.false) (sym c.inverse-2.ensures ∙ c.if-not-inverse-2.false) c.ordered.ensures

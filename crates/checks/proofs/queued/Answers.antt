@@ -1,3 +1,4 @@
+use borrow.Rule.Slice.PartMut.{mid_of}
 use mathlib.Core.Path.{sym, ap, ◌∙◌}
 use borrow.Author.Tests.{not-true, not-false}
 use Rattle.chunks.proofs.Laws.{tail_long, tail_is}
@@ -17,7 +18,7 @@ pub returns-then-not-queues_ok : goal.returns-then-not-queues_ok
 returns-then-not-queues_ok c =
     let z = c.args.z in
     let ms = rows_of member_room z.cells c.args.members.now in
-    queued_no c.args.clock z.room z.cells ms c.args.queue.now c.args.events.now (sym c.queues_ok.ensures ∙ not-true _ c.if-not-queues_ok.true)
+    queued_no c.args.clock z.room z.cells ms c.args.queue.now c.args.events.now (sym c.queues_ok.ensures ∙ c.if-not-queues_ok.true)
 
 pub count_of-k-requires : goal.count_of-k-requires
 count_of-k-requires c =
@@ -38,5 +39,5 @@ returns c =
     let q = c.args.queue.now in
     let e = c.args.events.now in
     let ms = rows_of member_room z.cells c.args.members.now in
-    queued_more c.args.clock z.room z.cells ms q e (let n = c.requires.5 in omega arith) c.requires.0.counts (sym c.queues_ok.ensures ∙ not-false _ c.if-not-queues_ok.false)
+    queued_more c.args.clock z.room z.cells ms q e (let n = c.requires.5 in omega arith) c.requires.0.counts (sym c.queues_ok.ensures ∙ c.if-not-queues_ok.false)
     (c.syncs.ensures e ∙ ap (λ (k : ℕ). syncs (places_of k (mid_of 1 (length q - 1) q) e)) c.count_of-k.ensures ∙ ap (λ (l : List ℕ). syncs (places_of (get_or q 0 0) l e)) (tail_is 1 q))

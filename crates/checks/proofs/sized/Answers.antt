@@ -11,14 +11,14 @@ returns-then-lists-lt-LISTS_HEAD c = rw (lt-leb _ _ c.if-lists-lt-LISTS_HEAD.tru
 pub returns-then-not-ranged : goal.returns-then-not-ranged
 returns-then-not-ranged c =
     let g = c.args in
-    sized_no g.lists.now g.grains g.queue g.events g.order c.if-lists-lt-LISTS_HEAD.false c.sizes_of-z.ensures (sym c.ranged.ensures ∙ not-true _ c.if-not-ranged.true)
+    sized_no g.lists.now g.grains g.queue g.events g.order c.if-lists-lt-LISTS_HEAD.false c.sizes_of-z.ensures (sym c.ranged.ensures ∙ c.if-not-ranged.true)
 
 pub long-requires : goal.long-requires
 long-requires c =
-    let m = ranged_means _ (sym c.ranged.ensures ∙ not-false _ c.if-not-ranged.false) in
+    let m = ranged_means _ (sym c.ranged.ensures ∙ c.if-not-ranged.false) in
     (m.0, m.2, m.4)
 
 pub returns : goal.returns
 returns c =
     let g = c.args in
-    sized_more g.lists.now g.grains g.queue g.events g.order c.if-lists-lt-LISTS_HEAD.false c.sizes_of-z.ensures (sym c.ranged.ensures ∙ not-false _ c.if-not-ranged.false) c.long.ensures
+    sized_more g.lists.now g.grains g.queue g.events g.order c.if-lists-lt-LISTS_HEAD.false c.sizes_of-z.ensures (sym c.ranged.ensures ∙ c.if-not-ranged.false) c.long.ensures

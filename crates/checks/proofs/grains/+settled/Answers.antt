@@ -18,36 +18,24 @@ returns-then-n-eq0 t c =
 
 pub returns-then-not-fine_grain : goal.returns-then-not-fine_grain
 returns-then-not-fine_grain t c =
-    let c2 = c in
-    let c4 = c2.before.before in
-    let b = c4.before.before in
-    let l = b.args.reals.now in
-    let n = b.args.n in
-    let d = less_rows n grain_wide (length l) c4.if1.left b.pre.1 in
-    let p = c2.read-grain in
-    all_no (timely b.args.t) _ _ (cut_step grain_at grain_wide n l c4.if1.left) (ap (timely b.args.t) (sym (p.ensures (grain_at l) (take_tab l nan grain_wide 0 d.0))) ∙ rw (sym c.fine_grain.ensures ∙ not-true _ c.if-not-fine_grain.true))
+    let l = c.args.reals.now in
+    let n = c.args.n in
+    let d = less_rows n grain_wide (length l) c.if-n-eq0.false c.requires in
+    let p = c.read_grain-p in
+    all_no (timely c.args.t) _ _ (cut_step grain_at grain_wide n l c.if-n-eq0.false) (ap (timely c.args.t) (sym (p.ensures (grain_at l) (take_tab l nan grain_wide 0 d.0))) ∙ rw (sym c.fine_grain.ensures ∙ c.if-not-fine_grain.true))
 
 pub returns-then-p-t : goal.returns-then-p-t
 returns-then-p-t t c =
-    let c4 = c in
-    let c5 = c4.before in
-    let c6 = c5.before in
-    let c8 = c6.before.before in
-    let b = c8.before.before in
-    let l = b.args.reals.now in
-    let n = b.args.n in
-    let d = less_rows n grain_wide (length l) c8.if1.left b.pre.1 in
-    let p = c6.read-grain in
-    all_more (timely b.args.t) _ _ (cut_step grain_at grain_wide n l c8.if1.left) (ap (timely b.args.t) (sym (p.ensures (grain_at l) (take_tab l nan grain_wide 0 d.0))) ∙ rw (sym c5.fine-grain.ensures ∙ not-false _ c4.if2.left, c.if-p-t.true)) c.settled.ensures
+    let l = c.args.reals.now in
+    let n = c.args.n in
+    let d = less_rows n grain_wide (length l) c.if-n-eq0.false c.requires in
+    let p = c.read_grain-p in
+    all_more (timely c.args.t) _ _ (cut_step grain_at grain_wide n l c.if-n-eq0.false) (ap (timely c.args.t) (sym (p.ensures (grain_at l) (take_tab l nan grain_wide 0 d.0))) ∙ rw (sym c.fine_grain.ensures ∙ c.if-not-fine_grain.false, c.if-p-t.true)) c.settled.ensures
 
 pub returns : goal.returns
 returns t c =
-    let c3 = c in
-    let c4 = c3.before in
-    let c6 = c4.before.before in
-    let b = c6.before.before in
-    let l = b.args.reals.now in
-    let n = b.args.n in
-    let d = less_rows n grain_wide (length l) c6.if1.left b.pre.1 in
-    let p = c4.read-grain in
-    all_no (timely b.args.t) _ _ (cut_step grain_at grain_wide n l c6.if1.left) (ap (timely b.args.t) (sym (p.ensures (grain_at l) (take_tab l nan grain_wide 0 d.0))) ∙ rw (sym c3.fine-grain.ensures ∙ not-false _ c.if-not-fine_grain.false, c.if-p-t.false))
+    let l = c.args.reals.now in
+    let n = c.args.n in
+    let d = less_rows n grain_wide (length l) c.if-n-eq0.false c.requires in
+    let p = c.read_grain-p in
+    all_no (timely c.args.t) _ _ (cut_step grain_at grain_wide n l c.if-n-eq0.false) (ap (timely c.args.t) (sym (p.ensures (grain_at l) (take_tab l nan grain_wide 0 d.0))) ∙ rw (sym c.fine_grain.ensures ∙ c.if-not-fine_grain.false, c.if-p-t.false))

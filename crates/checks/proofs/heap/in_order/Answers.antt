@@ -19,8 +19,7 @@ overflow_cast-heap c =
 
 pub head_time-child-requires : goal.head_time-child-requires
 head_time-child-requires c =
-    let c5 = c in
-    (c5.pre.2, omega (arith, c.shared_slice_known-1.given c5.args.i))
+    (c.requires.2, omega (arith, c.shared_slice_known-1.given c.args.i))
 
 pub overflow_cast-heap-2 : goal.overflow_cast-heap-2
 overflow_cast-heap-2 c =
@@ -32,22 +31,16 @@ head_time-parent-requires c =
 
 pub returns-then-earlier : goal.returns-then-earlier
 returns-then-earlier c =
-    let c3 = c in
-    let c5 = c3.before.before in
-    let b = c5.before.before.before.before in
-    let i = b.args.i in
-    let n = b.args.n in
-    let hp = b.args.heap.now in
-    let h = head_in b.args.events.now b.args.queue.now b.args.room in
-    order_no h hp n i b.pre.0 c5.if1.left c3.head-time.ensures c.head_time-parent.ensures (sym c.earlier.ensures ∙ c.if-earlier.true)
+    let i = c.args.i in
+    let n = c.args.n in
+    let hp = c.args.heap.now in
+    let h = head_in c.args.events.now c.args.queue.now c.args.room in
+    order_no h hp n i c.requires.0 c.if-i-eq0.false c.head_time-child.ensures c.head_time-parent.ensures (sym c.earlier.ensures ∙ c.if-earlier.true)
 
 pub returns : goal.returns
 returns c =
-    let c3 = c in
-    let c5 = c3.before.before in
-    let b = c5.before.before.before.before in
-    let i = b.args.i in
-    let n = b.args.n in
-    let hp = b.args.heap.now in
-    let h = head_in b.args.events.now b.args.queue.now b.args.room in
-    order_yes h hp n i b.pre.0 c5.if1.left c3.head-time.ensures c.head_time-parent.ensures (sym c.earlier.ensures ∙ c.if-earlier.false)
+    let i = c.args.i in
+    let n = c.args.n in
+    let hp = c.args.heap.now in
+    let h = head_in c.args.events.now c.args.queue.now c.args.room in
+    order_yes h hp n i c.requires.0 c.if-i-eq0.false c.head_time-child.ensures c.head_time-parent.ensures (sym c.earlier.ensures ∙ c.if-earlier.false)

@@ -12,20 +12,14 @@ loop-i-init c = (omega arith, rw sub-zero)
 
 pub returns-then-not-leads_back : goal.returns-then-not-leads_back
 returns-then-not-leads_back c =
-    let c2 = c in
-    let c3 = c2.before in
-    let c6 = c3.before.before.before in
-    let g = c6.args in
-    sym (failed (leads_back g.a.now g.b.now g.n) _ _ c2.loop-test.taken (sym c.leads_back.ensures ∙ not-true _ c.if-not-leads_back.true)) ∙ c3.loop.inv.1
+    let g = c.args in
+    sym (failed (leads_back g.a.now g.b.now g.n) _ _ c.loop-i-test.true (sym c.leads_back.ensures ∙ c.if-not-leads_back.true)) ∙ c.loop-i.invariant.1
 
 pub loop-i-preserved : goal.loop-i-preserved
 loop-i-preserved c =
-    let c2 = c in
-    let c3 = c2.before in
-    let c6 = c3.before.before.before in
-    let g = c6.args in
-    let h = c2.loop-test.taken in
-    (omega (arith, h), sym (passed (leads_back g.a.now g.b.now g.n) _ _ h (sym c.leads_back.ensures ∙ not-false _ c.if-not-leads_back.false)) ∙ c3.loop.inv.1)
+    let g = c.args in
+    let h = c.loop-i-test.true in
+    (omega (arith, h), sym (passed (leads_back g.a.now g.b.now g.n) _ _ h (sym c.leads_back.ensures ∙ c.if-not-leads_back.false)) ∙ c.loop-i.invariant.1)
 
 pub returns : goal.returns
 returns c =

@@ -13,23 +13,16 @@ loop-i-init c = (omega arith, rw sub-zero)
 
 pub returns-then-not-in_order : goal.returns-then-not-in_order
 returns-then-not-in_order c =
-    let c2 = c in
-    let c3 = c2.before in
-    let c7 = c3.before.before.before.before in
-    let g = c7.args in
-    sym (failed (in_order (head_in g.events.now g.queue.now g.room) g.heap.now g.n) _ _ c2.loop-test.taken (sym c.in_order.ensures ∙ not-true _ c.if-not-in_order.true)) ∙ c3.loop.inv.1
+    let g = c.args in
+    sym (failed (in_order (head_in g.events.now g.queue.now g.room) g.heap.now g.n) _ _ c.loop-i-test.true (sym c.in_order.ensures ∙ c.if-not-in_order.true)) ∙ c.loop-i.invariant.1
 
 pub loop-i-preserved : goal.loop-i-preserved
 loop-i-preserved c =
-    let c2 = c in
-    let c3 = c2.before in
-    let c7 = c3.before.before.before.before in
-    let g = c7.args in
-    let h = c2.loop-test.taken in
-    (omega (arith, h), sym (passed (in_order (head_in g.events.now g.queue.now g.room) g.heap.now g.n) _ _ h (sym c.in_order.ensures ∙ not-false _ c.if-not-in_order.false)) ∙ c3.loop.inv.1)
+    let g = c.args in
+    let h = c.loop-i-test.true in
+    (omega (arith, h), sym (passed (in_order (head_in g.events.now g.queue.now g.room) g.heap.now g.n) _ _ h (sym c.in_order.ensures ∙ c.if-not-in_order.false)) ∙ c.loop-i.invariant.1)
 
 pub returns : goal.returns
 returns c =
-    let c5 = c in
-    let g = c5.args in
+    let g = c.args in
     sym (ended (in_order (head_in g.events.now g.queue.now g.room) g.heap.now g.n) _ _ c.loop-i-test.false) ∙ c.loop-i.invariant.1

@@ -18,31 +18,20 @@ loop-left-init c = (search rules, search rules, λ r e. e)
 
 pub returns-then-not-held : goal.returns-then-not-held
 returns-then-not-held c =
-    let c2 = c in
-    let c3 = c2.before in
-    let c7 = c3.before.before.before.before in
-    let l = c3.loop in
-    let a = c7 in
-    l.inv.2 false (all_no (held a.args.n a.args.c (take a.args.k a.args.members.now)) _ _ (both_step place_at place_nums_wide place_reals_wide l.left l.places.now l.floats.now (some c2.loop-test.taken)) (sym c.held.ensures ∙ not-true _ c.if-not-held.true))
+    let l = c.loop-left in
+    l.invariant.2 false (all_no (held c.args.n c.args.c (take c.args.k c.args.members.now)) _ _ (both_step place_at place_nums_wide place_reals_wide l.left l.places.now l.floats.now (some c.loop-left-test.true)) (sym c.held.ensures ∙ c.if-not-held.true))
 
 pub loop-left-preserved : goal.loop-left-preserved
 loop-left-preserved c =
-    let c3 = c in
-    let c4 = c3.before in
-    let c5 = c4.before in
-    let c9 = c5.before.before.before.before in
-    let l = c5.loop in
-    let a = c9 in
-    let z = some c4.loop-test.taken in (
-      rest_long l.left place_nums_wide l.places.now z l.inv.0,
-      rest_long l.left place_reals_wide l.floats.now z l.inv.1,
-      λ r e. l.inv.2 r (all_more (held a.args.n a.args.c (take a.args.k a.args.members.now)) _ _
-          (both_step place_at place_nums_wide place_reals_wide l.left l.places.now l.floats.now z) (sym c3.held.ensures ∙ not-false _ c.if-not-held.false) e),
+    let l = c.loop-left in
+    let z = some c.loop-left-test.true in (
+      rest_long l.left place_nums_wide l.places.now z l.invariant.0,
+      rest_long l.left place_reals_wide l.floats.now z l.invariant.1,
+      λ r e. l.invariant.2 r (all_more (held c.args.n c.args.c (take c.args.k c.args.members.now)) _ _
+          (both_step place_at place_nums_wide place_reals_wide l.left l.places.now l.floats.now z) (sym c.held.ensures ∙ c.if-not-held.false) e),
     )
 
 pub returns : goal.returns
 returns c =
-    let c5 = c in
     let l = c.loop-left in
-    let a = c5 in
-    l.inv.2 true (all_none (held a.args.n a.args.c (take a.args.k a.args.members.now)) (both_none place_at place_nums_wide place_reals_wide l.left l.places.now l.floats.now (omega arith)))
+    l.invariant.2 true (all_none (held c.args.n c.args.c (take c.args.k c.args.members.now)) (both_none place_at place_nums_wide place_reals_wide l.left l.places.now l.floats.now (omega arith)))

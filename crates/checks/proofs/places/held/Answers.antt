@@ -1,3 +1,4 @@
+use mathlib.Core.List.{[]}
 use mathlib.Core.Path.{sym, ap, ◌∙◌}
 use lib.ListN.{take}
 use borrow.Author.Tests.{not-true, not-false}
@@ -11,19 +12,19 @@ returns-then-not-known_kind c =
     let a = c.args in
     let is = c.get_head-s.ensures (place_at a.nums.now a.reals.now) [] (place_run a.nums.now a.reals.now c.requires.0 c.requires.1) in
     let ms = take a.k a.members.now in
-    held_unknown a.n a.c ms is (sym c.known_kind.ensures ∙ not-true _ c.if-not-known_kind.true)
+    held_unknown a.n a.c ms is (sym c.known_kind.ensures ∙ c.if-not-known_kind.true)
 
 pub returns-then-not-fine_place : goal.returns-then-not-fine_place
 returns-then-not-fine_place c =
     let a = c.args in
     let is = c.get_head-s.ensures (place_at a.nums.now a.reals.now) [] (place_run a.nums.now a.reals.now c.requires.0 c.requires.1) in
     let ms = take a.k a.members.now in
-    held_unfine a.n a.c ms is (sym c.known_kind.ensures ∙ not-false _ c.if-not-known_kind.false) (sym c.fine_place.ensures ∙ not-true _ c.if-not-fine_place.true)
+    held_unfine a.n a.c ms is (sym c.known_kind.ensures ∙ c.if-not-known_kind.false) (sym c.fine_place.ensures ∙ c.if-not-fine_place.true)
 
 pub returns : goal.returns
 returns c =
     let a = c.args in
     let is = c.get_head-s.ensures (place_at a.nums.now a.reals.now) [] (place_run a.nums.now a.reals.now c.requires.0 c.requires.1) in
     let ms = take a.k a.members.now in
-    held_named a.n a.c ms is (sym c.known_kind.ensures ∙ not-false _ c.if-not-known_kind.false) (sym c.fine_place.ensures ∙ not-false _ c.if-not-fine_place.false)
+    held_named a.n a.c ms is (sym c.known_kind.ensures ∙ c.if-not-known_kind.false) (sym c.fine_place.ensures ∙ c.if-not-fine_place.false)
     (c.named.ensures ∙ ap (named a.n a.c ms) c.event_of.ensures)

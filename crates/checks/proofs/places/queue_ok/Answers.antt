@@ -1,3 +1,4 @@
+use borrow.Rule.Slice.PartMut.{mid_of}
 use borrow.Author.Tests.{not-true, not-false}
 use Rattle.checks.proofs.OnePlace.{queue_no, queue_more}
 use Rattle.checks.proofs.OneRow.{live_is}
@@ -20,7 +21,7 @@ pub returns-then-not-rising : goal.returns-then-not-rising
 returns-then-not-rising c =
     let a = c.args in
     queue_no a.room a.queue.now a.events.now c.requires.0 c.count_of-j.ensures a.t a.n a.c (row_at member_room a.members.now).live
-    (c.rising.ensures (mid_of 1 (length a.queue.now - 1) a.queue.now)) (not-true _ c.if-not-rising.true)
+    (c.rising.ensures (mid_of 1 (length a.queue.now - 1) a.queue.now)) c.if-not-rising.true
 
 pub count_of-k-requires : goal.count_of-k-requires
 count_of-k-requires c =
@@ -33,5 +34,5 @@ returns c =
     queue_more a.room a.queue.now a.events.now c.requires.0 c.count_of-j.ensures a.t a.n a.c (row_at member_room ms).live _
     (live_is member_room ms c.requires.3.count ∙ ap (λ (k : ℕ). take k (mid_of 1 (length ms - 1) ms)) (sym c.count_of-k.ensures))
     (c.rising.ensures (mid_of 1 (length a.queue.now - 1) a.queue.now))
-    (not-false _ c.if-not-rising.false)
+    c.if-not-rising.false
     c.all_held.ensures

@@ -28,119 +28,93 @@ overflow_mul-v c =
 
 pub queue_ok-requires : goal.queue_ok-requires
 queue_ok-requires c =
-    let c2 = c in
-    let c6 = c2.before.before.before.before in
-    let l = c2.loop in
-    let a = c6 in
-    let room = a.args.room in
+    let l = c.loop-left in
+    let room = c.args.room in
     let h = c.loop-left-test.true in
-    let g : l.at < a.args.n = (let s = l.inv.2 in omega (arith, h)) in
-    let f = rowed_first l.inv.0 (some h) in
-    let d = less_rows l.left (events_wide room) (length l.floats.now) (some h) l.inv.1 in
-    let k = rowed_in a.pre.3 l.at g in
-    (f.0, f.1, d.0, first_at a.pre.3 l.at g)
+    let g : l.at < c.args.n = (let s = l.invariant.2 in omega (arith, h)) in
+    let f = rowed_first l.invariant.0 (some h) in
+    let d = less_rows l.left (events_wide room) (length l.floats.now) (some h) l.invariant.1 in
+    let k = rowed_in c.requires.3 l.at g in
+    (f.0, f.1, d.0, first_at c.requires.3 l.at g)
 
 pub returns-then-not-queue_ok : goal.returns-then-not-queue_ok
 returns-then-not-queue_ok c =
-    let c3 = c in
-    let c4 = c3.before in
-    let c8 = c4.before.before.before.before in
-    let l = c4.loop in
-    let a = c8 in
-    let room = a.args.room in
-    let h = c3.loop-test.taken in
-    let g : l.at < a.args.n = (let s = l.inv.2 in omega (arith, h)) in
-    let f = rowed_first l.inv.0 (some h) in
-    let d = less_rows l.left (events_wide room) (length l.floats.now) (some h) l.inv.1 in
-    let k = rowed_in a.pre.3 l.at g in
-    l.inv.3 false (walk_no (λ i r. queue_ok a.args.t room a.args.n i (live_at (rows_of member_room a.args.n a.args.members.now) i) r) l.at _ _
+    let l = c.loop-left in
+    let room = c.args.room in
+    let h = c.loop-left-test.true in
+    let g : l.at < c.args.n = (let s = l.invariant.2 in omega (arith, h)) in
+    let f = rowed_first l.invariant.0 (some h) in
+    let d = less_rows l.left (events_wide room) (length l.floats.now) (some h) l.invariant.1 in
+    let k = rowed_in c.requires.3 l.at g in
+    l.invariant.3 false (walk_no (λ i r. queue_ok c.args.t room c.args.n i (live_at (rows_of member_room c.args.n c.args.members.now) i) r) l.at _ _
     (both_step (queue_at room) (queue_wide room) (events_wide room) l.left l.rows.now l.floats.now (some h))
-    (ap (λ (r : Row ℕ). queue_ok a.args.t room a.args.n l.at r.live (queue_at room l.rows.now l.floats.now))
-    (row_in member_room a.args.n a.args.members.now l.at g) ∙ sym c.queue_ok.ensures ∙ not-true _ c.if-not-queue_ok.true))
+    (ap (λ (r : Row ℕ). queue_ok c.args.t room c.args.n l.at r.live (queue_at room l.rows.now l.floats.now))
+    (row_in member_room c.args.n c.args.members.now l.at g) ∙ sym c.queue_ok.ensures ∙ c.if-not-queue_ok.true))
 
 pub slice_bounds-rows-count : goal.slice_bounds-rows-count
 slice_bounds-rows-count c =
-    let c4 = c in
-    let c8 = c4.before.before.before.before in
-    let l = c4.loop in
-    let a = c8 in
-    let room = a.args.room in
+    let l = c.loop-left in
+    let room = c.args.room in
     let h = c.loop-left-test.true in
-    let g : l.at < a.args.n = (let s = l.inv.2 in omega (arith, h)) in
-    let f = rowed_first l.inv.0 (some h) in
-    let d = less_rows l.left (events_wide room) (length l.floats.now) (some h) l.inv.1 in
-    let k = rowed_in a.pre.3 l.at g in
-    omega (arith, a.pre.2)
+    let g : l.at < c.args.n = (let s = l.invariant.2 in omega (arith, h)) in
+    let f = rowed_first l.invariant.0 (some h) in
+    let d = less_rows l.left (events_wide room) (length l.floats.now) (some h) l.invariant.1 in
+    let k = rowed_in c.requires.3 l.at g in
+    omega (arith, c.requires.2)
 
 pub slice_bounds-rows-start : goal.slice_bounds-rows-start
 slice_bounds-rows-start c =
-    let c4 = c in
-    let c8 = c4.before.before.before.before in
-    let l = c4.loop in
-    let a = c8 in
-    let room = a.args.room in
+    let l = c.loop-left in
+    let room = c.args.room in
     let h = c.loop-left-test.true in
-    let g : l.at < a.args.n = (let s = l.inv.2 in omega (arith, h)) in
-    let f = rowed_first l.inv.0 (some h) in
-    let d = less_rows l.left (events_wide room) (length l.floats.now) (some h) l.inv.1 in
-    let k = rowed_in a.pre.3 l.at g in
-    omega (arith, a.pre.2)
+    let g : l.at < c.args.n = (let s = l.invariant.2 in omega (arith, h)) in
+    let f = rowed_first l.invariant.0 (some h) in
+    let d = less_rows l.left (events_wide room) (length l.floats.now) (some h) l.invariant.1 in
+    let k = rowed_in c.requires.3 l.at g in
+    omega (arith, c.requires.2)
 
 pub slice_bounds-floats-count : goal.slice_bounds-floats-count
 slice_bounds-floats-count c =
-    let c5 = c in
-    let c9 = c5.before.before.before.before in
-    let l = c5.loop in
-    let a = c9 in
-    let room = a.args.room in
+    let l = c.loop-left in
+    let room = c.args.room in
     let h = c.loop-left-test.true in
-    let g : l.at < a.args.n = (let s = l.inv.2 in omega (arith, h)) in
-    let f = rowed_first l.inv.0 (some h) in
-    let d = less_rows l.left (events_wide room) (length l.floats.now) (some h) l.inv.1 in
-    let k = rowed_in a.pre.3 l.at g in
-    omega (arith, a.pre.2)
+    let g : l.at < c.args.n = (let s = l.invariant.2 in omega (arith, h)) in
+    let f = rowed_first l.invariant.0 (some h) in
+    let d = less_rows l.left (events_wide room) (length l.floats.now) (some h) l.invariant.1 in
+    let k = rowed_in c.requires.3 l.at g in
+    omega (arith, c.requires.2)
 
 pub slice_bounds-floats-start : goal.slice_bounds-floats-start
 slice_bounds-floats-start c =
-    let c5 = c in
-    let c9 = c5.before.before.before.before in
-    let l = c5.loop in
-    let a = c9 in
-    let room = a.args.room in
+    let l = c.loop-left in
+    let room = c.args.room in
     let h = c.loop-left-test.true in
-    let g : l.at < a.args.n = (let s = l.inv.2 in omega (arith, h)) in
-    let f = rowed_first l.inv.0 (some h) in
-    let d = less_rows l.left (events_wide room) (length l.floats.now) (some h) l.inv.1 in
-    let k = rowed_in a.pre.3 l.at g in
-    omega (arith, a.pre.2)
+    let g : l.at < c.args.n = (let s = l.invariant.2 in omega (arith, h)) in
+    let f = rowed_first l.invariant.0 (some h) in
+    let d = less_rows l.left (events_wide room) (length l.floats.now) (some h) l.invariant.1 in
+    let k = rowed_in c.requires.3 l.at g in
+    omega (arith, c.requires.2)
 
 pub loop-left-preserved : goal.loop-left-preserved
 loop-left-preserved c =
-    let c3 = c in
-    let c5 = c3.before.before in
-    let c6 = c5.before in
-    let c10 = c6.before.before.before.before in
-    let l = c6.loop in
-    let a = c10 in
-    let room = a.args.room in
-    let h = c5.loop-test.taken in
-    let g : l.at < a.args.n = (let s = l.inv.2 in omega (arith, h)) in
-    let f = rowed_first l.inv.0 (some h) in
-    let d = less_rows l.left (events_wide room) (length l.floats.now) (some h) l.inv.1 in
-    let k = rowed_in a.pre.3 l.at g in (
-      rowed_rest l.inv.0 (some h),
-      rest_long l.left (events_wide room) l.floats.now (some h) l.inv.1,
-      (let s = l.inv.2 in omega (arith, h)),
-      λ r e. l.inv.3 r (walk_more (λ i r. queue_ok a.args.t room a.args.n i (live_at (rows_of member_room a.args.n a.args.members.now) i) r) l.at _ _
+    let l = c.loop-left in
+    let room = c.args.room in
+    let h = c.loop-left-test.true in
+    let g : l.at < c.args.n = (let s = l.invariant.2 in omega (arith, h)) in
+    let f = rowed_first l.invariant.0 (some h) in
+    let d = less_rows l.left (events_wide room) (length l.floats.now) (some h) l.invariant.1 in
+    let k = rowed_in c.requires.3 l.at g in (
+      rowed_rest l.invariant.0 (some h),
+      rest_long l.left (events_wide room) l.floats.now (some h) l.invariant.1,
+      (let s = l.invariant.2 in omega (arith, h)),
+      λ r e. l.invariant.3 r (walk_more (λ i r. queue_ok c.args.t room c.args.n i (live_at (rows_of member_room c.args.n c.args.members.now) i) r) l.at _ _
           (both_step (queue_at room) (queue_wide room) (events_wide room) l.left l.rows.now l.floats.now (some h))
-          (ap (λ (r : Row ℕ). queue_ok a.args.t room a.args.n l.at r.live (queue_at room l.rows.now l.floats.now))
-          (row_in member_room a.args.n a.args.members.now l.at g) ∙ sym c3.queue-ok.ensures ∙ not-false _ c.if-not-queue_ok.false) e),
+          (ap (λ (r : Row ℕ). queue_ok c.args.t room c.args.n l.at r.live (queue_at room l.rows.now l.floats.now))
+          (row_in member_room c.args.n c.args.members.now l.at g) ∙ sym c.queue_ok.ensures ∙ c.if-not-queue_ok.false) e),
     )
 
 pub returns : goal.returns
 returns c =
-    let c5 = c in
     let l = c.loop-left in
-    let a = c5 in
-    let room = a.args.room in
-    l.inv.3 true (walk_none (λ i r. queue_ok a.args.t room a.args.n i (live_at (rows_of member_room a.args.n a.args.members.now) i) r) l.at (both_none (queue_at room) (queue_wide room) (events_wide room) l.left l.rows.now l.floats.now (omega arith)))
+    let room = c.args.room in
+    l.invariant.3 true (walk_none (λ i r. queue_ok c.args.t room c.args.n i (live_at (rows_of member_room c.args.n c.args.members.now) i) r) l.at (both_none (queue_at room) (queue_wide room) (events_wide room) l.left l.rows.now l.floats.now (omega arith)))

@@ -1,3 +1,4 @@
+use borrow.Rule.Slice.PartMut.{mid_of}
 use mathlib.Core.Bool.{true, false}
 use Prim.Native.Nat.{◌-◌}
 use lib.ListN.{length}
@@ -17,8 +18,8 @@ pub loop-left-preserved : goal.loop-left-preserved
 loop-left-preserved c =
     let l = c.loop-left in
     let z = some c.loop-left-test.true in (
-      rest_long l.left place_reals_wide l.rest.now z l.inv.0,
-      λ r e. l.inv.1 r (λ q. rising_more l.from _ _ (both_step place_at place_nums_wide place_reals_wide l.left q l.rest.now z)
+      rest_long l.left place_reals_wide l.rest.now z l.invariant.0,
+      λ r e. l.invariant.1 r (λ q. rising_more l.from _ _ (both_step place_at place_nums_wide place_reals_wide l.left q l.rest.now z)
           (c.first_time-u.ensures q) c.if-from-u.true (e (mid_of place_nums_wide (length q - place_nums_wide) q))),
     )
 
@@ -26,9 +27,9 @@ pub returns-else-from-u : goal.returns-else-from-u
 returns-else-from-u c =
     let l = c.loop-left in
     let z = some c.loop-left-test.true in
-    l.inv.1 false (λ q. rising_no l.from _ _ (both_step place_at place_nums_wide place_reals_wide l.left q l.rest.now z) (c.first_time-u.ensures q) c.if-from-u.false)
+    l.invariant.1 false (λ q. rising_no l.from _ _ (both_step place_at place_nums_wide place_reals_wide l.left q l.rest.now z) (c.first_time-u.ensures q) c.if-from-u.false)
 
 pub returns : goal.returns
 returns c =
     let l = c.loop-left in
-    l.inv.1 true (λ q. rising_none l.from (both_none place_at place_nums_wide place_reals_wide l.left q l.rest.now (omega arith)))
+    l.invariant.1 true (λ q. rising_none l.from (both_none place_at place_nums_wide place_reals_wide l.left q l.rest.now (omega arith)))

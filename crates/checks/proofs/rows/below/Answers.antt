@@ -13,24 +13,19 @@ loop-left-init c = (search rules, λ r e. e)
 
 pub returns-then-n-rest : goal.returns-then-n-rest
 returns-then-n-rest c =
-    let c3 = c in
-    let c4 = c3.before in
-    let l = c3.loop in
-    let a = c4.args in
-    l.inv.1 false (all_no (λ x. ltb x a.n) _ _ (take_step l.left l.rest.now 0 (some c.loop-left-test.true) l.inv.0) (le-ltb _ _ c.if-n-rest.true))
+    let l = c.loop-left in
+    let a = c.args in
+    l.invariant.1 false (all_no (λ x. ltb x a.n) _ _ (take_step l.left l.rest.now 0 (some c.loop-left-test.true) l.invariant.0) (le-ltb _ _ c.if-n-rest.true))
 
 pub loop-left-preserved : goal.loop-left-preserved
 loop-left-preserved c =
-    let c3 = c in
-    let c4 = c3.before in
-    let c5 = c4.before in
-    let l = c4.loop in
-    let a = c5.args in
+    let l = c.loop-left in
+    let a = c.args in
     let e = tail_long 1 l.rest.now in
-    (omega arith, λ r e. l.inv.1 r (all_more (λ x. ltb x a.n) _ _ (take_step l.left l.rest.now 0 (some c3.loop-test.taken) l.inv.0) (lt-ltb _ _ c.if-n-rest.false) e))
+    (omega arith, λ r e. l.invariant.1 r (all_more (λ x. ltb x a.n) _ _ (take_step l.left l.rest.now 0 (some c.loop-left-test.true) l.invariant.0) (lt-ltb _ _ c.if-n-rest.false) e))
 
 pub returns : goal.returns
 returns c =
     let l = c.loop-left in
     let a = c.args in
-    l.inv.1 true (all_none (λ x. ltb x a.n) (take_none l.left l.rest.now (omega arith)))
+    l.invariant.1 true (all_none (λ x. ltb x a.n) (take_none l.left l.rest.now (omega arith)))

@@ -12,55 +12,40 @@ loop-left-init c = (search rules, search rules, λ r e. e)
 
 pub bounds-rest-0 : goal.bounds-rest-0
 bounds-rest-0 c =
-    let c2 = c in
-    let c3 = c2.before in
-    let l = c2.loop in
-    let a = c3 in
-    let d = less_rows l.left a.args.w (length l.rest.now) (some c.loop-left-test.true) l.inv.0 in
-    omega (arith, a.pre.0)
+    let l = c.loop-left in
+    let d = less_rows l.left c.args.w (length l.rest.now) (some c.loop-left-test.true) l.invariant.0 in
+    omega (arith, c.requires.0)
 
 pub returns-then-v-rest : goal.returns-then-v-rest
 returns-then-v-rest c =
     let l = c.loop-left in
-    l.inv.2 false (counted_no _ _ _ _ (some c.loop-left-test.true) c.if-v-rest.true)
+    l.invariant.2 false (counted_no _ _ _ _ (some c.loop-left-test.true) c.if-v-rest.true)
 
 pub offset_bounds-rest-w : goal.offset_bounds-rest-w
 offset_bounds-rest-w c =
-    let c3 = c in
-    let c4 = c3.before in
-    let l = c3.loop in
-    let a = c4 in
-    let d = less_rows l.left a.args.w (length l.rest.now) (some c.loop-left-test.true) l.inv.0 in
-    omega (arith, a.pre.0, l.inv.1)
+    let l = c.loop-left in
+    let d = less_rows l.left c.args.w (length l.rest.now) (some c.loop-left-test.true) l.invariant.0 in
+    omega (arith, c.requires.0, l.invariant.1)
 
 pub slice_bounds-rest-count : goal.slice_bounds-rest-count
 slice_bounds-rest-count c =
-    let c3 = c in
-    let c4 = c3.before in
-    let l = c3.loop in
-    let a = c4 in
-    let d = less_rows l.left a.args.w (length l.rest.now) (some c.loop-left-test.true) l.inv.0 in
-    omega (arith, a.pre.0)
+    let l = c.loop-left in
+    let d = less_rows l.left c.args.w (length l.rest.now) (some c.loop-left-test.true) l.invariant.0 in
+    omega (arith, c.requires.0)
 
 pub slice_bounds-rest-start : goal.slice_bounds-rest-start
 slice_bounds-rest-start c =
-    let c3 = c in
-    let c4 = c3.before in
-    let l = c3.loop in
-    let a = c4 in
-    let d = less_rows l.left a.args.w (length l.rest.now) (some c.loop-left-test.true) l.inv.0 in
-    omega (arith, a.pre.0)
+    let l = c.loop-left in
+    let d = less_rows l.left c.args.w (length l.rest.now) (some c.loop-left-test.true) l.invariant.0 in
+    omega (arith, c.requires.0)
 
 pub loop-left-preserved : goal.loop-left-preserved
 loop-left-preserved c =
-    let c3 = c in
-    let c4 = c3.before in
-    let c5 = c4.before in
-    let l = c4.loop in
-    let z = some c3.loop-test.taken in
-    (rest_long l.left _ l.rest.now z l.inv.0, (let e = tail_long c5.args.w l.rest.now in omega arith), λ r e. l.inv.2 r (counted_more _ _ l.left l.rest.now r z c.if-v-rest.false e))
+    let l = c.loop-left in
+    let z = some c.loop-left-test.true in
+    (rest_long l.left _ l.rest.now z l.invariant.0, (let e = tail_long c.args.w l.rest.now in omega arith), λ r e. l.invariant.2 r (counted_more _ _ l.left l.rest.now r z c.if-v-rest.false e))
 
 pub returns : goal.returns
 returns c =
     let l = c.loop-left in
-    l.inv.2 true (counted_none _ _ _ _ (omega arith))
+    l.invariant.2 true (counted_none _ _ _ _ (omega arith))

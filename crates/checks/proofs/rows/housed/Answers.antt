@@ -15,46 +15,32 @@ loop-left-init c = (search rules, λ r e. e)
 
 pub returns-then-rest-lt1 : goal.returns-then-rest-lt1
 returns-then-rest-lt1 c =
-    let c3 = c in
-    let c4 = c3.before in
-    let l = c3.loop in
-    let a = c4 in
-    let v = a.args.v in
-    let f = rowed_first l.inv.0 (some c.loop-left-test.true) in
-    l.inv.1 false (all_no isHoused _ _ (cut_step (row_at v) (v + 1) l.left l.rest.now (some c.loop-left-test.true)) (housed_no v l.rest.now f.0 c.if-rest-lt1.true))
+    let l = c.loop-left in
+    let v = c.args.v in
+    let f = rowed_first l.invariant.0 (some c.loop-left-test.true) in
+    l.invariant.1 false (all_no isHoused _ _ (cut_step (row_at v) (v + 1) l.left l.rest.now (some c.loop-left-test.true)) (housed_no v l.rest.now f.0 c.if-rest-lt1.true))
 
 pub slice_bounds-rest-count : goal.slice_bounds-rest-count
 slice_bounds-rest-count c =
-    let c3 = c in
-    let c4 = c3.before in
-    let l = c3.loop in
-    let a = c4 in
-    let f = rowed_first l.inv.0 (some c.loop-left-test.true) in
-    omega (arith, a.pre.1)
+    let l = c.loop-left in
+    let f = rowed_first l.invariant.0 (some c.loop-left-test.true) in
+    omega (arith, c.requires.1)
 
 pub slice_bounds-rest-start : goal.slice_bounds-rest-start
 slice_bounds-rest-start c =
-    let c3 = c in
-    let c4 = c3.before in
-    let l = c3.loop in
-    let a = c4 in
-    let f = rowed_first l.inv.0 (some c.loop-left-test.true) in
-    omega (arith, a.pre.1)
+    let l = c.loop-left in
+    let f = rowed_first l.invariant.0 (some c.loop-left-test.true) in
+    omega (arith, c.requires.1)
 
 pub loop-left-preserved : goal.loop-left-preserved
 loop-left-preserved c =
-    let c3 = c in
-    let c4 = c3.before in
-    let c5 = c4.before in
-    let l = c4.loop in
-    let a = c5 in
-    let v = a.args.v in
-    let f = rowed_first l.inv.0 (some c3.loop-test.taken) in
-    (rowed_rest l.inv.0 (some c3.loop-test.taken), λ r e. l.inv.1 r (all_more isHoused _ _ (cut_step (row_at v) (v + 1) l.left l.rest.now (some c3.loop-test.taken)) (housed_yes v l.rest.now f.0 f.1 c.if-rest-lt1.false) e))
+    let l = c.loop-left in
+    let v = c.args.v in
+    let f = rowed_first l.invariant.0 (some c.loop-left-test.true) in
+    (rowed_rest l.invariant.0 (some c.loop-left-test.true), λ r e. l.invariant.1 r (all_more isHoused _ _ (cut_step (row_at v) (v + 1) l.left l.rest.now (some c.loop-left-test.true)) (housed_yes v l.rest.now f.0 f.1 c.if-rest-lt1.false) e))
 
 pub returns : goal.returns
 returns c =
     let l = c.loop-left in
-    let a = c in
-    let v = a.args.v in
-    l.inv.1 true (all_none isHoused (cut_none (row_at v) (v + 1) l.left l.rest.now (omega arith)))
+    let v = c.args.v in
+    l.invariant.1 true (all_none isHoused (cut_none (row_at v) (v + 1) l.left l.rest.now (omega arith)))

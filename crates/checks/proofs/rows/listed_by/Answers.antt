@@ -15,27 +15,16 @@ loop-left-init c = (search rules, λ r e. e)
 
 pub returns-then-not-lists : goal.returns-then-not-lists
 returns-then-not-lists c =
-    let c3 = c in
-    let c4 = c3.before in
-    let c7 = c4.before.before.before in
-    let l = c4.loop in
-    let a = c7 in
-    l.inv.1 false (all_no (λ c. has a.args.x (live_at (rows_of a.args.v a.args.n a.args.others.now) c)) _ _ (take_step l.left l.rest.now 0 (some c3.loop-test.taken) l.inv.0) (sym c.lists.ensures ∙ not-true _ c.if-not-lists.true))
+    let l = c.loop-left in
+    l.invariant.1 false (all_no (λ k. has c.args.x (live_at (rows_of c.args.v c.args.n c.args.others.now) k)) _ _ (take_step l.left l.rest.now 0 (some c.loop-left-test.true) l.invariant.0) (sym c.lists.ensures ∙ c.if-not-lists.true))
 
 pub loop-left-preserved : goal.loop-left-preserved
 loop-left-preserved c =
-    let c2 = c in
-    let c4 = c2.before.before in
-    let c5 = c4.before in
-    let c8 = c5.before.before.before in
-    let l = c5.loop in
-    let a = c8 in
+    let l = c.loop-left in
     let e = tail_long 1 l.rest.now in
-    (omega arith, λ r e. l.inv.1 r (all_more (λ c. has a.args.x (live_at (rows_of a.args.v a.args.n a.args.others.now) c)) _ _ (take_step l.left l.rest.now 0 (some c4.loop-test.taken) l.inv.0) (sym c2.lists.ensures ∙ not-false _ c.if-not-lists.false) e))
+    (omega arith, λ r e. l.invariant.1 r (all_more (λ k. has c.args.x (live_at (rows_of c.args.v c.args.n c.args.others.now) k)) _ _ (take_step l.left l.rest.now 0 (some c.loop-left-test.true) l.invariant.0) (sym c.lists.ensures ∙ c.if-not-lists.false) e))
 
 pub returns : goal.returns
 returns c =
-    let c4 = c in
     let l = c.loop-left in
-    let a = c4 in
-    l.inv.1 true (all_none (λ c. has a.args.x (live_at (rows_of a.args.v a.args.n a.args.others.now) c)) (take_none l.left l.rest.now (omega arith)))
+    l.invariant.1 true (all_none (λ k. has c.args.x (live_at (rows_of c.args.v c.args.n c.args.others.now) k)) (take_none l.left l.rest.now (omega arith)))

@@ -41,18 +41,16 @@ slice_bounds-lists-end c =
 
 pub lists-requires : goal.lists-requires
 lists-requires c =
-    let b = c in
-    let l = b.args.rows.now in
-    let v = b.args.v in
-    let n = b.args.n in
-    let c' = b.args.c in
-    (get_or (rows_of v n l) c' none, row_part v n l c' b.pre.0 c.if-n-c.false)
+    let l = c.args.rows.now in
+    let v = c.args.v in
+    let n = c.args.n in
+    let c' = c.args.c in
+    (get_or (rows_of v n l) c' none, row_part v n l c' c.requires.0 c.if-n-c.false)
 
 pub returns : goal.returns
 returns c =
-    let b = c in
-    let l = b.args.rows.now in
-    let v = b.args.v in
-    let n = b.args.n in
-    let c' = b.args.c in
-    c.lists.ensures (get_or (rows_of v n l) c' none) (row_part v n l c' b.pre.0 c.if-n-c.false)
+    let l = c.args.rows.now in
+    let v = c.args.v in
+    let n = c.args.n in
+    let c' = c.args.c in
+    c.lists.ensures (get_or (rows_of v n l) c' none) (row_part v n l c' c.requires.0 c.if-n-c.false)
