@@ -7,10 +7,15 @@ use Rattle.fesolopi.proofs.Lengths.{none_needed_lem, laid, counts, few_cells, al
 use Rattle.fesolopi.proofs.fesolopi_needed.Goals as goal
 
 pub returns-then-refused-ne0 : goal.returns-then-refused-ne0
-returns-then-refused-ne0 c = let c = c.before.before.args in none_needed_lem (box_ok (boxed c.l0 c.l1 true true)) (counts_ok c.room c.count) _ _ c.before.refusal.ensures c.if1.true
+returns-then-refused-ne0 c =
+    let a = c.args in
+    none_needed_lem (box_ok (boxed a.l0 a.l1 true true)) (counts_ok a.room a.count) _ _ c.refusal-refused.ensures c.if-refused-ne0.true
 
 pub cells-requires : goal.cells-requires
-cells-requires c κs = let c = c.before.before.before.args in let r = c.before.before.refusal in grid_few _ _ (laid (boxed c.l0 c.l1 true true) c.count c.room r.result r.ensures c.before.if1.false c.new.result c.new.ensures)
+cells-requires c =
+    let a = c.args in
+    let r = c.refusal-refused in
+    grid_few _ _ (laid (boxed a.l0 a.l1 true true) a.count a.room r.result r.ensures c.if-refused-ne0.false c.new-grid.result c.new-grid.ensures)
 
 pub needed-need-requires : goal.needed-need-requires
 needed-need-requires c =
@@ -22,7 +27,11 @@ needed-need-requires c =
     (k.grains_most, few, k.room_most)
 
 pub overflow_mul-inputs : goal.overflow_mul-inputs
-overflow_mul-inputs c = let c = c.before.before.before.before.before.args in let r = c.before.before.before.before.refusal in let k = counts (boxed c.l0 c.l1 true true) c.count c.room r.result r.ensures c.before.before.before.if1.false in omega (arith, k.grains_most)
+overflow_mul-inputs c =
+    let a = c.args in
+    let r = c.refusal-refused in
+    let k = counts (boxed a.l0 a.l1 true true) a.count a.room r.result r.ensures c.if-refused-ne0.false in
+    omega (arith, k.grains_most)
 
 pub returns : goal.returns
 returns c =

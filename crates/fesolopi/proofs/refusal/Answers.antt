@@ -3,10 +3,10 @@ use borrow.Author.Tests.{not-true, not-false}
 use Rattle.fesolopi.proofs.refusal.Goals as goal
 
 pub returns-then-not-box_ok : goal.returns-then-not-box_ok
-returns-then-not-box_ok c = rw (sym c.box_ok.ensures ∙ not-true _ c.if-not-box_ok.true)
+returns-then-not-box_ok c = rw (sym c.box_ok.ensures ∙ c.if-not-box_ok.true)
 
 pub returns-then-not-counts_ok : goal.returns-then-not-counts_ok
-returns-then-not-counts_ok c = rw (sym c.box_ok.ensures ∙ not-false _ c.if-not-box_ok.false, sym c.counts_ok.ensures ∙ not-true _ c.if-not-counts_ok.true)
+returns-then-not-counts_ok c = rw (sym c.box_ok.ensures ∙ c.if-not-box_ok.false, sym c.counts_ok.ensures ∙ c.if-not-counts_ok.true)
 
 pub returns : goal.returns
-returns c = rw (sym c.box_ok.ensures ∙ not-false _ c.if-not-box_ok.false, sym c.counts_ok.ensures ∙ not-false _ c.if-not-counts_ok.false)
+returns c = rw (sym c.box_ok.ensures ∙ c.if-not-box_ok.false, sym c.counts_ok.ensures ∙ c.if-not-counts_ok.false)
