@@ -14,7 +14,7 @@ pub returns : goal.returns
 returns c =
     let f = c.square_root-found.ensures in
     record {
-      value = c.root_number.ensures ∙ ap number f.0;
-      root_after = c.root_value.ensures ∙ ap value f.0;
-      root_says = told _ _ _ _ f.1 c.root_number.ensures c.root_value.ensures;
+      value = c.root_number.ensures ∙ ap number f.value;
+      root_after = c.root_value.ensures ∙ ap value f.value;
+      root_says = told _ _ _ _ f.root_rule c.root_number.ensures c.root_value.ensures;
     }
