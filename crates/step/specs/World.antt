@@ -9,7 +9,7 @@ use Rattle.cell.specs.Cell.{Laid, IsCell}
 use Rattle.model.specs.declared.Event.{Event}
 use Rattle.model.specs.declared.Event.TheVariants.{InterParticleCollision, MoveToNeighbour, MoveOutOfCell, WallReflection, Synchronisation}
 use Rattle.model.specs.Grid.{cells}
-use Rattle.model.specs.State.{State, listed}
+use Rattle.model.specs.State.{State}
 use Rattle.tables.specs.declared.Sizes.{Sizes}
 use Rattle.tables.specs.Holds.{Grained, Listed, Queued}
 use Rattle.step.specs.declared.World.{World}

@@ -1,5 +1,4 @@
 use Rattle.model.proofs.Stands.{stands}
-use native.Mathlib.Omega.{arith}
 use mathlib.Core.Path.{ap, ◌∙◌}
 use Rattle.step.proofs.Steps.{order_some, root_is, root_in, root-some, taken_ready, step_says, step_sync}
 use Rattle.model.specs.Acts.{taken}

@@ -1,6 +1,5 @@
 use Rattle.step.proofs.Does.{after, does_stop, does_on}
 use Rattle.model.specs.Doing.{again}
-use mathlib.Core.Path.{◌∙◌}
 use Rattle.step.proofs.execute.again_both.Goals as goal
 
 pub returns-then-r-ne0 : goal.returns-then-r-ne0

@@ -1,6 +1,5 @@
 use Rattle.step.proofs.Executions.{stores_do, forgets_held, collision-first, collision-second, collision-third}
 use Rattle.step.proofs.Does.{after}
-use mathlib.Core.Path.{◌∙◌}
 use Rattle.step.proofs.execute.do_collision.Goals as goal
 
 pub returns-then-r-ne0 : goal.returns-then-r-ne0

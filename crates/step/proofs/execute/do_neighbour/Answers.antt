@@ -1,6 +1,5 @@
 use Rattle.step.proofs.Executions.{land_does, enter_does, neighbour_first, neighbour_second, neighbour_third}
 use Rattle.step.proofs.Does.{after}
-use mathlib.Core.Path.{◌∙◌}
 use Rattle.step.proofs.execute.do_neighbour.Goals as goal
 
 pub returns-then-r-ne0 : goal.returns-then-r-ne0

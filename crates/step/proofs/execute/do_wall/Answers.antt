@@ -1,6 +1,5 @@
 use Rattle.step.proofs.Executions.{store_does, forget_held, wall_first, wall_second, wall_third}
 use Rattle.step.proofs.Does.{after}
-use mathlib.Core.Path.{◌∙◌}
 use Rattle.step.proofs.execute.do_wall.Goals as goal
 
 pub returns-then-r-ne0 : goal.returns-then-r-ne0

@@ -1,7 +1,4 @@
 use Rattle.step.proofs.Executions.{as_collision, as_neighbour, as_out, as_wall, as_sync}
-use Rattle.step.specs.World.{Apt}
-use Rattle.model.specs.declared.Event.{Event}
-use mathlib.Core.Path.{subst}
 use Rattle.step.proofs.execute.execute.Goals as goal
 
 pub returns-in-InterParticleCollision : goal.returns-in-InterParticleCollision

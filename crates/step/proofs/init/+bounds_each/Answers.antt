@@ -1,4 +1,3 @@
-use mathlib.Core.Path.{◌∙◌}
 use Rattle.acts.proofs.InTurn.{all_tail, tail_less}
 use Rattle.step.proofs.Does.{list_none, list_stop, list_on, after}
 use Rattle.model.specs.Doing.{boundaries}

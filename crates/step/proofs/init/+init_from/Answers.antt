@@ -1,7 +1,5 @@
 use Rattle.step.proofs.Does.{range_none, range_stop, range_on, after, below_it}
 use Rattle.model.specs.Doing.{init_cell}
-use Prim.Native.Nat.{◌-◌}
-use mathlib.Core.Path.{◌∙◌}
 use native.Mathlib.Omega.{arith}
 use Rattle.step.proofs.init.+init_from.Goals as goal
 

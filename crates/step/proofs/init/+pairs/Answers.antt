@@ -1,4 +1,3 @@
-use mathlib.Core.Path.{◌∙◌}
 use Rattle.acts.proofs.InTurn.{all_tail, tail_less}
 use Rattle.step.proofs.Starting.{pairs_none, pairs_stop, pairs_on}
 use Rattle.step.proofs.Does.{after}

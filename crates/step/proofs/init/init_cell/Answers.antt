@@ -1,10 +1,8 @@
-use mathlib.Core.Path.{◌∙◌}
 use Rattle.step.proofs.Starting.{sync_held, pairs_held, bounds_held, init_first, init_second, init_third}
 use Rattle.cell.proofs.Laws.{index_cell}
 use Rattle.step.proofs.Scheduling.{made_cell}
 use Rattle.step.proofs.Leaves.{members_below}
 use Rattle.step.proofs.Does.{after}
-use native.Mathlib.Omega.{arith}
 use Rattle.step.proofs.init.init_cell.Goals as goal
 
 pub returns-then-r-ne0 : goal.returns-then-r-ne0

@@ -1,6 +1,5 @@
 use Rattle.step.proofs.Does.{range_all}
 use Rattle.model.specs.Doing.{init_cell}
-use native.Mathlib.Omega.{arith}
 use Rattle.step.proofs.init.init_events.Goals as goal
 
 pub returns : goal.returns

@@ -1,7 +1,6 @@
 use Rattle.step.proofs.Starting.{sync_none, sync_some}
 use Rattle.model.specs.Events.{place_of}
 use mathlib.Core.Path.{ap, ◌∙◌}
-use native.Mathlib.Omega.{arith}
 use Rattle.step.proofs.init.sync_in.Goals as goal
 
 pub returns-then-cell-ne0 : goal.returns-then-cell-ne0

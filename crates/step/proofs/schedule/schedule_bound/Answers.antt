@@ -3,7 +3,6 @@ use Rattle.step.proofs.Does.{after}
 use Rattle.model.specs.Rows.{finder}
 use Rattle.tables.proofs.GrainLaws.{grain_fits}
 use Rattle.model.specs.Doing.{schedule_by}
-use mathlib.Core.Path.{◌∙◌}
 use Rattle.step.proofs.schedule.schedule_bound.Goals as goal
 
 pub get_grain-a-requires : goal.get_grain-a-requires

@@ -1,6 +1,5 @@
 use Rattle.step.proofs.Scheduling.{bounds_first, bounds_second, bounds_third}
 use Rattle.step.proofs.Does.{after}
-use mathlib.Core.Path.{◌∙◌}
 use Rattle.step.proofs.schedule.schedule_bounds.Goals as goal
 
 pub returns-then-r-ne0 : goal.returns-then-r-ne0

@@ -1,6 +1,5 @@
 use Rattle.step.proofs.Does.{after, does_stop, does_on}
 use Rattle.model.specs.Doing.{boundaries}
-use mathlib.Core.Path.{◌∙◌}
 use Rattle.step.proofs.schedule.schedule_stepped.Goals as goal
 
 pub returns-then-r-ne0 : goal.returns-then-r-ne0
