@@ -1,17 +1,14 @@
+use mathlib.Core.Path.{ap}
+use mathlib.Core.Bool.{not}
 use Rattle.cell.proofs.Laws.{is_cell}
 use Rattle.leaves.proofs.Laws.{narrow, in_box}
 use Rattle.leaves.proofs.cell_of.Goals as goal
 
 pub cells-cells-requires : goal.cells-cells-requires
-cells-cells-requires c = narrow _ _ _ c.box_ok.ensures c.if-not-box_ok.false c.new-grid.ensures
+cells-cells-requires c = narrow _ _ _ c.box_ok.ensures (ap not c.if-not-box_ok.false) c.new-grid.ensures
 
 pub new-requires : goal.new-requires
-new-requires c =
-    let c1 = c in
-    let c2 = c1.before in
-    let c3 = c2.before in
-    let c4 = c3.before in
-    in_box _ _ _ _ _ c4.box-ok.ensures c3.if1.false c2.new.ensures c1.cells.ensures c.if-index-cells.true
+new-requires c = in_box _ _ _ _ _ c.box_ok.ensures (ap not c.if-not-box_ok.false) c.new-grid.ensures c.cells-cells.ensures c.if-index-cells.true
 
 pub returns-then-index-cells : goal.returns-then-index-cells
 returns-then-index-cells c = is_cell _ _ _ c.new.ensures

@@ -1,4 +1,3 @@
-use Prim.Native.Nat.{◌-◌}
 use native.Mathlib.Omega.{arith}
 use native.Mathlib.Nat.{mul-le-mul, mod-le, div-le_self}
 use Rattle.leaves.proofs.same_cells.Goals as goal
@@ -7,18 +6,10 @@ pub overflow_mul-across : goal.overflow_mul-across
 overflow_mul-across c = omega (arith, mul-le-mul c.many-across.ensures c.many.ensures)
 
 pub cell_at-requires : goal.cell_at-requires
-cell_at-requires c =
-    let c1 = c in
-    let c5 = c1.before.before.before.before in
-    let c6 = c5.before in
-    (c6.requires.0, omega (arith, mod-le c1.loop.k c5.many.result))
+cell_at-requires c = (c.requires.0, omega (arith, mod-le c.loop-k.k c.many-across.result))
 
 pub cell_at-requires-in-loop-k : goal.cell_at-requires-in-loop-k
-cell_at-requires-in-loop-k c =
-    let c2 = c in
-    let c6 = c2.before.before.before.before in
-    let c7 = c6.before in
-    (c7.requires.1, omega (arith, div-le_self c2.loop.k c6.many.result))
+cell_at-requires-in-loop-k c = (c.requires.1, omega (arith, div-le_self c.loop-k.k c.many-across.result))
 
 pub overflow_mul-cell : goal.overflow_mul-cell
 overflow_mul-cell c = omega (arith, mul-le-mul c.requires.2 c.cell_at-in-loop-k.ensures)
