@@ -1,7 +1,7 @@
 use Rattle.model.specs.Start.{begin}
-use Rattle.tables.specs.Decode.{Tables, tables}
+use Rattle.tables.specs.Decode.{tables}
 use Rattle.tables.specs.Inputs.{inputs_of}
-use Rattle.starting.proofs.BeginLaws.{few_cells, ends, begin-filling, begun}
+use Rattle.starting.proofs.BeginLaws.{few_cells, begin-filling, begun}
 use native.Mathlib.Omega.{arith}
 use Rattle.starting.proofs.begin.Goals as goal
 

@@ -1,8 +1,5 @@
 use Rattle.order.specs.Numbers.{fzero}
-use Prim.Native.Nat.{◌-◌}
-use mathlib.Core.Path.{refl}
 use native.Mathlib.Omega.{arith}
-use lib.ListN.{length-set}
 use Rattle.starting.proofs.Fills.{more, full}
 use Rattle.starting.proofs.clear.clear_floats.Goals as goal
 

@@ -1,7 +1,4 @@
-use Prim.Native.Nat.{◌-◌}
-use mathlib.Core.Path.{refl}
 use native.Mathlib.Omega.{arith}
-use lib.ListN.{length-set}
 use Rattle.starting.proofs.Fills.{more, full}
 use Rattle.starting.proofs.clear.clear_numbers.Goals as goal
 

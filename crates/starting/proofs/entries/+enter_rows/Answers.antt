@@ -1,5 +1,4 @@
-use Prim.Native.Nat.{◌+◌, ◌-◌}
-use mathlib.Core.Path.{◌∙◌}
+use Prim.Native.Nat.{◌+◌}
 use Rattle.halting.specs.Out.{each_of}
 use Rattle.particle.specs.Spans.{cells_in}
 use Rattle.model.specs.Acts.{enter}

@@ -1,5 +1,4 @@
-use Prim.Native.Nat.{◌+◌, ◌-◌, ◌*◌}
-use mathlib.Core.Path.{◌∙◌}
+use Prim.Native.Nat.{◌+◌, ◌*◌}
 use Rattle.model.specs.Acts.{enter}
 use Rattle.model.specs.FromPToC.{between}
 use Rattle.starting.proofs.EntryLaws.{span_none, span_step, entered_none, one_stop, one_on, enters_first, enters_rest}

@@ -1,4 +1,3 @@
-use mathlib.Core.Path.{◌∙◌}
 use Rattle.halting.specs.Out.{each_of}
 use Rattle.particle.specs.Spans.{cells_in}
 use Rattle.model.specs.Acts.{enter}

@@ -1,5 +1,3 @@
-use Prim.Native.Nat.{◌-◌}
-use mathlib.Core.Path.{◌∙◌}
 use Rattle.model.specs.Doing.{goes_in}
 use Rattle.acts.proofs.InTurn.{each-end, each-stop, each_on}
 use Rattle.starting.proofs.GoLaws.{going_on}

@@ -4,7 +4,6 @@ use lib.ListN.{length}
 use borrow.Rule.Slice.PartMut.{mid_of}
 use Rattle.layout.specs.Widths.{input_wide}
 use Rattle.starting.proofs.InputLaws.{bad-none, bad-first, bad-later, bad-most}
-use Rattle.checks.proofs.Cut.{less_rows, rest_long}
 use Rattle.model.specs.Sizes.{grain_ok}
 use native.Mathlib.Omega.{arith}
 use Rattle.starting.proofs.inputs.+first_bad.Goals as goal

@@ -1,4 +1,3 @@
-use Prim.Native.Nat.{◌-◌}
 use Rattle.starting.proofs.inputs.+first_bad.Given as goal
 
 abbrev pub decreases-first_bad : goal.decreases-first_bad
