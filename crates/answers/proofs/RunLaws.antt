@@ -18,7 +18,7 @@ use Rattle.simulator.specs.Start.{with, start_all}
 use Rattle.simulator.specs.Run.{run_tables}
 use Rattle.listing_text.specs.declared.writer.Answer.TheVariants as answer
 use Rattle.text.specs.Put.{Put}
-use Rattle.listing_text.specs.Columns.{columns, most_kept, kept as keptNumbers}
+use Rattle.listing_text.specs.Columns.{columns, most_kept, kept as kept_numbers}
 use Rattle.listing_text.specs.Grammar.{columns_of}
 use Rattle.listing_text.specs.Rows.{rows_listing}
 use Rattle.listing_text.specs.Size.{long_length, too_large}
@@ -59,7 +59,7 @@ serve_ends o b n rate inputs u v s e h =
     (sym (told_back o u) ∙ ap report_of e, h ∙ ap (λ (x : RanTables). flat columns_of (map shown_grain (grains_of n (grains_part x.after.grains))) ++ drop (n * columns) s) e)
 
 pub served_put : (b : Domain) (rate : Float) (grains : List ℕ) (n : ℕ) (inputs : List Float) (o : Report) (v s u : List ℕ) (k : ℕ) → inputs ≡ map float grains
-    → (o ≡ report_of (simulated b n rate inputs blank)) × (v ≡ flat columns_of (map shown_grain (grains_of n (grains_part (simulated b n rate inputs blank).after.grains))) ++ drop (n * columns) (replicate keptNumbers 0))
+    → (o ≡ report_of (simulated b n rate inputs blank)) × (v ≡ flat columns_of (map shown_grain (grains_of n (grains_part (simulated b n rate inputs blank).after.grains))) ++ drop (n * columns) (replicate kept_numbers 0))
     → Put 0 (spelt o n v) s u k → Put 0 (served b rate grains n) s u k
 unfolding served
 served_put b rate grains n inputs o v s u k ei e p = put_as ((λ i. spelt (e.0 i) n (e.1 i)) ∙ (λ i. spelling (simulated b n rate (ei i) blank) n)) p

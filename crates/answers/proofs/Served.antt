@@ -39,7 +39,7 @@ use Rattle.simulator.proofs.Ran.{sizes_same, run_over}
 use Rattle.simulator.proofs.Landed.{start_kept}
 use Rattle.listing_text.specs.declared.writer.Answer.TheVariants.{Malformed, TooLarge, Refused}
 use Rattle.listing_text.specs.declared.reader.Reader.{Reader}
-use Rattle.listing_text.specs.Columns.{columns, most_kept, kept as keptNumbers}
+use Rattle.listing_text.specs.Columns.{columns, most_kept, kept as kept_numbers}
 use Rattle.listing_text.specs.Grammar.{columns_of}
 use Rattle.listing_text.specs.Rows.{grains_from}
 use Rattle.listing_text.specs.Reading.{closed_of, fine_of}
@@ -148,7 +148,7 @@ module _ (b : Domain) (F : Fits b) (n : ℕ) (few : n ≤ most_kept) (nine : cel
 
   shown_read : grains_from (rows n (encoded v ground)) 0 n ≡ map shown_grain v.grains
   shown_read =
-      ap (λ (ps : List Particle). grains_from (flat columns_of (map shown_grain ps) ++ drop (n * columns) (replicate {A = ℕ} keptNumbers 0)) 0 n) grains_read
+      ap (λ (ps : List Particle). grains_from (flat columns_of (map shown_grain ps) ++ drop (n * columns) (replicate {A = ℕ} kept_numbers 0)) 0 n) grains_read
       ∙ shown_back (map shown_grain v.grains) n (length-map v.grains shown_grain ∙ many) few
 
   listing_is : (h : How) → spelt (runs.report_by h second.clock second.count) n (rows n (encoded v ground)) ≡ by_how h (listing_of (to_bits binary64 second.clock) (map shown_grain v.grains))
@@ -166,18 +166,18 @@ module _ (b : Domain) (F : Fits b) (n : ℕ) (few : n ≤ most_kept) (nine : cel
 
 -- ---- a start
 module _ (b : Domain) (F : Fits b) (n : ℕ) (few : n ≤ most_kept) (inputs : List Float) (rate : Float) where
-  abbrev bothRuns : StartedWith → RanTables
-  bothRuns w = go_on rate (go_on rate (started_report w))
+  abbrev both_runs : StartedWith → RanTables
+  both_runs w = go_on rate (go_on rate (started_report w))
 
-  begun_is : cells b ≡ lent_cells → (x : Begun) → start b room (inputs_of n inputs) ≡ x → spelling (bothRuns (started_over x blank)) n ≡ after_start rate x
+  begun_is : cells b ≡ lent_cells → (x : Begun) → start b room (inputs_of n inputs) ≡ x → spelling (both_runs (started_over x blank)) n ≡ after_start rate x
   begun_is nine (refused r g) e = by (eqb r 4) refl
     where
-      by : (y : Bool) → eqb r 4 ≡ y → spelling (bothRuns (with (cond y (start-answer.BadGrain g) (start-answer.Refused r)) blank)) n ≡ answer_of (Refused r)
+      by : (y : Bool) → eqb r 4 ≡ y → spelling (both_runs (with (cond y (start-answer.BadGrain g) (start-answer.Refused r)) blank)) n ≡ answer_of (Refused r)
       by true h = ap (λ (k : ℕ). answer_of (Refused k)) (sym (eqb-true r 4 h))
       by false h = refl
   begun_is nine (started s) e = by s.mark
     where
-      by : (m : ℕ) → spelling (bothRuns (with (simulator.mark_told m) (encoded s ground))) n ≡ unless_halted m (to_next rate (run_all rate budget s))
+      by : (m : ℕ) → spelling (both_runs (with (simulator.mark_told m) (encoded s ground))) n ≡ unless_halted m (to_next rate (run_all rate budget s))
       by zero = runs_are b F n few nine inputs rate s e
       by (suc r) = refl
 
@@ -197,9 +197,9 @@ module _ (b : Domain) (F : Fits b) (n : ℕ) (few : n ≤ most_kept) (inputs : L
   unfolding simulated
   served_is k p q = by (box_ok b) refl
     where
-      by : (x : Bool) → box_ok b ≡ x → spelling (bothRuns (start_all b n room inputs blank)) n ≡ after_start rate (start b room (inputs_of n inputs))
-      by true h = let nine = nine_cells b F.first F.second h p q in ap (λ (w : StartedWith). spelling (bothRuns w) n) (open_start h nine k) ∙ begun_is nine (start b room (inputs_of n inputs)) refl
-      by false h = ap (λ (w : StartedWith). spelling (bothRuns w) n) (shut_tables h) ∙ sym (ap (after_start rate) (shut_start h))
+      by : (x : Bool) → box_ok b ≡ x → spelling (both_runs (start_all b n room inputs blank)) n ≡ after_start rate (start b room (inputs_of n inputs))
+      by true h = let nine = nine_cells b F.first F.second h p q in ap (λ (w : StartedWith). spelling (both_runs w) n) (open_start h nine k) ∙ begun_is nine (start b room (inputs_of n inputs)) refl
+      by false h = ap (λ (w : StartedWith). spelling (both_runs w) n) (shut_tables h) ∙ sym (ap (after_start rate) (shut_start h))
 
 -- ---- the numbers that were read
 pub counted : (k i : ℕ) (l : List ℕ) → length (grains_from l i k) ≡ k
@@ -212,7 +212,7 @@ split false false true h = absurd (subst T h tt)
 split false true z h = absurd (subst T h tt)
 split true y z h = absurd (subst T h tt)
 
-module _ (numbers grains : List ℕ) (n : ℕ) (long : length grains ≡ keptNumbers) where
+module _ (numbers grains : List ℕ) (n : ℕ) (long : length grains ≡ kept_numbers) where
   abbrev rate : Float
   rate = float (get_or numbers 4 0)
 
@@ -240,7 +240,7 @@ module _ (numbers grains : List ℕ) (n : ℕ) (long : length grains ≡ keptNum
       by false e = let k = split (ltb most_kept n) (long_length (float (get_or numbers 0 0))) (long_length (float (get_or numbers 1 0))) e in rw e (small_is k.0 k.1 k.2)
 
 -- ---- the whole answer
-pub fine_is : (r w : Reader) (x : Bool) → w ≡ closed_of r → x ≡ fine_of w → x ≡ true → length w.grains ≡ keptNumbers → judged w.text.numbers w.grains w.text.n ≡ answered r
+pub fine_is : (r w : Reader) (x : Bool) → w ≡ closed_of r → x ≡ fine_of w → x ≡ true → length w.grains ≡ kept_numbers → judged w.text.numbers w.grains w.text.n ≡ answered r
 unfolding answered
 fine_is r w x e f h k =
     judged_is w.text.numbers w.grains w.text.n k

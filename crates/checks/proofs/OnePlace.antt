@@ -78,20 +78,20 @@ module _ (room : ℕ) (q : List ℕ) (e : List Float) (h : get_or q 0 0 ≤ room
       ∙ ap length (take-append-drop (get_or q 0 0) (places_of room (drop 1 q) e)) ∙ both_long place_at place_nums_wide place_reals_wide room (drop 1 q) e
 
   -- j places, which is what the count says
-  abbrev inUse : ℕ → List Place
-  inUse j = places_of j (mid_of 1 (length q - 1) q) e
+  abbrev in_use : ℕ → List Place
+  in_use j = places_of j (mid_of 1 (length q - 1) q) e
 
-  queue_is : {j : ℕ} → j ≡ get_or q 0 0 → (t : Float) (n c : ℕ) (l : List ℕ) → queue_ok t room n c l (queue_at room q e) ≡ (rising t (inUse j) && all (held n c l) (inUse j))
+  queue_is : {j : ℕ} → j ≡ get_or q 0 0 → (t : Float) (n c : ℕ) (l : List ℕ) → queue_ok t room n c l (queue_at room q e) ≡ (rising t (in_use j) && all (held n c l) (in_use j))
   queue_is k t n c l =
       ap (λ (b : Bool). b && (rising t (queue_at room q e).live && all (held n c l) (queue_at room q e).live))
       (eq-eqb (length (queue_at room q e).live + length (queue_at room q e).spare) room queue_full)
-      ∙ ap (λ (ps : List Place). rising t ps && all (held n c l) ps) (queue_live ∙ ap inUse (sym k))
+      ∙ ap (λ (ps : List Place). rising t ps && all (held n c l) ps) (queue_live ∙ ap in_use (sym k))
 
-  pub queue_no : {j : ℕ} → j ≡ get_or q 0 0 → (t : Float) (n c : ℕ) (l : List ℕ) {r : Bool} → r ≡ rising t (inUse j) → r ≡ false → false ≡ queue_ok t room n c l (queue_at room q e)
-  queue_no {j} k t n c l a z = sym (queue_is k t n c l ∙ ap (λ (b : Bool). b && all (held n c l) (inUse j)) (sym a ∙ z))
+  pub queue_no : {j : ℕ} → j ≡ get_or q 0 0 → (t : Float) (n c : ℕ) (l : List ℕ) {r : Bool} → r ≡ rising t (in_use j) → r ≡ false → false ≡ queue_ok t room n c l (queue_at room q e)
+  queue_no {j} k t n c l a z = sym (queue_is k t n c l ∙ ap (λ (b : Bool). b && all (held n c l) (in_use j)) (sym a ∙ z))
 
-  pub queue_more : {j : ℕ} → j ≡ get_or q 0 0 → (t : Float) (n c : ℕ) (l m : List ℕ) {r s : Bool} → l ≡ m → r ≡ rising t (inUse j) → r ≡ true
-      → s ≡ all (held n c m) (inUse j) → s ≡ queue_ok t room n c l (queue_at room q e)
+  pub queue_more : {j : ℕ} → j ≡ get_or q 0 0 → (t : Float) (n c : ℕ) (l m : List ℕ) {r s : Bool} → l ≡ m → r ≡ rising t (in_use j) → r ≡ true
+      → s ≡ all (held n c m) (in_use j) → s ≡ queue_ok t room n c l (queue_at room q e)
   queue_more {j} k t n c l m i a z b =
-      b ∙ ap (λ (x : List ℕ). all (held n c x) (inUse j)) (sym i)
-      ∙ sym (queue_is k t n c l ∙ ap (λ (b : Bool). b && all (held n c l) (inUse j)) (sym a ∙ z))
+      b ∙ ap (λ (x : List ℕ). all (held n c x) (in_use j)) (sym i)
+      ∙ sym (queue_is k t n c l ∙ ap (λ (b : Bool). b && all (held n c l) (in_use j)) (sym a ∙ z))

@@ -31,27 +31,27 @@ use Rattle.checks.proofs.Heads.{heads_in}
 
 -- ---- what the tables hold, part by part, and the tests of the parts
 module _ (z : Sizes) (t : Tables) where
-  abbrev pub homesIn : List (Row ℕ)
-  homesIn = rows_of home_room z.grains (homes_part t.lists)
+  abbrev pub homes_in : List (Row ℕ)
+  homes_in = rows_of home_room z.grains (homes_part t.lists)
 
-  abbrev pub membersIn : List (Row ℕ)
-  membersIn = rows_of member_room z.cells (members_part z.grains t.lists)
+  abbrev pub members_in : List (Row ℕ)
+  members_in = rows_of member_room z.cells (members_part z.grains t.lists)
 
-  abbrev pub settledIn : Bool
-  settledIn = settled (mark t.lists) (clock_in t.grains) (box_in t.lists t.grains) z.cells (grains_of z.grains (grains_part t.grains))
+  abbrev pub settled_in : Bool
+  settled_in = settled (mark t.lists) (clock_in t.grains) (box_in t.lists t.grains) z.cells (grains_of z.grains (grains_part t.grains))
 
-  abbrev pub linkedIn : Bool
-  linkedIn = linked z.grains z.cells homesIn membersIn
+  abbrev pub linked_in : Bool
+  linked_in = linked z.grains z.cells homes_in members_in
 
-  abbrev pub queuedIn : Bool
-  queuedIn = queued (clock_in t.grains) z.room z.cells membersIn (queues_of z.room z.cells t.queue t.events)
+  abbrev pub queued_in : Bool
+  queued_in = queued (clock_in t.grains) z.room z.cells members_in (queues_of z.room z.cells t.queue t.events)
 
-  abbrev pub heapedIn : Bool
-  heapedIn = heaped (head_in t.events t.queue z.room) z.cells (take heap_wide t.order) (take heap_wide (drop heap_wide t.order))
+  abbrev pub heaped_in : Bool
+  heaped_in = heaped (head_in t.events t.queue z.room) z.cells (take heap_wide t.order) (take heap_wide (drop heap_wide t.order))
 
   -- in the code's order
   abbrev pub parts_in : Bool
-  parts_in = legible_by z t.lists t.queue && (settledIn && (linkedIn && (queuedIn && heapedIn)))
+  parts_in = legible_by z t.lists t.queue && (settled_in && (linked_in && (queued_in && heaped_in)))
 
 -- ---- heads of cells in range are read alike
 module _ (room n : ℕ) (q : List ℕ) (e : List Float) (heap lookups : List ℕ) (some : 0 < room) (long : n * events_wide room ≤ length e) where
@@ -122,12 +122,12 @@ module _ (z : Sizes) (t : Tables) (S : Sized z t) where
         eq-eqb _ _ b,
       )
 
-  abbrev heapedBy : (ℕ → Head) → Bool
-  heapedBy h = heaped h z.cells (take heap_wide t.order) (take heap_wide (drop heap_wide t.order))
+  abbrev heaped_by : (ℕ → Head) → Bool
+  heaped_by h = heaped h z.cells (take heap_wide t.order) (take heap_wide (drop heap_wide t.order))
 
   -- with so many grains, and these heads
   abbrev joined : ℕ → (ℕ → Head) → Bool
-  joined g h = settledIn z t && (linked g z.cells (homesIn z t) (membersIn z t) && (queuedIn z t && heapedBy h))
+  joined g h = settled_in z t && (linked g z.cells (homes_in z t) (members_in z t) && (queued_in z t && heaped_by h))
 
   model_is : model.standing (decoded_by z t) ≡ joined z.grains (head_in t.events t.queue z.room)
   unfolding model.standing
@@ -135,7 +135,7 @@ module _ (z : Sizes) (t : Tables) (S : Sized z t) where
       let h = heads (queues_of z.room z.cells t.queue t.events) in
       ap (λ (b : Bool). b && joined (length (grains_of z.grains (grains_part t.grains))) h) shaped_is
       ∙ ap (λ (g : ℕ). joined g h) grains_many
-      ∙ ap (λ (b : Bool). settledIn z t && (linkedIn z t && (queuedIn z t && b)))
+      ∙ ap (λ (b : Bool). settled_in z t && (linked_in z t && (queued_in z t && b)))
       (heaped_is z.room z.cells t.queue t.events (take heap_wide t.order) (take heap_wide (drop heap_wide t.order)) (let r = S.room_least in omega arith) S.events_long)
 
   -- THE CODE'S TEST IS 01's

@@ -20,7 +20,7 @@ use Rattle.checks.specs.Check.{ranged, sized_by, sized, legible_by, standing, ch
 use Rattle.checks.specs.Inside.{Sized, Legible, Rowed}
 use Rattle.tables.specs.Lengths.{lists_need, grains_need, queue_need, events_need, long}
 use Rattle.chunks.proofs.Laws.{tail_is}
-use Rattle.checks.proofs.Same.{homesIn, settledIn, linkedIn, queuedIn, heapedIn, parts_are}
+use Rattle.checks.proofs.Same.{homes_in, settled_in, linked_in, queued_in, heaped_in, parts_are}
 
 -- ---- 2
 pub ranged_means : (z : Sizes) → ranged z ≡ true → (z.grains ≤ 256) × (9 ≤ z.cells) × (z.cells ≤ 256) × (16 ≤ z.room) × (z.room ≤ 256)
@@ -108,16 +108,16 @@ module _ (z : Sizes) (t : Tables) (S : Sized z t) where
   pub part_1 : a ≡ false → false ≡ standing t
   part_1 e = rw (sym (parts_are z t S), e)
 
-  pub part_2 : a ≡ true → settledIn z t ≡ false → false ≡ standing t
+  pub part_2 : a ≡ true → settled_in z t ≡ false → false ≡ standing t
   part_2 e f = rw (sym (parts_are z t S), e, f)
 
-  pub part_3 : a ≡ true → settledIn z t ≡ true → linkedIn z t ≡ false → false ≡ standing t
+  pub part_3 : a ≡ true → settled_in z t ≡ true → linked_in z t ≡ false → false ≡ standing t
   part_3 e f g = rw (sym (parts_are z t S), e, f, g)
 
-  pub part_4 : a ≡ true → settledIn z t ≡ true → linkedIn z t ≡ true → queuedIn z t ≡ false → false ≡ standing t
+  pub part_4 : a ≡ true → settled_in z t ≡ true → linked_in z t ≡ true → queued_in z t ≡ false → false ≡ standing t
   part_4 e f g h = rw (sym (parts_are z t S), e, f, g, h)
 
-  pub part_5 : {r : Bool} → a ≡ true → settledIn z t ≡ true → linkedIn z t ≡ true → queuedIn z t ≡ true → r ≡ heapedIn z t → r ≡ standing t
+  pub part_5 : {r : Bool} → a ≡ true → settled_in z t ≡ true → linked_in z t ≡ true → queued_in z t ≡ true → r ≡ heaped_in z t → r ≡ standing t
   part_5 e f g h i = rw (sym (parts_are z t S), e, f, g, h) i
 
 -- with the rows as they are lent
@@ -125,18 +125,18 @@ module _ (z : Sizes) (t : Tables) where
   abbrev lent : ℕ → List ℕ
   lent k = mid_of k (length t.lists - k) t.lists
 
-  pub linked_lent : {r : Bool} → r ≡ linked z.grains z.cells (rows_of home_room z.grains (lent lists_head_wide)) (rows_of member_room z.cells (lent (lists_head_wide + home_from z.grains))) → linkedIn z t ≡ r
+  pub linked_lent : {r : Bool} → r ≡ linked z.grains z.cells (rows_of home_room z.grains (lent lists_head_wide)) (rows_of member_room z.cells (lent (lists_head_wide + home_from z.grains))) → linked_in z t ≡ r
   linked_lent e =
       sym (e ∙ ap (λ (l : List ℕ). linked z.grains z.cells (rows_of home_room z.grains l) (rows_of member_room z.cells (lent (lists_head_wide + home_from z.grains)))) (tail_is lists_head_wide t.lists)
-      ∙ ap (λ (l : List ℕ). linked z.grains z.cells (homesIn z t) (rows_of member_room z.cells l)) (tail_is (lists_head_wide + home_from z.grains) t.lists))
+      ∙ ap (λ (l : List ℕ). linked z.grains z.cells (homes_in z t) (rows_of member_room z.cells l)) (tail_is (lists_head_wide + home_from z.grains) t.lists))
 
-  abbrev queuedBy : Float → List (Row ℕ) → Bool
-  queuedBy c ms = queued c z.room z.cells ms (queues_of z.room z.cells t.queue t.events)
+  abbrev queued_by : Float → List (Row ℕ) → Bool
+  queued_by c ms = queued c z.room z.cells ms (queues_of z.room z.cells t.queue t.events)
 
-  pub queued_lent : {r : Bool} {c : Float} → c ≡ clock_in t.grains → r ≡ queuedBy c (rows_of member_room z.cells (lent (lists_head_wide + home_from z.grains))) → queuedIn z t ≡ r
+  pub queued_lent : {r : Bool} {c : Float} → c ≡ clock_in t.grains → r ≡ queued_by c (rows_of member_room z.cells (lent (lists_head_wide + home_from z.grains))) → queued_in z t ≡ r
   queued_lent h e =
-      sym (e ∙ ap (λ (x : Float). queuedBy x (rows_of member_room z.cells (lent (lists_head_wide + home_from z.grains)))) h
-      ∙ ap (λ (l : List ℕ). queuedBy (clock_in t.grains) (rows_of member_room z.cells l)) (tail_is (lists_head_wide + home_from z.grains) t.lists))
+      sym (e ∙ ap (λ (x : Float). queued_by x (rows_of member_room z.cells (lent (lists_head_wide + home_from z.grains)))) h
+      ∙ ap (λ (l : List ℕ). queued_by (clock_in t.grains) (rows_of member_room z.cells l)) (tail_is (lists_head_wide + home_from z.grains) t.lists))
 
 -- ---- 2, the mark, 3, 10
 module _ (rate : Float) (t : Tables) where

@@ -32,24 +32,24 @@ module _ (z : Sizes) (l : List ℕ) (g : List Float) {m : ℕ} (e : m ≡ mark l
   abbrev gs : List Particle
   gs = grains_of z.grains (grains_part g)
 
-  abbrev settledBy : Bool
-  settledBy = settled (mark l) (clock_in g) (box_in l g) z.cells gs
+  abbrev settled_by : Bool
+  settled_by = settled (mark l) (clock_in g) (box_in l g) z.cells gs
 
-  pub settled_no : (m ≡ 0 → ⊥) → false ≡ settledBy
+  pub settled_no : (m ≡ 0 → ⊥) → false ≡ settled_by
   unfolding settled
   settled_no f = rw (ne_eqb _ _ (λ k. f (e ∙ k)))
 
   module _ {t : Float} (f : m ≡ 0) (h : t ≡ clock_in g) where
-    pub settled-no-2 : finite t ≡ false → false ≡ settledBy
+    pub settled-no-2 : finite t ≡ false → false ≡ settled_by
     unfolding settled
     settled-no-2 q = rw (eq-eqb _ _ (sym e ∙ f), sym (ap finite h) ∙ q)
 
     module _ {b : Domain} (q : finite t ≡ true) (i : b ≡ box_in l g) where
-      pub settled-no-3 : box_with b z.cells ≡ false → false ≡ settledBy
+      pub settled-no-3 : box_with b z.cells ≡ false → false ≡ settled_by
       unfolding settled
       settled-no-3 k = rw (eq-eqb _ _ (sym e ∙ f), sym (ap finite h) ∙ q, sym (ap (λ (x : Domain). box_with x z.cells) i) ∙ k)
 
-      pub settled-more : {r : Bool} → box_with b z.cells ≡ true → r ≡ all (timely t) gs → r ≡ settledBy
+      pub settled-more : {r : Bool} → box_with b z.cells ≡ true → r ≡ all (timely t) gs → r ≡ settled_by
       unfolding settled
       settled-more k j =
           rw (eq-eqb _ _ (sym e ∙ f), sym (ap finite h) ∙ q, sym (ap (λ (x : Domain). box_with x z.cells) i) ∙ k) (j ∙ ap (λ (x : Float). all (timely x) gs) h)

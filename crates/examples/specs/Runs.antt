@@ -5,7 +5,7 @@ use Rattle.std.specs.Float.{binary64}
 use Rattle.std.specs.Float.Ieee.{of_bits, to_bits}
 use Rattle.order.specs.Numbers.{one}
 use Rattle.model.specs.State.{State, with_queues, marked}
-use Rattle.model.specs.Start.{Begun, refused as notBegun, started}
+use Rattle.model.specs.Start.{Begun, refused as not_begun, started}
 use Rattle.model.specs.Run.{How, synchronised, spent, refused, Ran}
 use Rattle.model.specs.Check.{run_all}
 use Rattle.examples.specs.Dump.{Dump, dump, Trace, trace, opened_by, same}
@@ -41,7 +41,7 @@ runs_along rate s d ds (e ∷ es) =
     ends_so r.how r.count e && last_of r.count d ds (λ f fs. leaves r.state r.clock f && runs_along rate r.state f fs es)
 
 abbrev runs_from : Begun → Float → List Dump → List RunEnd → Bool
-runs_from (notBegun r i) rate ds es = false
+runs_from (not_begun r i) rate ds es = false
 runs_from (started s) rate [] es = false
 runs_from (started s) rate (d ∷ ds) es = runs_along rate s d ds es
 
@@ -79,7 +79,7 @@ all_refused s =
     ((refuses (run_all no_number 5 (marked 4 s)) 3 && refuses (run_all one 5 (marked 4 s)) 10) && refuses (run_all one 5 (mixed s)) 10))
 
 abbrev refused_from : Begun → Bool
-refused_from (notBegun r i) = false
+refused_from (not_begun r i) = false
 refused_from (started s) = all_refused s
 
 abbrev pub refusals : Trace → Bool

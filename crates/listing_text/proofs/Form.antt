@@ -7,7 +7,7 @@ use lib.ListN.{length, length-map}
 use Rattle.text.specs.Bytes.{bytes}
 use Rattle.text.specs.Numerals.{hex, decimal, Word}
 use Rattle.text.specs.Lines.{line, flag_field}
-use Rattle.text.specs.Plan.{shown, Values, count_read, Form, spelledRows, spelledText}
+use Rattle.text.specs.Plan.{shown, Values, count_read, Form, spelled_rows, spelled_text}
 use Rattle.listing_text.specs.Columns.{columns, box_numbers}
 use Rattle.listing_text.specs.Grammar.{Grain, Input, EachWord, AllWords, Words, columns_of, column_names, box_line, grain_line, grain_lines, text_of}
 use Rattle.listing_text.specs.Rows.{first_grain}
@@ -91,7 +91,7 @@ rows_many [] u = refl
 rows_many (g ∷ gs) u = ap suc (rows_many gs u.1)
 
 -- ---- their text
-lines_are : (ws : List (Values line_pieces)) → spelledRows form ws ≡ grain_lines (map grain_of ws)
+lines_are : (ws : List (Values line_pieces)) → spelled_rows form ws ≡ grain_lines (map grain_of ws)
 lines_are [] = refl
 lines_are (w ∷ ws) = ap (λ (l : List ℕ). grain_line (grain_of w) ++ l) (lines_are ws)
 
@@ -100,10 +100,10 @@ pub head_text : (a b c d e f s : List ℕ) → (a ++ (44 ∷ (b ++ (44 ∷ (c ++
     ≡ line (a ∷ b ∷ c ∷ d ∷ e ∷ f ∷ []) ++ (column_names ++ s)
 head_text a b c d e f s = simp append_assoc
 
-pub text_is : (w : Values head_pieces) (ws : List (Values line_pieces)) → count_read head_pieces w 0 ≡ length ws → spelledText form w ws ≡ text_of (input_of w ws)
+pub text_is : (w : Values head_pieces) (ws : List (Values line_pieces)) → count_read head_pieces w 0 ≡ length ws → spelled_text form w ws ≡ text_of (input_of w ws)
 text_is w ws e =
     let i = input_of w ws in
     ap (λ (l : List ℕ). bytes "l0,l1,p0,p1,rate,n\r\n" ++ l)
-    (head_text (hex i.l0) (hex i.l1) (flag_field i.p0) (flag_field i.p1) (hex i.rate) (decimal (count_read head_pieces w 0)) (spelledRows form ws)
-    ∙ ap (λ (n : ℕ). line (hex i.l0 ∷ hex i.l1 ∷ flag_field i.p0 ∷ flag_field i.p1 ∷ hex i.rate ∷ decimal n ∷ []) ++ (column_names ++ spelledRows form ws)) (e ∙ sym (length-map ws grain_of))
+    (head_text (hex i.l0) (hex i.l1) (flag_field i.p0) (flag_field i.p1) (hex i.rate) (decimal (count_read head_pieces w 0)) (spelled_rows form ws)
+    ∙ ap (λ (n : ℕ). line (hex i.l0 ∷ hex i.l1 ∷ flag_field i.p0 ∷ flag_field i.p1 ∷ hex i.rate ∷ decimal n ∷ []) ++ (column_names ++ spelled_rows form ws)) (e ∙ sym (length-map ws grain_of))
     ∙ ap (λ (l : List ℕ). box_line i ++ (column_names ++ l)) (lines_are ws))

@@ -11,10 +11,10 @@ use borrow.Author.Tests.{eq-eqb, ltb-true, ltb-false}
 use Rattle.text.specs.Bytes.{bytes}
 use Rattle.text.specs.Numerals.{Word}
 use Rattle.text.specs.Reading as text
-use Rattle.text.specs.Plan.{Values, count_read, loadedRows, spelledText, Spells, held_of}
+use Rattle.text.specs.Plan.{Values, count_read, loaded_rows, spelled_text, Spells, held_of}
 use Rattle.text.proofs.Turns.{feed_parts, closed_ended, closed_same}
 use Rattle.text.proofs.Forward as text-laws
-use Rattle.text.proofs.Kept.{keptAll, keptRows, text_kept}
+use Rattle.text.proofs.Kept.{kept_all, kept_rows, text_kept}
 use Rattle.listing_text.specs.declared.reader.Reader.{Reader}
 use Rattle.listing_text.specs.Columns.{most_kept, kept}
 use Rattle.listing_text.specs.Grammar.{Grain, Input, Words, text_of, Text}
@@ -26,14 +26,14 @@ use Rattle.listing_text.proofs.Form.{form, grain_of, input_of, rows_for, values_
 
 -- ---- the reader's two parts: what it reads by the plan, and the rows
 abbrev parts : Reader → List ℕ → Reader
-parts r s = record { text = text.feed_all plan line_at r.text s; grains = keptAll plan line_at row_kept r.text r.grains s }
+parts r s = record { text = text.feed_all plan line_at r.text s; grains = kept_all plan line_at row_kept r.text r.grains s }
 
 feed_is : (s : List ℕ) (r : Reader) → feed_all r s ≡ parts r s
 feed_is [] r = refl
 feed_is (b ∷ s) r = feed_is s (feed_of r b)
 
 -- the numbers after some lines are the last one's
-numbers_last : (ws : List (Values line_pieces)) (i : Input) (g : Grain) → loadedRows form ws (numbers_of i g) ≡ numbers_of i (last_grain g (map grain_of ws))
+numbers_last : (ws : List (Values line_pieces)) (i : Input) (g : Grain) → loaded_rows form ws (numbers_of i g) ≡ numbers_of i (last_grain g (map grain_of ws))
 numbers_last [] i g = refl
 numbers_last (w ∷ ws) i g = numbers_last ws i (grain_of w)
 
@@ -45,12 +45,12 @@ row_kept_lem i done g = go (ltb (length done) most_kept) refl
     go true e = rw e (rows_more most_kept done g (ltb-true (length done) most_kept e))
     go false e = rw e (rows_full most_kept done g (ltb-false (length done) most_kept e))
 
-rows_kept : (ws : List (Values line_pieces)) (i : Input) (done : List Grain) (g : Grain) → keptRows form row_kept ws (length done) (numbers_of i g) (grain_rows most_kept done) ≡ grain_rows most_kept (done ++ map grain_of ws)
+rows_kept : (ws : List (Values line_pieces)) (i : Input) (done : List Grain) (g : Grain) → kept_rows form row_kept ws (length done) (numbers_of i g) (grain_rows most_kept done) ≡ grain_rows most_kept (done ++ map grain_of ws)
 rows_kept [] i done g = ap (grain_rows most_kept) (sym (append-nil done))
 rows_kept (w ∷ ws) i done g =
     let h = grain_of w in
     let one : suc (length done) ≡ length (done ++ (h ∷ [])) = sym (add-one (length done)) ∙ sym (length-append done (h ∷ [])) in
-    (λ t. keptRows form row_kept ws (one t) (numbers_of i h) (row_kept_lem i done h t))
+    (λ t. kept_rows form row_kept ws (one t) (numbers_of i h) (row_kept_lem i done h t))
     ∙ rows_kept ws i (done ++ (h ∷ [])) h
     ∙ ap (grain_rows most_kept) (append_assoc done (h ∷ []) (map grain_of ws))
 
@@ -64,9 +64,9 @@ held_is w ws =
     let n : length ws ≡ length (map grain_of ws) = sym (length-map ws grain_of) in
     λ t. record { text = record { at = line_at; n = n t; seen = n t; numbers = numbers_last ws (input_of w ws) no_grain t }; grains = grain_rows most_kept (map grain_of ws) }
 
-spelled_held : (w : Values head_pieces) (ws : List (Values line_pieces)) → count_read head_pieces w 0 ≡ length ws → feed_all start_of (spelledText form w ws) ≡ held w ws
+spelled_held : (w : Values head_pieces) (ws : List (Values line_pieces)) → count_read head_pieces w 0 ≡ length ws → feed_all start_of (spelled_text form w ws) ≡ held w ws
 spelled_held w ws e =
-    feed_is (spelledText form w ws) start_of
+    feed_is (spelled_text form w ws) start_of
     ∙ (λ t. record {
       text = text-laws.text_read form w ws e t;
       grains = (text_kept form row_kept w ws (replicate kept 0) e ∙ rows_kept ws (input_of w ws) [] no_grain) t;
@@ -89,7 +89,7 @@ module _ (i : Input) (u : Words i) (k : Word (length i.grains)) where
   abbrev rows : List (Values line_pieces)
   rows = rows_for i.grains u.grain_words
 
-  spelled_is : spelledText form values rows ≡ text_of i
+  spelled_is : spelled_text form values rows ≡ text_of i
   spelled_is = text_is values rows (rows_many i.grains u.grain_words) ∙ ap text_of (input_same i u k)
 
   pub text_read : feed_all start_of (text_of i) ≡ reader_of i

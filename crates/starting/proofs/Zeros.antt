@@ -54,19 +54,19 @@ empty_events : (room : ℕ) → queue_reals (empty room zero_p) ≡ replicate (e
 empty_events room = sym (flat_same place_reals zero_p fzero place_reals_wide refl room)
 
 module _ (b : Domain) (room n : ℕ) where
-  abbrev zeroLists : List ℕ
-  zeroLists = replicate (home_from n + cells b * members_wide) 0
+  abbrev zero_lists : List ℕ
+  zero_lists = replicate (home_from n + cells b * members_wide) 0
 
-  abbrev zeroGrains : List Float
-  zeroGrains = replicate (n * grain_wide) fzero
+  abbrev zero_grains : List Float
+  zero_grains = replicate (n * grain_wide) fzero
 
-  abbrev zeroQueue : List ℕ
-  zeroQueue = replicate (cells b * queue_wide room) 0
+  abbrev zero_queue : List ℕ
+  zero_queue = replicate (cells b * queue_wide room) 0
 
-  abbrev zeroEvents : List Float
-  zeroEvents = replicate (cells b * events_wide room) fzero
+  abbrev zero_events : List Float
+  zero_events = replicate (cells b * events_wide room) fzero
 
-  clear_listed : Listed (sizes_for b n room) zeroLists (clear b room n).homes (clear b room n).members
+  clear_listed : Listed (sizes_for b n room) zero_lists (clear b room n).homes (clear b room n).members
   unfolding clear
   clear_listed = record {
     is =
@@ -77,19 +77,19 @@ module _ (b : Domain) (room n : ℕ) where
     members = empty_rows (cells b) member_room n;
   }
 
-  clear_grained : Grained (sizes_for b n room) zeroGrains (clear b room n).grains
+  clear_grained : Grained (sizes_for b n room) zero_grains (clear b room n).grains
   unfolding clear
   clear_grained = record { is = flat_same grain_reals zero_g fzero grain_wide refl n; many = length-replicate n zero_g }
 
   module _ (box : box_ok b ≡ true) (r : 16 ≤ room) (r' : room ≤ 256) (few : n ≤ 256) where
-    clear-queued : Queued (sizes_for b n room) zeroQueue zeroEvents (order_bytes (start_heap (cells b))) (clear b room n)
+    clear-queued : Queued (sizes_for b n room) zero_queue zero_events (order_bytes (start_heap (cells b))) (clear b room n)
     unfolding clear
     clear-queued =
         sound_held {z = sizes_for b n room} (clear b room n) (clear_sound b room n box r r' few) (length-replicate n zero_g) refl refl
         (flat_same queue_nums (empty room zero_p) 0 (queue_wide room) (empty_queue room) (cells b))
         (flat_same queue_reals (empty room zero_p) fzero (events_wide room) (empty_events room) (cells b)) refl
 
-    clear-held : Holds (sizes_for b n room) zeroLists zeroGrains zeroQueue zeroEvents (order_bytes (start_heap (cells b))) (clear b room n)
+    clear-held : Holds (sizes_for b n room) zero_lists zero_grains zero_queue zero_events (order_bytes (start_heap (cells b))) (clear b room n)
     clear-held = record { listed = clear_listed; grained = clear_grained; queued = clear-queued }
 
 -- the heap and the lookups of a start

@@ -17,11 +17,11 @@ use Rattle.text.specs.Bytes.{bytes}
 use Rattle.text.specs.Numerals.{hex, decimal, Word}
 use Rattle.text.specs.Lines.{flag_field, bit_of}
 use Rattle.text.specs.Reading.{start_of, reader_with, next_of, stepped_of, feed_of, feed_all, closed_of, fine_of}
-use Rattle.text.specs.Plan.{Piece, mark, number, flagged, count, shown, Values, spelled, loaded, count_read, plain, fair, Form, spelledRows, spelledText, Spells, held_of}
+use Rattle.text.specs.Plan.{Piece, mark, number, flagged, count, shown, Values, spelled, loaded, count_read, plain, fair, Form, spelled_rows, spelled_text, Spells, held_of}
 use Rattle.text.proofs.Turns.{feed_parts}
 use Rattle.text.proofs.Places.{here, last, full_stuck, step_on, plain_turn}
 use Rattle.text.proofs.FieldsBack.{Ends, open_ends, stuck_ends, matched_ends, mark_ends, hex_ends, flag_ends, decimal_ends}
-use Rattle.text.proofs.Forward.{fair_number, loaded_length, counted_same, Where, row_there, plan_length, lastPlace, end_there, before, text_accepted}
+use Rattle.text.proofs.Forward.{fair_number, loaded_length, counted_same, Where, row_there, plan_length, last_place, end_there, before, text_accepted}
 
 -- a part, and another behind it
 joined : (a s t x u : List ℕ) → s ≡ a ++ t → t ≡ x ++ u → s ≡ (a ++ x) ++ u
@@ -78,14 +78,14 @@ module _ {plan : List ℕ} {line : ℕ} (f : Form plan line) where
   within = let l = plan_length f in omega (arith, l)
 
   -- a line ends with its last byte
-  line_over : (r : Reader) (n : ℕ) (g s : List ℕ) → r.seen < n → Ends plan line (reader_with r (lastPlace f) n g) s → (t : List ℕ) × (s ≡ f.end ∷ t) × Ends plan line (next_of line (reader_with r (lastPlace f) n g)) t
-  line_over r n g [] o e = open_ends plan line (reader_with r (lastPlace f) n g) (inr o) e
+  line_over : (r : Reader) (n : ℕ) (g s : List ℕ) → r.seen < n → Ends plan line (reader_with r (last_place f) n g) s → (t : List ℕ) × (s ≡ f.end ∷ t) × Ends plan line (next_of line (reader_with r (last_place f) n g)) t
+  line_over r n g [] o e = open_ends plan line (reader_with r (last_place f) n g) (inr o) e
   line_over r n g (b ∷ s) o e =
-      let q = reader_with r (lastPlace f) n g in
+      let q = reader_with r (last_place f) n g in
       let p = end_there f in
       let l = p.1 in
       matched_ends plan line f.short within q b f.end s
-      (subst (λ (w : Reader). Ends plan line w s) (plain_turn plan line q b f.end f.end_plain (here plan (lastPlace f) f.end [] p.0).0 (omega (arith, l)) (inr o)) e)
+      (subst (λ (w : Reader). Ends plan line w s) (plain_turn plan line q b f.end f.end_plain (here plan (last_place f) f.end [] p.0).0 (omega (arith, l)) (inr o)) e)
       (λ (x : b ≡ f.end) (e : Ends plan line (stepped_of (last plan line) line q) s). (s, ap (λ (z : ℕ). z ∷ s) x, subst (λ (w : Reader). Ends plan line w s) (step_on plan line q l o) e))
 
   line_ends : (n seen : ℕ) (g s : List ℕ) → length g ≡ numbers_held → seen < n → Ends plan line (before f n seen g) s
@@ -94,11 +94,11 @@ module _ {plan : List ℕ} {line : ℕ} (f : Form plan line) where
       let r = before f n seen g in
       let l = (end_there f).1 in
       let (w, t, x, e1) = pieces_end plan line f.short within f.row r line n g (f.end ∷ []) s f.row_fair N (row_there f) (omega (arith, l)) (inr (o, f.row_uncounted)) e in
-      let e2 = subst (λ (m : ℕ). Ends plan line (reader_with r (lastPlace f) m (loaded f.row w g)) t) (counted_same f.row w n f.row_uncounted) e1 in
+      let e2 = subst (λ (m : ℕ). Ends plan line (reader_with r (last_place f) m (loaded f.row w g)) t) (counted_same f.row w n f.row_uncounted) e1 in
       let (u, y, e3) = line_over r n (loaded f.row w g) t o e2 in
       (w, u, x ∙ ap (λ (z : List ℕ). spelled f.row w ++ z) y, subst (λ (m : ℕ). Ends plan line (before f n m (loaded f.row w g)) u) (add-one seen) e3)
 
-  lines_end : (k n seen : ℕ) (g s : List ℕ) → length g ≡ numbers_held → seen + k ≡ n → Ends plan line (before f n seen g) s → (ws : List (Values f.row)) × (k ≡ length ws) × (s ≡ spelledRows f ws)
+  lines_end : (k n seen : ℕ) (g s : List ℕ) → length g ≡ numbers_held → seen + k ≡ n → Ends plan line (before f n seen g) s → (ws : List (Values f.row)) × (k ≡ length ws) × (s ≡ spelled_rows f ws)
   lines_end zero n seen g [] N h e = ([], refl, refl)
   lines_end zero n seen g (b ∷ s) N h e =
       stuck_ends plan line f.short within s (before f n seen g) (subst (λ (w : Reader). Ends plan line w s) (full_stuck plan line (before f n seen g) b within refl (le_of_eq (sym h ∙ add-zero seen))) e)
@@ -110,10 +110,10 @@ module _ {plan : List ℕ} {line : ℕ} (f : Form plan line) where
   abbrev zeros : List ℕ
   zeros = replicate numbers_held 0
 
-  text_joined : (s t : List ℕ) (w : Values f.head) (ws : List (Values f.row)) → s ≡ spelled f.head w ++ t → t ≡ spelledRows f ws → s ≡ spelledText f w ws
+  text_joined : (s t : List ℕ) (w : Values f.head) (ws : List (Values f.row)) → s ≡ spelled f.head w ++ t → t ≡ spelled_rows f ws → s ≡ spelled_text f w ws
   text_joined s t w ws p q = p ∙ ap (λ (z : List ℕ). spelled f.head w ++ z) q
 
-  whole_ends : (s : List ℕ) → Ends plan line start_of s → (w : Values f.head) × (ws : List (Values f.row)) × (count_read f.head w 0 ≡ length ws) × (s ≡ spelledText f w ws)
+  whole_ends : (s : List ℕ) → Ends plan line start_of s → (w : Values f.head) × (ws : List (Values f.row)) × (count_read f.head w 0 ≡ length ws) × (s ≡ spelled_text f w ws)
   whole_ends s e =
       let l = plan_length f in
       let b = f.begins in

@@ -10,7 +10,7 @@ use Rattle.text.specs.Letters.{numbers_held}
 use Rattle.text.specs.Bytes.{bytes}
 use Rattle.text.specs.Numerals.{decimal}
 use Rattle.text.specs.Reading.{start_of, stepped_of, hexed_of, flagged_of, matched_of, counted_of, first_of, more_of, wanted_of, feed_of, feed_all, closed_of, fine_of}
-use Rattle.text.specs.Plan.{mark, number, flagged, count, marks, Form, spelledText}
+use Rattle.text.specs.Plan.{mark, number, flagged, count, marks, Form, spelled_text}
 use Rattle.text.proofs.Backward.{Accepted, accepted_text}
 
 abbrev plan : List ℕ
@@ -37,7 +37,7 @@ form = record {
 abbrev example : List ℕ
 example = bytes "v,n\r\n0000000000000007,2\r\n0\r\n1\r\n"
 
-example_spelled : spelledText form (7, lit< tt, (2, lit< tt, tt)) ((false, tt) ∷ (true, tt) ∷ []) ≡ example
+example_spelled : spelled_text form (7, lit< tt, (2, lit< tt, tt)) ((false, tt) ∷ (true, tt) ∷ []) ≡ example
 unfolding decimal
 example_spelled = refl
 

@@ -18,7 +18,7 @@ use Rattle.text.specs.Bytes.{bytes}
 use Rattle.text.specs.Numerals.{decimal}
 use Rattle.text.specs.Lines.{flag_field, bit_of}
 use Rattle.text.specs.Reading.{start_of, reader_with, stuck_of, next_of, matched_of, feed_of, feed_all, closed_of, fine_of}
-use Rattle.text.specs.Plan.{Piece, mark, number, flagged, count, shown, Values, spelled, loaded, count_read, plain, fair, uncounted, Form, spelledRows, loadedRows, spelledText, Spells, held_of}
+use Rattle.text.specs.Plan.{Piece, mark, number, flagged, count, shown, Values, spelled, loaded, count_read, plain, fair, uncounted, Form, spelled_rows, loaded_rows, spelled_text, Spells, held_of}
 use Rattle.text.proofs.Turns.{feed_parts, closed_ended, closed_same}
 use Rattle.text.proofs.Places.{here, last, full_stuck, stuck_stays, step_on, plain_turn}
 use Rattle.text.proofs.Fields.{hex_field, mark_field, flag_field_lem, decimal_field}
@@ -107,10 +107,10 @@ module _ {plan : List ℕ} {line : ℕ} (f : Form plan line) where
       let k = add-one (length (shown f.row)) in
       omega (arith, a, b, c, d, k)
 
-  abbrev pub lastPlace : ℕ
-  lastPlace = line + length (shown f.row)
+  abbrev pub last_place : ℕ
+  last_place = line + length (shown f.row)
 
-  pub end_there : (drop lastPlace plan ≡ f.end ∷ []) × (suc lastPlace ≡ length plan)
+  pub end_there : (drop last_place plan ≡ f.end ∷ []) × (suc last_place ≡ length plan)
   end_there = (
     sym (drop-drop (length (shown f.row)) line plan) ∙ ap (drop (length (shown f.row))) row_there ∙ drop_at (shown f.row) (f.end ∷ []) (length (shown f.row)) refl,
     sym (add-suc line (length (shown f.row))) ∙ plan_length,
@@ -121,20 +121,20 @@ module _ {plan : List ℕ} {line : ℕ} (f : Form plan line) where
   unfolding matched_of
   matched_end r h o = simp (eq-eqb f.end f.end refl) (step_on plan line r h o)
 
-  pub end_fed : (r : Reader) (n : ℕ) (g : List ℕ) → r.seen < n → feed_of plan line (reader_with r lastPlace n g) f.end ≡ next_of line (reader_with r lastPlace n g)
+  pub end_fed : (r : Reader) (n : ℕ) (g : List ℕ) → r.seen < n → feed_of plan line (reader_with r last_place n g) f.end ≡ next_of line (reader_with r last_place n g)
   end_fed r n g o =
       let p = end_there in
       let l = p.1 in
-      plain_turn plan line (reader_with r lastPlace n g) f.end f.end f.end_plain (here plan lastPlace f.end [] p.0).0 (omega (arith, l)) (inr o)
-      ∙ matched_end (reader_with r lastPlace n g) l o
+      plain_turn plan line (reader_with r last_place n g) f.end f.end f.end_plain (here plan last_place f.end [] p.0).0 (omega (arith, l)) (inr o)
+      ∙ matched_end (reader_with r last_place n g) l o
 
   -- a line up to its last byte
   pub row_fed : (w : Values f.row) (r : Reader) (n : ℕ) (g rest : List ℕ) → length g ≡ numbers_held → r.seen < n
-      → feed_all plan line (reader_with r line n g) (spelled f.row w ++ rest) ≡ feed_all plan line (reader_with r lastPlace n (loaded f.row w g)) rest
+      → feed_all plan line (reader_with r line n g) (spelled f.row w ++ rest) ≡ feed_all plan line (reader_with r last_place n (loaded f.row w g)) rest
   row_fed w r n g rest N o =
       let l = end_there.1 in
       pieces_fed plan line f.row w r line n g (f.end ∷ []) rest f.row_fair N row_there (omega (arith, l)) (inr (o, f.row_uncounted))
-      ∙ ap (λ (m : ℕ). feed_all plan line (reader_with r lastPlace m (loaded f.row w g)) rest) (counted_same f.row w n f.row_uncounted)
+      ∙ ap (λ (m : ℕ). feed_all plan line (reader_with r last_place m (loaded f.row w g)) rest) (counted_same f.row w n f.row_uncounted)
 
   -- a reader before a line
   abbrev pub before : ℕ → ℕ → List ℕ → Reader
@@ -148,11 +148,11 @@ module _ {plan : List ℕ} {line : ℕ} (f : Form plan line) where
       ∙ ap (λ (m : ℕ). feed_all plan line (before n m (loaded f.row w g)) rest) (add-one seen)
 
   pub rows_fed : (ws : List (Values f.row)) (n seen : ℕ) (g : List ℕ) → length g ≡ numbers_held → seen + length ws ≡ n
-      → feed_all plan line (before n seen g) (spelledRows f ws) ≡ before n n (loadedRows f ws g)
+      → feed_all plan line (before n seen g) (spelled_rows f ws) ≡ before n n (loaded_rows f ws g)
   rows_fed [] n seen g N e = ap (λ (m : ℕ). before n m g) (sym (add-zero seen) ∙ e)
   rows_fed (w ∷ ws) n seen g N e =
       let m : suc seen + length ws ≡ n = suc-add seen (length ws) ∙ sym (add-suc seen (length ws)) ∙ e in
-      line_fed w n seen g (spelledRows f ws) N (omega (arith, m)) ∙ rows_fed ws n (suc seen) (loaded f.row w g) (loaded_length f.row w g N) m
+      line_fed w n seen g (spelled_rows f ws) N (omega (arith, m)) ∙ rows_fed ws n (suc seen) (loaded f.row w g) (loaded_length f.row w g N) m
 
   abbrev zeros : List ℕ
   zeros = replicate numbers_held 0
@@ -165,10 +165,10 @@ module _ {plan : List ℕ} {line : ℕ} (f : Form plan line) where
       pieces_fed plan line f.head w start_of 0 0 zeros (shown f.row ++ (f.end ∷ [])) rest f.head_fair refl f.shows (omega (arith, l, b, k)) (inl (omega (arith, b, k)))
       ∙ ap (λ (m : ℕ). feed_all plan line (reader_with start_of m (count_read f.head w 0) (loaded f.head w zeros)) rest) (k ∙ sym b)
 
-  pub text_read : (w : Values f.head) (ws : List (Values f.row)) → count_read f.head w 0 ≡ length ws → feed_all plan line start_of (spelledText f w ws) ≡ held_of f w ws
+  pub text_read : (w : Values f.head) (ws : List (Values f.row)) → count_read f.head w 0 ≡ length ws → feed_all plan line start_of (spelled_text f w ws) ≡ held_of f w ws
   text_read w ws e =
-      head_fed w (spelledRows f ws)
-      ∙ ap (λ (n : ℕ). feed_all plan line (before n 0 (loaded f.head w zeros)) (spelledRows f ws)) e
+      head_fed w (spelled_rows f ws)
+      ∙ ap (λ (n : ℕ). feed_all plan line (before n 0 (loaded f.head w zeros)) (spelled_rows f ws)) e
       ∙ rows_fed ws (length ws) 0 (loaded f.head w zeros) (loaded_length f.head w zeros refl) (zero-add (length ws))
 
   pub held_fine : (w : Values f.head) (ws : List (Values f.row)) → fine_of line (held_of f w ws) ≡ true

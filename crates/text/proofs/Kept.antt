@@ -13,8 +13,8 @@ use Rattle.text.specs.declared.reader.Reader.{Reader}
 use Rattle.text.specs.Letters.{numbers_held, hex_letter, flag_letter, letters_end}
 use Rattle.text.specs.Numerals.{hex_val}
 use Rattle.text.specs.Reading.{start_of, reader_with, stuck_of, next_of, stepped_of, hexed_of, flagged_of, matched_of, counted_of, first_of, more_of, wanted_of, feed_of, feed_all}
-use Rattle.text.specs.Plan.{Values, spelled, loaded, count_read, Form, spelledRows, spelledText}
-use Rattle.text.proofs.Forward.{loaded_length, lastPlace, end_fed, row_fed, before, head_fed}
+use Rattle.text.specs.Plan.{Values, spelled, loaded, count_read, Form, spelled_rows, spelled_text}
+use Rattle.text.proofs.Forward.{loaded_length, last_place, end_fed, row_fed, before, head_fed}
 
 -- ---- the lines ended never fall
 record Up (k : ℕ) (r : Reader) : Type 0 where
@@ -94,58 +94,58 @@ module _ (plan : List ℕ) (line : ℕ) where
     abbrev pub kept_of : Reader → Reader → A → A
     kept_of r q a = cond (ltb r.seen q.seen) (keep r.seen q.numbers a) a
 
-    abbrev pub keptAll : Reader → A → List ℕ → A
-    keptAll r a [] = a
-    keptAll r a (b ∷ s) = keptAll (feed_of plan line r b) (kept_of r (feed_of plan line r b) a) s
+    abbrev pub kept_all : Reader → A → List ℕ → A
+    kept_all r a [] = a
+    kept_all r a (b ∷ s) = kept_all (feed_of plan line r b) (kept_of r (feed_of plan line r b) a) s
 
-    kept-parts : (s t : List ℕ) (r : Reader) (a : A) → keptAll r a (s ++ t) ≡ keptAll (feed_all plan line r s) (keptAll r a s) t
+    kept-parts : (s t : List ℕ) (r : Reader) (a : A) → kept_all r a (s ++ t) ≡ kept_all (feed_all plan line r s) (kept_all r a s) t
     kept-parts [] t r a = refl
     kept-parts (b ∷ s) t r a = kept-parts s t (feed_of plan line r b) (kept_of r (feed_of plan line r b) a)
 
     -- nothing is kept where no line ended
-    quiet : (s : List ℕ) (r : Reader) (a : A) → (feed_all plan line r s).seen ≡ r.seen → keptAll r a s ≡ a
+    quiet : (s : List ℕ) (r : Reader) (a : A) → (feed_all plan line r s).seen ≡ r.seen → kept_all r a s ≡ a
     quiet [] r a e = refl
     quiet (b ∷ s) r a e =
         let q = feed_of plan line r b in
         let x = up_feed r b in
         let y = up_all s q in
         let same : r.seen ≡ q.seen = omega (arith, x, y, e) in
-        ap (λ (z : Bool). keptAll q (cond z (keep r.seen q.numbers a) a) s) (le-ltb r.seen q.seen (le_of_eq (sym same)))
+        ap (λ (z : Bool). kept_all q (cond z (keep r.seen q.numbers a) a) s) (le-ltb r.seen q.seen (le_of_eq (sym same)))
         ∙ quiet s q a (e ∙ same)
 
-    quiet_then : (s t : List ℕ) (r q : Reader) (a : A) → feed_all plan line r s ≡ q → q.seen ≡ r.seen → keptAll r a (s ++ t) ≡ keptAll q a t
+    quiet_then : (s t : List ℕ) (r q : Reader) (a : A) → feed_all plan line r s ≡ q → q.seen ≡ r.seen → kept_all r a (s ++ t) ≡ kept_all q a t
     quiet_then s t r q a e f =
-        kept-parts s t r a ∙ ap (λ (z : Reader). keptAll z (keptAll r a s) t) e ∙ ap (λ (z : A). keptAll q z t) (quiet s r a (ap (λ (z : Reader). z.seen) e ∙ f))
+        kept-parts s t r a ∙ ap (λ (z : Reader). kept_all z (kept_all r a s) t) e ∙ ap (λ (z : A). kept_all q z t) (quiet s r a (ap (λ (z : Reader). z.seen) e ∙ f))
 
 module _ {plan : List ℕ} {line : ℕ} (f : Form plan line) {A : Type 0} (keep : ℕ → List ℕ → A → A) where
   -- what rows give, the first of which is line k after the numbers g
-  abbrev pub keptRows : List (Values f.row) → ℕ → List ℕ → A → A
-  keptRows [] k g a = a
-  keptRows (w ∷ ws) k g a = keptRows ws (suc k) (loaded f.row w g) (keep k (loaded f.row w g) a)
+  abbrev pub kept_rows : List (Values f.row) → ℕ → List ℕ → A → A
+  kept_rows [] k g a = a
+  kept_rows (w ∷ ws) k g a = kept_rows ws (suc k) (loaded f.row w g) (keep k (loaded f.row w g) a)
 
   line_kept : (w : Values f.row) (n seen : ℕ) (g rest : List ℕ) (a : A) → length g ≡ numbers_held → seen < n
-      → keptAll plan line keep (before f n seen g) a (spelled f.row w ++ (f.end ∷ rest)) ≡ keptAll plan line keep (before f n (suc seen) (loaded f.row w g)) (keep seen (loaded f.row w g) a) rest
+      → kept_all plan line keep (before f n seen g) a (spelled f.row w ++ (f.end ∷ rest)) ≡ kept_all plan line keep (before f n (suc seen) (loaded f.row w g)) (keep seen (loaded f.row w g) a) rest
   line_kept w n seen g rest a N o =
       let r = before f n seen g in
       let g' = loaded f.row w g in
-      let q = reader_with r (lastPlace f) n g' in
+      let q = reader_with r (last_place f) n g' in
       let up : seen < seen + 1 = omega arith in
       quiet_then plan line keep (spelled f.row w) (f.end ∷ rest) r q a (ap (feed_all plan line r) (sym (append-nil (spelled f.row w))) ∙ row_fed f w r n g [] N o) refl
-      ∙ ap (λ (z : Reader). keptAll plan line keep z (kept_of plan line keep q z a) rest) (end_fed f r n g' o)
-      ∙ ap (λ (z : Bool). keptAll plan line keep (next_of line q) (cond z (keep seen g' a) a) rest) (lt-ltb seen (seen + 1) up)
-      ∙ ap (λ (m : ℕ). keptAll plan line keep (before f n m g') (keep seen g' a) rest) (add-one seen)
+      ∙ ap (λ (z : Reader). kept_all plan line keep z (kept_of plan line keep q z a) rest) (end_fed f r n g' o)
+      ∙ ap (λ (z : Bool). kept_all plan line keep (next_of line q) (cond z (keep seen g' a) a) rest) (lt-ltb seen (seen + 1) up)
+      ∙ ap (λ (m : ℕ). kept_all plan line keep (before f n m g') (keep seen g' a) rest) (add-one seen)
 
   rows_kept : (ws : List (Values f.row)) (n seen : ℕ) (g : List ℕ) (a : A) → length g ≡ numbers_held → seen + length ws ≡ n
-      → keptAll plan line keep (before f n seen g) a (spelledRows f ws) ≡ keptRows ws seen g a
+      → kept_all plan line keep (before f n seen g) a (spelled_rows f ws) ≡ kept_rows ws seen g a
   rows_kept [] n seen g a N e = refl
   rows_kept (w ∷ ws) n seen g a N e =
       let m : suc seen + length ws ≡ n = suc-add seen (length ws) ∙ sym (add-suc seen (length ws)) ∙ e in
-      line_kept w n seen g (spelledRows f ws) a N (omega (arith, m)) ∙ rows_kept ws n (suc seen) (loaded f.row w g) (keep seen (loaded f.row w g) a) (loaded_length f.row w g N) m
+      line_kept w n seen g (spelled_rows f ws) a N (omega (arith, m)) ∙ rows_kept ws n (suc seen) (loaded f.row w g) (keep seen (loaded f.row w g) a) (loaded_length f.row w g N) m
 
   pub text_kept : (w : Values f.head) (ws : List (Values f.row)) (a : A) → count_read f.head w 0 ≡ length ws
-      → keptAll plan line keep start_of a (spelledText f w ws) ≡ keptRows ws 0 (loaded f.head w (replicate numbers_held 0)) a
+      → kept_all plan line keep start_of a (spelled_text f w ws) ≡ kept_rows ws 0 (loaded f.head w (replicate numbers_held 0)) a
   text_kept w ws a e =
       let g = loaded f.head w (replicate numbers_held 0) in
       let q = before f (count_read f.head w 0) 0 g in
-      quiet_then plan line keep (spelled f.head w) (spelledRows f ws) start_of q a (ap (feed_all plan line start_of) (sym (append-nil (spelled f.head w))) ∙ head_fed f w []) refl
+      quiet_then plan line keep (spelled f.head w) (spelled_rows f ws) start_of q a (ap (feed_all plan line start_of) (sym (append-nil (spelled f.head w))) ∙ head_fed f w []) refl
       ∙ rows_kept ws (count_read f.head w 0) 0 g a (loaded_length f.head w (replicate numbers_held 0) refl) (zero-add (length ws) ∙ sym e)

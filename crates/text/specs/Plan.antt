@@ -91,22 +91,22 @@ pub record Form (plan : List ℕ) (line : ℕ) : Type 0 where
 
 module _ {plan : List ℕ} {line : ℕ} (f : Form plan line) where
   -- lines, one after the other
-  abbrev pub spelledRows : List (Values f.row) → List ℕ
-  spelledRows [] = []
-  spelledRows (w ∷ ws) = spelled f.row w ++ (f.end ∷ spelledRows ws)
+  abbrev pub spelled_rows : List (Values f.row) → List ℕ
+  spelled_rows [] = []
+  spelled_rows (w ∷ ws) = spelled f.row w ++ (f.end ∷ spelled_rows ws)
 
-  abbrev pub loadedRows : List (Values f.row) → List ℕ → List ℕ
-  loadedRows [] g = g
-  loadedRows (w ∷ ws) g = loadedRows ws (loaded f.row w g)
+  abbrev pub loaded_rows : List (Values f.row) → List ℕ → List ℕ
+  loaded_rows [] g = g
+  loaded_rows (w ∷ ws) g = loaded_rows ws (loaded f.row w g)
 
   -- a text that the plan shows, its last line ended
-  abbrev pub spelledText : Values f.head → List (Values f.row) → List ℕ
-  spelledText w ws = spelled f.head w ++ spelledRows ws
+  abbrev pub spelled_text : Values f.head → List (Values f.row) → List ℕ
+  spelled_text w ws = spelled f.head w ++ spelled_rows ws
 
   -- s is such a text, of as many lines as it says: the CR LF of the last may be missing
   abbrev pub Spells : List ℕ → Values f.head → List (Values f.row) → Type 0
-  Spells s w ws = (count_read f.head w 0 ≡ length ws) × ((s ≡ spelledText w ws) ⊎ (s ++ bytes "\r\n" ≡ spelledText w ws))
+  Spells s w ws = (count_read f.head w 0 ≡ length ws) × ((s ≡ spelled_text w ws) ⊎ (s ++ bytes "\r\n" ≡ spelled_text w ws))
 
   -- what the reader holds after it
   abbrev pub held_of : Values f.head → List (Values f.row) → Reader
-  held_of w ws = record { at = line; n = length ws; seen = length ws; numbers = loadedRows ws (loaded f.head w (replicate numbers_held 0)) }
+  held_of w ws = record { at = line; n = length ws; seen = length ws; numbers = loaded_rows ws (loaded f.head w (replicate numbers_held 0)) }
