@@ -11,8 +11,7 @@ use borrow.Author.Tests.{le-leb}
 use Rattle.layout.specs.Widths.{home_room, member_room, home_wide, members_wide, queue_wide}
 use Rattle.halting.specs.Every.{All}
 use Rattle.chunks.specs.Flat.{flat}
-use Rattle.model.specs.Grid.{cells}
-use Rattle.model.specs.State.{Row, State, queue, listed}
+use Rattle.model.specs.State.{Row, State}
 use Rattle.tables.specs.declared.Sizes.{Sizes}
 use Rattle.tables.specs.Layout.{places, row_nums, queue_nums}
 use Rattle.tables.specs.Holds.{Rows, Full}

@@ -1,5 +1,4 @@
 use mathlib.Core.Path.{sym, ap, ◌∙◌}
-use borrow.Author.Tests.{not-true, not-false}
 use Rattle.checks.proofs.Stages.{sized_means, check_2, check_mark, check_3, check_10, check_0}
 use Rattle.model.specs.Check.{halt}
 use Rattle.tables.specs.Decode.{tables}

@@ -1,5 +1,4 @@
 use mathlib.Core.Path.{sym, ◌∙◌}
-use borrow.Author.Tests.{not-true, not-false}
 use Rattle.layout.specs.Widths.{heap_wide}
 use Rattle.checks.proofs.Tests.{heaped_no, heaped_no_2, heaped_more}
 use lib.ListN.{take, drop, length-drop}

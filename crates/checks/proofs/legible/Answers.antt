@@ -1,5 +1,4 @@
 use mathlib.Core.Path.{sym, ap, ◌∙◌}
-use borrow.Author.Tests.{not-true, not-false}
 use Rattle.layout.specs.Widths.{lists_head_wide, home_room, member_room, home_wide, members_wide, home_from}
 use Rattle.chunks.proofs.Laws.{tail_is}
 use Prim.Native.Nat.{◌+◌}

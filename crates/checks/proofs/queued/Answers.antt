@@ -1,6 +1,5 @@
 use borrow.Rule.Slice.PartMut.{mid_of}
 use mathlib.Core.Path.{sym, ap, ◌∙◌}
-use borrow.Author.Tests.{not-true, not-false}
 use Rattle.chunks.proofs.Laws.{tail_long, tail_is}
 use Rattle.checks.proofs.Cut.{rowed_first}
 use Rattle.checks.proofs.Tests.{queued_no, queued_more}

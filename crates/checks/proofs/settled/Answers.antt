@@ -1,5 +1,4 @@
 use mathlib.Core.Path.{sym, ap, ◌∙◌}
-use borrow.Author.Tests.{not-true, not-false}
 use Rattle.chunks.proofs.Laws.{tail_is}
 use mathlib.Core.List.{List}
 use lib.Ieee.{Float}

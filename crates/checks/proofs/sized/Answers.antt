@@ -1,5 +1,5 @@
 use mathlib.Core.Path.{sym, ◌∙◌}
-use borrow.Author.Tests.{lt-leb, not-true, not-false}
+use borrow.Author.Tests.{lt-leb}
 use Rattle.checks.specs.Check.{sized_by}
 use Rattle.checks.proofs.Stages.{ranged_means, sized_no, sized_more}
 use Rattle.checks.proofs.sized.Goals as goal

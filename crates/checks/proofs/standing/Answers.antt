@@ -1,5 +1,4 @@
 use mathlib.Core.Path.{sym, ◌∙◌}
-use borrow.Author.Tests.{not-true, not-false}
 use Rattle.checks.proofs.Stages.{homes_rowed, members_rowed, queue_rowed, part_1, part_2, part_3, part_4, part_5, linked_lent, queued_lent}
 use Rattle.checks.proofs.Same.{legible_means}
 use Rattle.tables.specs.Decode.{tables}

@@ -1,5 +1,4 @@
 use mathlib.Core.Path.{sym, ◌∙◌}
-use borrow.Author.Tests.{not-true, not-false}
 use Rattle.checks.proofs.counts.ranged.Goals as goal
 
 pub returns-then-not-counts_ok : goal.returns-then-not-counts_ok

@@ -1,5 +1,4 @@
 use mathlib.Core.Path.{sym, ◌∙◌}
-use borrow.Author.Tests.{not-true, not-false}
 use Rattle.model.proofs.Grid.{across_max}
 use Rattle.checks.proofs.domain.boxed.Goals as goal
 

@@ -1,4 +1,3 @@
-use Prim.Native.Nat.{◌-◌}
 use Rattle.checks.proofs.places.+syncs.Given as goal
 
 abbrev pub decreases-syncs : goal.decreases-syncs

@@ -1,7 +1,5 @@
 use mathlib.Core.Path.{sym, ◌∙◌}
 use mathlib.Core.Bool.{true, false}
-use borrow.Author.Tests.{not-true, not-false}
-use Prim.Native.Nat.{◌-◌}
 use lib.ListN.{take}
 use Rattle.layout.specs.Widths.{place_nums_wide, place_reals_wide}
 use Rattle.model.specs.Check.{held}

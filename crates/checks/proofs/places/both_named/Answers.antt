@@ -1,5 +1,4 @@
 use mathlib.Core.Path.{sym, ◌∙◌}
-use borrow.Author.Tests.{not-true, not-false}
 use Rattle.checks.proofs.places.both_named.Goals as goal
 
 pub returns-then-not-has : goal.returns-then-not-has

@@ -1,7 +1,6 @@
 use mathlib.Core.List.{[]}
 use mathlib.Core.Path.{sym, ap, ◌∙◌}
 use lib.ListN.{take}
-use borrow.Author.Tests.{not-true, not-false}
 use Rattle.model.specs.Check.{named}
 use Rattle.tables.specs.Decode.{place_at}
 use Rattle.checks.proofs.OnePlace.{place_run, held_unknown, held_unfine, held_named}

@@ -1,5 +1,4 @@
 use borrow.Rule.Slice.PartMut.{mid_of}
-use borrow.Author.Tests.{not-true, not-false}
 use Rattle.checks.proofs.OnePlace.{queue_no, queue_more}
 use Rattle.checks.proofs.OneRow.{live_is}
 use Rattle.tables.specs.Decode.{row_at}

@@ -1,6 +1,5 @@
 use mathlib.Core.Bool.{true, false}
 use borrow.Author.Tests.{le-ltb, lt-ltb}
-use Prim.Native.Nat.{◌-◌}
 use lib.Dec.{ltb}
 use Rattle.chunks.proofs.Laws.{some, tail_long, take_none, take_step}
 use Rattle.checks.proofs.Lists.{all_none, all_no, all_more}

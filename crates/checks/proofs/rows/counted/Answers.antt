@@ -1,5 +1,4 @@
 use mathlib.Core.Bool.{true, false}
-use Prim.Native.Nat.{◌-◌}
 use lib.ListN.{length}
 use Rattle.chunks.proofs.Laws.{some, tail_long}
 use Rattle.checks.proofs.Cut.{less_rows, rest_long, counted_none, counted_no, counted_more}

@@ -1,5 +1,5 @@
 use mathlib.Core.Bool.{true, false}
-use Prim.Native.Nat.{◌+◌, ◌-◌}
+use Prim.Native.Nat.{◌+◌}
 use Rattle.chunks.proofs.Laws.{some}
 use Rattle.checks.proofs.Cut.{cut_none, cut_step, rowed_first, rowed_rest}
 use Rattle.checks.proofs.Lists.{all_none, all_no, all_more}

@@ -1,5 +1,4 @@
 use mathlib.Core.Path.{sym, ◌∙◌}
-use borrow.Author.Tests.{not-true, not-false}
 use Rattle.checks.proofs.rows.linked.Goals as goal
 
 pub returns-then-not-side : goal.returns-then-not-side

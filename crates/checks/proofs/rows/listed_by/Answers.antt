@@ -1,7 +1,5 @@
 use mathlib.Core.Path.{sym, ◌∙◌}
 use mathlib.Core.Bool.{true, false}
-use borrow.Author.Tests.{not-true, not-false}
-use Prim.Native.Nat.{◌-◌}
 use Rattle.model.specs.State.{has, live_at}
 use Rattle.tables.specs.Decode.{rows_of}
 use Rattle.chunks.proofs.Laws.{some, tail_long, take_none, take_step}

@@ -1,4 +1,3 @@
-use borrow.Author.Tests.{not-true, not-false}
 use Rattle.checks.proofs.OneRow.{numbers_no, numbers_more}
 use Rattle.checks.proofs.rows.numbers.Goals as goal
 

@@ -1,7 +1,6 @@
 use mathlib.Core.Path.{sym, ◌∙◌}
 use mathlib.Core.Bool.{true, false}
-use borrow.Author.Tests.{not-true, not-false}
-use Prim.Native.Nat.{◌+◌, ◌-◌}
+use Prim.Native.Nat.{◌+◌}
 use Rattle.chunks.proofs.Laws.{some}
 use Rattle.checks.proofs.Cut.{cut_none, cut_step, rowed_first, rowed_rest, first_of}
 use Rattle.checks.proofs.Lists.{all_none, all_no, all_more}

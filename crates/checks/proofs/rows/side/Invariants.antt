@@ -1,6 +1,6 @@
 use mathlib.Core.Path.{◌≡◌}
 use mathlib.Core.Bool.{Bool}
-use Prim.Native.Nat.{◌+◌, ◌-◌}
+use Prim.Native.Nat.{◌+◌}
 use Rattle.tables.specs.Decode.{rows_of}
 use Rattle.checks.specs.Inside.{Rowed}
 use Rattle.model.specs.Check.{all, numbers}
