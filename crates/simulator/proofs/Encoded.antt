@@ -1,5 +1,5 @@
 -- The tables that hold a sound state, over tables that are long enough: they pass check 2, they are read as that state, and another state of the same sizes over them leaves nothing of it. Assumes nothing.
-use Prim.Native.Nat.{ℕ, ◌+◌, ◌-◌, ◌*◌, ◌≤◌}
+use Prim.Native.Nat.{ℕ, ◌-◌, ◌*◌, ◌≤◌}
 use mathlib.Core.Path.{◌≡◌, refl, sym, ap, ◌∙◌}
 use mathlib.Core.Bool.{Bool, true, false, ◌&&◌}
 use mathlib.Core.List.{List, ◌++◌}
@@ -10,7 +10,7 @@ use lib.Ieee.{Float}
 use Rattle.layout.specs.Widths.{lists_head_wide, grains_head_wide, grain_wide, home_room, member_room, queue_wide, events_wide, order_wide}
 use Rattle.chunks.specs.Flat.{flat}
 use Rattle.chunks.proofs.Laws.{length_flat, row_long}
-use Rattle.model.specs.Grid.{cells, box_of}
+use Rattle.model.specs.Grid.{box_of}
 use Rattle.model.specs.State.{State}
 use Rattle.model.proofs.Sound.{Sound}
 use Rattle.model.specs.Check as model

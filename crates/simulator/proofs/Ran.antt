@@ -13,7 +13,6 @@ use Rattle.model.proofs.Sound.{Sound, Stands}
 use Rattle.model.specs.Run.{How, synchronised, spent, refused, Ran, run_from}
 use Rattle.model.specs.Check.{halt, refusal, run_all}
 use Rattle.model.specs.Check as model
-use Rattle.model.specs.Reached.{after}
 use Rattle.halting.proofs.Bools.{clash}
 use Rattle.model.proofs.Stands.{sound_fitted}
 use Rattle.model.proofs.Reflect.{says_stands}

@@ -2,7 +2,6 @@ use mathlib.Core.Path.{◌≡◌, sym, ap, subst, ◌∙◌}
 use Prim.Native.Nat.{ℕ}
 use lib.Ieee.{Float}
 use Rattle.root.specs.declared.Root.{Root}
-use Rattle.root.specs.Root.{root_of}
 use Rattle.root.specs.Rule.{number, value, RootSays, RootRule}
 use Rattle.fesolopi.proofs.fesolopi_square_root.Goals as goal
 

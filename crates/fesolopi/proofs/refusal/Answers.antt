@@ -1,5 +1,4 @@
 use mathlib.Core.Path.{sym, ◌∙◌}
-use borrow.Author.Tests.{not-true, not-false}
 use Rattle.fesolopi.proofs.refusal.Goals as goal
 
 pub returns-then-not-box_ok : goal.returns-then-not-box_ok

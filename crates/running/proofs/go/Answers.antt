@@ -1,5 +1,3 @@
-use Prim.Native.Nat.{◌-◌}
-use mathlib.Core.Path.{refl, ◌∙◌}
 use native.Mathlib.Omega.{arith}
 use Rattle.model.proofs.Stands.{standing, sound_fitted}
 use Rattle.running.proofs.Going.{holds_of, left_first, left-more, gone-sync, gone-halted, gone_spent}
@@ -28,14 +26,13 @@ returns-then-s c =
     gone-sync c.requires.2 c.loop-done-test.true N E.0.0 E.0.1 E.1 c.if-s-ne0.false c.if-s.true
 
 pub loop-done-preserved : goal.loop-done-preserved
-loop-done-preserved c =
- (
-      omega arith,
-      λ s h.
-          let N = c.loop-done.invariant.1 s h in
-          let E = c.step-s.ensures N.now (holds_of N.held) N.held.seen.at.0 (standing N.now N.stands) (sound_fitted N.now N.stands.sound) in
-          left-more c.requires.2 c.loop-done-test.true N E.0.0 E.0.1 E.1 c.if-s-ne0.false c.if-s.false,
-    )
+loop-done-preserved c = (
+  omega arith,
+  λ s h.
+      let N = c.loop-done.invariant.1 s h in
+      let E = c.step-s.ensures N.now (holds_of N.held) N.held.seen.at.0 (standing N.now N.stands) (sound_fitted N.now N.stands.sound) in
+      left-more c.requires.2 c.loop-done-test.true N E.0.0 E.0.1 E.1 c.if-s-ne0.false c.if-s.false,
+)
 
 pub returns : goal.returns
 returns c =

@@ -1,6 +1,4 @@
 use Prim.Native.Nat.{◌≤◌, ◌-◌}
-use mathlib.Core.Path.{◌≡◌}
-use lib.ListN.{length}
 use Rattle.model.specs.State.{State}
 use Rattle.running.specs.Going.{Lent}
 use Rattle.running.proofs.Going.{Left}

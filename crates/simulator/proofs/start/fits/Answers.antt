@@ -1,6 +1,6 @@
 use mathlib.Core.Path.{sym, ◌∙◌}
 use native.Mathlib.Omega.{arith}
-use borrow.Author.Tests.{not-true, not-false, le-leb, lt-leb}
+use borrow.Author.Tests.{le-leb, lt-leb}
 use Rattle.simulator.specs.Start.{fits}
 use Rattle.simulator.proofs.StartLaws.{counts_mean}
 use Rattle.simulator.proofs.start.fits.Goals as goal

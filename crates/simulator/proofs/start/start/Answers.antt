@@ -1,7 +1,5 @@
 use Prim.Native.Nat.{◌≤◌}
 use mathlib.Core.Path.{sym, ◌∙◌, subst}
-use borrow.Author.Tests.{not-true, not-false}
-use Rattle.model.specs.Check.{Fits}
 use Rattle.model.proofs.Grid.{cells_max}
 use Rattle.tables.specs.Decode.{tables}
 use Rattle.starting.proofs.GoLaws.{grid_few}
