@@ -4,7 +4,6 @@ use Rattle.scheduler.specs.Inside.{head_in}
 use Rattle.scheduler.specs.Head.{earlier}
 use mathlib.Core.Bool.{true, false}
 use mathlib.Core.Path.{◌≡◌, sym}
-use native.Mathlib.Omega.{arith}
 use Rattle.scheduler.proofs.parent.Goals as goal
 
 pub returns-then-cells-c : goal.returns-then-cells-c
@@ -18,9 +17,6 @@ returns-then-c-eq0 c =
     let a = c.args in
     let h = head_in a.times.now a.held.now a.room in
     sym (parent_root h a.heap.now a.cells a.c c.if-c-eq0.true)
-
-pub overflow_sub-p : goal.overflow_sub-p
-overflow_sub-p c = omega (arith, c.if-c-eq0.false)
 
 pub returns-then-earlier : goal.returns-then-earlier
 returns-then-earlier c =
