@@ -1,6 +1,6 @@
 use Prim.Native.Nat.{ℕ}
-use mathlib.Core.Path.{◌≡◌, refl, sym, ap, ◌∙◌}
-use mathlib.Core.Bool.{Bool, true}
+use mathlib.Core.Path.{◌≡◌, sym, ap, ◌∙◌}
+use mathlib.Core.Bool.{Bool}
 use mathlib.Core.List.{List}
 use native.Mathlib.Nat.{zero-add}
 use native.Mathlib.Omega.{arith}
@@ -12,19 +12,19 @@ use Rattle.text.proofs.Putting.{put_length}
 use Rattle.answers.proofs.Texts.{of_answer}
 use Rattle.answers.proofs.output.write_answer.Goals as goal
 
-at-start : {n : ℕ} {t s u : List ℕ} → Put 0 t s u n → take n u ≡ t
-at-start {n} {t} {s} {u} p = ap (take n) p.written ∙ take_at t _ n (sym (p.place ∙ zero-add _))
+at_start : {n : ℕ} {t s u : List ℕ} → Put 0 t s u n → take n u ≡ t
+at_start {n} {t} {s} {u} p = ap (take n) p.written ∙ take_at t _ n (sym (p.place ∙ zero-add _))
 
-handed : {n : ℕ} {t s u v : List ℕ} {q r : Bool} → Put 0 t s u n → v ≡ take n u → q ≡ r → HandedOut v q → HandedOut t r
-handed p e f h = rw (← at-start p, ← e, ← f) h
+handed : {n : ℕ} {t s u : List ℕ} {r : Bool} → Put 0 t s u n → HandedOut (take n u) r → HandedOut t r
+handed p h = rw (← at_start p) h
 
 pub slice_bounds-out-end : goal.slice_bounds-out-end
-slice_bounds-out-end c = let c = c.answer.ensures.1 in omega (arith, c.room, c.place, put_length c)
+slice_bounds-out-end c = let p = c.answer-n.ensures.put in omega (arith, p.room, p.place, put_length p)
 
 pub slice_bounds-hand_out-end : goal.slice_bounds-hand_out-end
-slice_bounds-hand_out-end c = let c = c.before.answer.ensures.1 in sym (length-take-le _ _ (omega (arith, c.room, c.place, put_length c)))
+slice_bounds-hand_out-end c = let p = c.answer-n.ensures.put in sym (length-take-le _ _ (omega (arith, p.room, p.place, put_length p)))
 
 pub returns : goal.returns
 returns c =
-    let h = handed c.answer-n.ensures.1 refl c.if1.true c.hand_out.ensures in
-    (of_answer _ (λ a. HandedOut a true) h, h)
+    let h = handed c.answer-n.ensures.put c.hand_out.ensures in
+    record { of_answer = of_answer _ (λ a. HandedOut a c.hand_out.result) h; handed_out = h }

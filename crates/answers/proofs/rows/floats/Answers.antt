@@ -1,4 +1,3 @@
-use Prim.Native.Nat.{◌-◌}
 use mathlib.Core.Path.{refl, sym, ◌∙◌}
 use lib.ListN.{length-set}
 use Rattle.answers.specs.Answer.{float}
@@ -18,4 +17,4 @@ pub shape_of-out : goal.shape_of-out
 shape_of-out c = c.loop-i.invariant.1 ∙ c.requires
 
 pub returns : goal.returns
-returns c = let c = c.before.loop.invariant in mapped_all float 0 _ _ _ _ c.2 c.loop-test.false c.before.before.before.before.requires
+returns c = mapped_all float 0 _ _ _ _ c.loop-i.invariant.2 c.loop-i-test.false c.requires

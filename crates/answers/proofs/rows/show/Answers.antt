@@ -2,4 +2,4 @@ use Rattle.answers.proofs.RowLaws.{show_behind}
 use Rattle.answers.proofs.rows.show.Goals as goal
 
 pub returns : goal.returns
-returns c = let c = c.before.before.before.before.before.before.before.args in show_behind c.n c.grains.now c.bits-1.now _ c.before.before.show-rows.ensures
+returns c = show_behind c.args.n c.args.grains.now c.args.bits.now _ c.show_rows.ensures

@@ -4,4 +4,7 @@ use Rattle.answers.proofs.runs.serve.Goals as goal
 
 pub returns : goal.returns
 unfolding blank
-returns c = let c = c.before.before.before.before.before.before.before.before.simulate in serve_ends c.result _ _ _ _ _ _ _ c.ensures c.show.ensures
+returns c =
+    let r = c.simulate-report in
+    let (value, bits_after) = serve_ends r.result _ _ _ _ _ _ _ r.ensures c.show.ensures in
+    record { value = value; bits_after = bits_after }
