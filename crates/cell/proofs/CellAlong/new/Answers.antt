@@ -9,31 +9,16 @@ known c = inside c.args.domain c.args.grid c.args.dim c.args.cell c.requires.0 c
 meant : (c : Start) → AlongIs c.args.domain c.args.grid c.args.dim c.args.cell
 meant c = along_is c.args.domain c.args.grid c.args.dim c.args.cell c.requires.0
 
-pub index-i-requires : goal.index-i-requires
-index-i-requires c = (known (goal.at.index-i-requires c).Start).some
-
 pub edge-requires : goal.edge-requires
 edge-requires c = let k = known (goal.at.edge-requires c).Start in (omega arith, omega arith)
 
-pub overflow_add-i : goal.overflow_add-i
-overflow_add-i c = let k = known (goal.at.overflow_add-i c).Start in omega arith
-
 pub edge-requires-2 : goal.edge-requires-2
 edge-requires-2 c = let k = known (goal.at.edge-requires-2 c).Start in (omega arith, omega arith)
-
-pub position-requires : goal.position-requires
-position-requires c = let k = known (goal.at.position-requires c).Start in omega arith
-
-pub index_below-requires : goal.index_below-requires
-index_below-requires c = let k = known (goal.at.index_below-requires c).Start in omega arith
 
 pub beside-requires : goal.beside-requires
 beside-requires c =
     let k = known (goal.at.beside-requires c).Start in
     (k.some, k.few, omega arith, wrapped_small _ c.across-n.result _ (omega arith) (omega arith) c.index_below.ensures)
-
-pub index_above-requires : goal.index_above-requires
-index_above-requires c = let k = known (goal.at.index_above-requires c).Start in omega arith
 
 pub beside-requires-2 : goal.beside-requires-2
 beside-requires-2 c =
