@@ -19,11 +19,6 @@ returns-then-not-queues_ok c =
     let ms = rows_of member_room z.cells c.args.members.now in
     queued_no c.args.clock z.room z.cells ms c.args.queue.now c.args.events.now (sym c.queues_ok.ensures ∙ c.if-not-queues_ok.true)
 
-pub count_of-k-requires : goal.count_of-k-requires
-count_of-k-requires c =
-    let f = rowed_first c.requires.0 (λ w. omega (arith, c.requires.5)) in
-    omega (arith, f.1)
-
 pub syncs-requires : goal.syncs-requires
 syncs-requires c =
     let f = rowed_first c.requires.0 (λ w. omega (arith, c.requires.5)) in

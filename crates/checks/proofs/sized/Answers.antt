@@ -1,7 +1,7 @@
 use mathlib.Core.Path.{sym, ◌∙◌}
 use borrow.Author.Tests.{lt-leb}
 use Rattle.checks.specs.Check.{sized_by}
-use Rattle.checks.proofs.Stages.{ranged_means, sized_no, sized_more}
+use Rattle.checks.proofs.Stages.{sized_no, sized_more}
 use Rattle.checks.proofs.sized.Goals as goal
 
 pub returns-then-lists-lt-LISTS_HEAD : goal.returns-then-lists-lt-LISTS_HEAD
@@ -12,11 +12,6 @@ pub returns-then-not-ranged : goal.returns-then-not-ranged
 returns-then-not-ranged c =
     let g = c.args in
     sized_no g.lists.now g.grains g.queue g.events g.order c.if-lists-lt-LISTS_HEAD.false c.sizes_of-z.ensures (sym c.ranged.ensures ∙ c.if-not-ranged.true)
-
-pub long-requires : goal.long-requires
-long-requires c =
-    let m = ranged_means _ (sym c.ranged.ensures ∙ c.if-not-ranged.false) in
-    (m.0, m.2, m.4)
 
 pub returns : goal.returns
 returns c =

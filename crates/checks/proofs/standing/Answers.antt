@@ -1,6 +1,5 @@
 use mathlib.Core.Path.{sym, ◌∙◌}
-use Rattle.checks.proofs.Stages.{homes_rowed, members_rowed, queue_rowed, part_1, part_2, part_3, part_4, part_5, linked_lent, queued_lent}
-use Rattle.checks.proofs.Same.{legible_means}
+use Rattle.checks.proofs.Stages.{part_1, part_2, part_3, part_4, part_5, linked_lent, queued_lent}
 use Rattle.tables.specs.Decode.{tables}
 use Rattle.checks.proofs.standing.Goals as goal
 
@@ -20,15 +19,6 @@ returns-then-not-settled c =
     let S = c.requires in
     part_2 z t S (sym c.legible.ensures ∙ c.if-not-legible.false) (sym c.settled.ensures ∙ c.if-not-settled.true)
 
-pub linked-requires : goal.linked-requires
-linked-requires c =
-    let g = c.args in
-    let z = g.z in
-    let t = tables g.lists.now g.grains.now g.queue.now g.events.now g.order.now in
-    let S = c.requires in
-    let L = legible_means z g.lists.now g.queue.now (sym c.legible.ensures ∙ c.if-not-legible.false) in
-    (homes_rowed z t S L, members_rowed z t S L, S.grains_most, S.cells_most)
-
 pub returns-then-not-linked : goal.returns-then-not-linked
 returns-then-not-linked c =
     let g = c.args in
@@ -36,15 +26,6 @@ returns-then-not-linked c =
     let t = tables g.lists.now g.grains.now g.queue.now g.events.now g.order.now in
     let S = c.requires in
     part_3 z t S (sym c.legible.ensures ∙ c.if-not-legible.false) (sym c.settled.ensures ∙ c.if-not-settled.false) (linked_lent z t c.linked.ensures ∙ c.if-not-linked.true)
-
-pub queued-requires : goal.queued-requires
-queued-requires c =
-    let g = c.args in
-    let z = g.z in
-    let t = tables g.lists.now g.grains.now g.queue.now g.events.now g.order.now in
-    let S = c.requires in
-    let L = legible_means z g.lists.now g.queue.now (sym c.legible.ensures ∙ c.if-not-legible.false) in
-    (queue_rowed z t S L, S.events_long, S.room_most, members_rowed z t S L, S.cells_most, S.cells_least)
 
 pub returns-then-not-queued : goal.returns-then-not-queued
 returns-then-not-queued c =

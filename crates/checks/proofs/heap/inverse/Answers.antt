@@ -1,12 +1,8 @@
 use mathlib.Core.Path.{sym, ◌∙◌}
-use native.Mathlib.Nat.{sub-zero}
 use Rattle.halting.proofs.Tests.{passed, failed, ended}
 use Rattle.model.specs.Check.{leads_back}
 use native.Mathlib.Omega.{arith}
 use Rattle.checks.proofs.heap.inverse.Goals as goal
-
-pub loop-i-init : goal.loop-i-init
-loop-i-init c = (omega arith, rw sub-zero)
 
 pub returns-then-not-leads_back : goal.returns-then-not-leads_back
 returns-then-not-leads_back c =

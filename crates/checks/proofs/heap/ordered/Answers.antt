@@ -1,13 +1,9 @@
 use mathlib.Core.Path.{sym, ◌∙◌}
-use native.Mathlib.Nat.{sub-zero}
 use Rattle.halting.proofs.Tests.{passed, failed, ended}
 use Rattle.model.specs.Check.{in_order}
 use Rattle.scheduler.specs.Inside.{head_in}
 use native.Mathlib.Omega.{arith}
 use Rattle.checks.proofs.heap.ordered.Goals as goal
-
-pub loop-i-init : goal.loop-i-init
-loop-i-init c = (omega arith, rw sub-zero)
 
 pub returns-then-not-in_order : goal.returns-then-not-in_order
 returns-then-not-in_order c =

@@ -8,11 +8,7 @@ use Rattle.chunks.proofs.Laws.{some}
 use Rattle.checks.proofs.Cut.{rest_long, both_none, both_step}
 use Rattle.checks.proofs.Lists.{all_none, all_no, all_more}
 use native.Mathlib.Omega.{arith}
-use borrow.Author.Rules.{rules}
 use Rattle.checks.proofs.places.all_held.Goals as goal
-
-pub loop-left-init : goal.loop-left-init
-loop-left-init c = (search rules, search rules, λ r e. e)
 
 pub returns-then-not-held : goal.returns-then-not-held
 returns-then-not-held c =

@@ -13,18 +13,6 @@ use Rattle.checks.proofs.OneRow.{row_in}
 use native.Mathlib.Omega.{arith}
 use Rattle.checks.proofs.places.queues_ok.Goals as goal
 
-pub overflow_mul-w : goal.overflow_mul-w
-overflow_mul-w c =
-    omega (arith, c.requires.2)
-
-pub overflow_add-w : goal.overflow_add-w
-overflow_add-w c =
-    omega (arith, c.requires.2)
-
-pub overflow_mul-v : goal.overflow_mul-v
-overflow_mul-v c =
-    omega (arith, c.requires.2)
-
 pub queue_ok-requires : goal.queue_ok-requires
 queue_ok-requires c =
     let l = c.loop-left in
@@ -49,50 +37,6 @@ returns-then-not-queue_ok c =
     (both_step (queue_at room) (queue_wide room) (events_wide room) l.left l.rows.now l.floats.now (some h))
     (ap (λ (r : Row ℕ). queue_ok c.args.t room c.args.n l.at r.live (queue_at room l.rows.now l.floats.now))
     (row_in member_room c.args.n c.args.members.now l.at g) ∙ sym c.queue_ok.ensures ∙ c.if-not-queue_ok.true))
-
-pub slice_bounds-rows-count : goal.slice_bounds-rows-count
-slice_bounds-rows-count c =
-    let l = c.loop-left in
-    let room = c.args.room in
-    let h = c.loop-left-test.true in
-    let g : l.at < c.args.n = (let s = l.invariant.2 in omega (arith, h)) in
-    let f = rowed_first l.invariant.0 (some h) in
-    let d = less_rows l.left (events_wide room) (length l.floats.now) (some h) l.invariant.1 in
-    let k = rowed_in c.requires.3 l.at g in
-    omega (arith, c.requires.2)
-
-pub slice_bounds-rows-start : goal.slice_bounds-rows-start
-slice_bounds-rows-start c =
-    let l = c.loop-left in
-    let room = c.args.room in
-    let h = c.loop-left-test.true in
-    let g : l.at < c.args.n = (let s = l.invariant.2 in omega (arith, h)) in
-    let f = rowed_first l.invariant.0 (some h) in
-    let d = less_rows l.left (events_wide room) (length l.floats.now) (some h) l.invariant.1 in
-    let k = rowed_in c.requires.3 l.at g in
-    omega (arith, c.requires.2)
-
-pub slice_bounds-floats-count : goal.slice_bounds-floats-count
-slice_bounds-floats-count c =
-    let l = c.loop-left in
-    let room = c.args.room in
-    let h = c.loop-left-test.true in
-    let g : l.at < c.args.n = (let s = l.invariant.2 in omega (arith, h)) in
-    let f = rowed_first l.invariant.0 (some h) in
-    let d = less_rows l.left (events_wide room) (length l.floats.now) (some h) l.invariant.1 in
-    let k = rowed_in c.requires.3 l.at g in
-    omega (arith, c.requires.2)
-
-pub slice_bounds-floats-start : goal.slice_bounds-floats-start
-slice_bounds-floats-start c =
-    let l = c.loop-left in
-    let room = c.args.room in
-    let h = c.loop-left-test.true in
-    let g : l.at < c.args.n = (let s = l.invariant.2 in omega (arith, h)) in
-    let f = rowed_first l.invariant.0 (some h) in
-    let d = less_rows l.left (events_wide room) (length l.floats.now) (some h) l.invariant.1 in
-    let k = rowed_in c.requires.3 l.at g in
-    omega (arith, c.requires.2)
 
 pub loop-left-preserved : goal.loop-left-preserved
 loop-left-preserved c =

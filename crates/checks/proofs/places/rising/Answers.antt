@@ -8,11 +8,7 @@ use Rattle.chunks.proofs.Laws.{some}
 use Rattle.checks.proofs.Cut.{rest_long, both_none, both_step}
 use Rattle.checks.proofs.OnePlace.{rising_none, rising_no, rising_more}
 use native.Mathlib.Omega.{arith}
-use borrow.Author.Rules.{rules}
 use Rattle.checks.proofs.places.rising.Goals as goal
-
-pub loop-left-init : goal.loop-left-init
-loop-left-init c = (search rules, λ r e. e)
 
 pub loop-left-preserved : goal.loop-left-preserved
 loop-left-preserved c =

@@ -9,11 +9,7 @@ use Rattle.checks.proofs.Cut.{cut_none, cut_step, rowed_first, rowed_rest}
 use Rattle.checks.proofs.Lists.{walk_none, walk_no, walk_more}
 use Rattle.checks.proofs.OneRow.{live_is}
 use native.Mathlib.Omega.{arith}
-use borrow.Author.Rules.{rules}
 use Rattle.checks.proofs.rows.back.Goals as goal
-
-pub loop-left-init : goal.loop-left-init
-loop-left-init c = (search rules, search rules, λ r e. e)
 
 pub listed_by-requires : goal.listed_by-requires
 listed_by-requires c =
@@ -28,18 +24,6 @@ returns-then-not-listed_by c =
     let os = rows_of c.args.v c.args.n c.args.others.now in
     let u = c.args.u in
     l.invariant.2 false (walk_no (back_row os) l.at _ _ (cut_step (row_at u) (u + 1) l.left l.rest.now (some c.loop-left-test.true)) (ap (all (λ k. has l.at (live_at os k))) (live_is u l.rest.now f.0) ∙ sym c.listed_by.ensures ∙ c.if-not-listed_by.true))
-
-pub slice_bounds-rest-count : goal.slice_bounds-rest-count
-slice_bounds-rest-count c =
-    let l = c.loop-left in
-    let f = rowed_first l.invariant.0 (some c.loop-left-test.true) in
-    omega (arith, c.requires.1)
-
-pub slice_bounds-rest-start : goal.slice_bounds-rest-start
-slice_bounds-rest-start c =
-    let l = c.loop-left in
-    let f = rowed_first l.invariant.0 (some c.loop-left-test.true) in
-    omega (arith, c.requires.1)
 
 pub loop-left-preserved : goal.loop-left-preserved
 loop-left-preserved c =

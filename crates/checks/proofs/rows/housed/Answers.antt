@@ -7,11 +7,7 @@ use Rattle.tables.specs.Decode.{row_at}
 use Rattle.model.specs.Check.{housed as is_housed}
 use Rattle.checks.proofs.OneRow.{housed_no, housed_yes}
 use native.Mathlib.Omega.{arith}
-use borrow.Author.Rules.{rules}
 use Rattle.checks.proofs.rows.housed.Goals as goal
-
-pub loop-left-init : goal.loop-left-init
-loop-left-init c = (search rules, λ r e. e)
 
 pub returns-then-rest-lt1 : goal.returns-then-rest-lt1
 returns-then-rest-lt1 c =
@@ -19,18 +15,6 @@ returns-then-rest-lt1 c =
     let v = c.args.v in
     let f = rowed_first l.invariant.0 (some c.loop-left-test.true) in
     l.invariant.1 false (all_no is_housed _ _ (cut_step (row_at v) (v + 1) l.left l.rest.now (some c.loop-left-test.true)) (housed_no v l.rest.now f.0 c.if-rest-lt1.true))
-
-pub slice_bounds-rest-count : goal.slice_bounds-rest-count
-slice_bounds-rest-count c =
-    let l = c.loop-left in
-    let f = rowed_first l.invariant.0 (some c.loop-left-test.true) in
-    omega (arith, c.requires.1)
-
-pub slice_bounds-rest-start : goal.slice_bounds-rest-start
-slice_bounds-rest-start c =
-    let l = c.loop-left in
-    let f = rowed_first l.invariant.0 (some c.loop-left-test.true) in
-    omega (arith, c.requires.1)
 
 pub loop-left-preserved : goal.loop-left-preserved
 loop-left-preserved c =

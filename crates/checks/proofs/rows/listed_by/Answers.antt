@@ -1,15 +1,11 @@
 use mathlib.Core.Path.{sym, ◌∙◌}
-use mathlib.Core.Bool.{true, false}
+use mathlib.Core.Bool.{false}
 use Rattle.model.specs.State.{has, live_at}
 use Rattle.tables.specs.Decode.{rows_of}
-use Rattle.chunks.proofs.Laws.{some, tail_long, take_none, take_step}
-use Rattle.checks.proofs.Lists.{all_none, all_no, all_more}
+use Rattle.chunks.proofs.Laws.{some, tail_long, take_step}
+use Rattle.checks.proofs.Lists.{all_no, all_more}
 use native.Mathlib.Omega.{arith}
-use borrow.Author.Rules.{rules}
 use Rattle.checks.proofs.rows.listed_by.Goals as goal
-
-pub loop-left-init : goal.loop-left-init
-loop-left-init c = (search rules, λ r e. e)
 
 pub returns-then-not-lists : goal.returns-then-not-lists
 returns-then-not-lists c =
@@ -21,8 +17,3 @@ loop-left-preserved c =
     let l = c.loop-left in
     let e = tail_long 1 l.rest.now in
     (omega arith, λ r e. l.invariant.1 r (all_more (λ k. has c.args.x (live_at (rows_of c.args.v c.args.n c.args.others.now) k)) _ _ (take_step l.left l.rest.now 0 (some c.loop-left-test.true) l.invariant.0) (sym c.lists.ensures ∙ c.if-not-lists.false) e))
-
-pub returns : goal.returns
-returns c =
-    let l = c.loop-left in
-    l.invariant.1 true (all_none (λ k. has c.args.x (live_at (rows_of c.args.v c.args.n c.args.others.now) k)) (take_none l.left l.rest.now (omega arith)))

@@ -1,9 +1,7 @@
 use lib.ListN.{get_or}
 use Rattle.model.specs.State.{none}
 use Rattle.tables.specs.Decode.{rows_of}
-use Rattle.checks.proofs.Cut.{rowed_in}
 use Rattle.checks.proofs.OneRow.{row_part, lists_out}
-use native.Mathlib.Omega.{arith}
 use Rattle.checks.proofs.rows.lists.Goals as goal
 
 pub returns-then-n-c : goal.returns-then-n-c
@@ -13,31 +11,6 @@ returns-then-n-c c =
     let n = c.args.n in
     let c' = c.args.c in
     lists_out v n l c' c.args.x c.if-n-c.true
-
-pub overflow_mul-a : goal.overflow_mul-a
-overflow_mul-a c =
-    let k = rowed_in c.requires.0 c.args.c c.if-n-c.false in
-    omega (arith, c.requires.1)
-
-pub overflow_add-b : goal.overflow_add-b
-overflow_add-b c =
-    let k = rowed_in c.requires.0 c.args.c c.if-n-c.false in
-    omega (arith, c.requires.1)
-
-pub overflow_add-b-2 : goal.overflow_add-b-2
-overflow_add-b-2 c =
-    let k = rowed_in c.requires.0 c.args.c c.if-n-c.false in
-    omega (arith, c.requires.1)
-
-pub offset_bounds-rows-a : goal.offset_bounds-rows-a
-offset_bounds-rows-a c =
-    let k = rowed_in c.requires.0 c.args.c c.if-n-c.false in
-    omega (arith, c.requires.1)
-
-pub slice_bounds-lists-end : goal.slice_bounds-lists-end
-slice_bounds-lists-end c =
-    let k = rowed_in c.requires.0 c.args.c c.if-n-c.false in
-    omega (arith, c.requires.1)
 
 pub lists-requires : goal.lists-requires
 lists-requires c =

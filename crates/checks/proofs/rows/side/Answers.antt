@@ -7,11 +7,7 @@ use Rattle.checks.proofs.Lists.{all_none, all_no, all_more}
 use Rattle.tables.specs.Decode.{row_at}
 use Rattle.model.specs.Check.{numbers}
 use native.Mathlib.Omega.{arith}
-use borrow.Author.Rules.{rules}
 use Rattle.checks.proofs.rows.side.Goals as goal
-
-pub loop-left-init : goal.loop-left-init
-loop-left-init c = (search rules, λ r e. e)
 
 pub numbers-requires : goal.numbers-requires
 numbers-requires c =
@@ -23,18 +19,6 @@ returns-then-not-numbers c =
     let v = c.args.v in
     let f = rowed_first l.invariant.0 (some c.loop-left-test.true) in
     l.invariant.1 false (all_no (numbers c.args.n v) _ _ (cut_step (row_at v) (v + 1) l.left l.rest.now (some c.loop-left-test.true)) (sym c.numbers.ensures ∙ c.if-not-numbers.true))
-
-pub slice_bounds-rest-count : goal.slice_bounds-rest-count
-slice_bounds-rest-count c =
-    let l = c.loop-left in
-    let f = rowed_first l.invariant.0 (some c.loop-left-test.true) in
-    omega (arith, c.requires.1)
-
-pub slice_bounds-rest-start : goal.slice_bounds-rest-start
-slice_bounds-rest-start c =
-    let l = c.loop-left in
-    let f = rowed_first l.invariant.0 (some c.loop-left-test.true) in
-    omega (arith, c.requires.1)
 
 pub loop-left-preserved : goal.loop-left-preserved
 loop-left-preserved c =
