@@ -1,10 +1,8 @@
 use Prim.Native.Nat.{◌-◌, ◌≤◌}
-use mathlib.Core.Path.{◌≡◌}
-use lib.ListN.{length}
 use Rattle.replay.proofs.commands.Given as goal
 
 abbrev pub invariant-loop-i : goal.invariant-loop-i
-invariant-loop-i l = (l.i ≤ 100000) × (length l.lists ≡ length l.initial.lists) × (length l.grains ≡ length l.initial.grains) × (length l.queue ≡ length l.initial.queue) × (length l.events ≡ length l.initial.events) × (length l.order ≡ length l.initial.order)
+invariant-loop-i l = l.i ≤ 100000
 
 abbrev pub decreases-loop-i : goal.decreases-loop-i
 decreases-loop-i l = 100000 - l.i
