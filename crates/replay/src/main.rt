@@ -216,7 +216,10 @@ fn runs(
     let budget = (next(input) % 4294967296) as u32;
     let times = next(input) % 65536;
     for i in 0..times {
-        answer_run(out, simulator::run::run(lists, grains, queue, events, order, rate, budget));
+        answer_run(
+            out,
+            simulator::run::run(lists, grains, queue, events, order, rate, budget),
+        );
         close(out, lists, grains, queue, events, order, false);
     }
 }
@@ -310,17 +313,20 @@ fn start(
 ) {
     let asked = next_start(input);
     fill_floats(input, inputs);
-    answer_start(out, simulator::start::start(
-        asked.domain,
-        asked.count,
-        asked.room,
-        inputs,
-        lists,
-        grains,
-        queue,
-        events,
-        order,
-    ));
+    answer_start(
+        out,
+        simulator::start::start(
+            asked.domain,
+            asked.count,
+            asked.room,
+            inputs,
+            lists,
+            grains,
+            queue,
+            events,
+            order,
+        ),
+    );
     close(out, lists, grains, queue, events, order, false);
 }
 
