@@ -1,12 +1,8 @@
 use mathlib.Core.Path.{ap}
 use mathlib.Core.Bool.{not}
 use native.Mathlib.Omega.{arith}
-use lib.ListN.{length-take}
 use Rattle.leaves.proofs.Laws.{narrow}
 use Rattle.leaves.proofs.cells_hold.Goals as goal
-
-pub slice_bounds-fill-end-2 : goal.slice_bounds-fill-end-2
-slice_bounds-fill-end-2 c = simp length-take (omega arith)
 
 pub touched-x-requires : goal.touched-x-requires
 touched-x-requires c = omega (arith, (narrow _ _ _ c.box_ok.ensures (ap not c.if-not-box_ok.false) c.new-grid.ensures).0)

@@ -5,7 +5,7 @@ use mathlib.Core.List.{List}
 use native.Mathlib.Nat.{zero-add}
 use native.Mathlib.Omega.{arith}
 use lib.ListN.{take}
-use lib.Seq.{take_at, length-take-le}
+use lib.Seq.{take_at}
 use Rattle.pipes.specs.Writes.{HandedOut}
 use Rattle.text.specs.Put.{Put}
 use Rattle.text.proofs.Putting.{put_length}
@@ -20,9 +20,6 @@ handed p h = rw (← at_start p) h
 
 pub slice_bounds-out-end : goal.slice_bounds-out-end
 slice_bounds-out-end c = let p = c.answer-n.ensures.put in omega (arith, p.room, p.place, put_length p)
-
-pub slice_bounds-hand_out-end : goal.slice_bounds-hand_out-end
-slice_bounds-hand_out-end c = let p = c.answer-n.ensures.put in sym (length-take-le _ _ (omega (arith, p.room, p.place, put_length p)))
 
 pub returns : goal.returns
 returns c =

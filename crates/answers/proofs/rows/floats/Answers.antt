@@ -1,4 +1,4 @@
-use mathlib.Core.Path.{refl, sym, ◌∙◌}
+use mathlib.Core.Path.{refl, sym}
 use lib.ListN.{length-set}
 use Rattle.answers.specs.Answer.{float}
 use Rattle.answers.proofs.RowLaws.{mapped_more, mapped_all}
@@ -12,9 +12,6 @@ pub loop-i-preserved : goal.loop-i-preserved
 loop-i-preserved c =
     let i = c.loop-i.invariant in
     (omega arith, simp length-set i.1, mapped_more float 0 _ _ _ _ _ i.2 c.loop-i-test.true c.requires c.float_of_bits.ensures)
-
-pub shape_of-out : goal.shape_of-out
-shape_of-out c = c.loop-i.invariant.1 ∙ c.requires
 
 pub returns : goal.returns
 returns c = mapped_all float 0 _ _ _ _ c.loop-i.invariant.2 c.loop-i-test.false c.requires

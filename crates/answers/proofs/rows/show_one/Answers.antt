@@ -1,23 +1,6 @@
-use lib.ListN.{length-set}
 use Rattle.tables.specs.Decode.{grain_at}
 use Rattle.answers.proofs.RowLaws.{first_grain_lem, shown_over}
-use native.Mathlib.Omega.{arith}
 use Rattle.answers.proofs.rows.show_one.Goals as goal
-
-pub bounds-bits-1 : goal.bounds-bits-1
-bounds-bits-1 c = simp length-set (omega arith)
-
-pub bounds-bits-2 : goal.bounds-bits-2
-bounds-bits-2 c = simp length-set (omega arith)
-
-pub bounds-bits-3 : goal.bounds-bits-3
-bounds-bits-3 c = simp length-set (omega arith)
-
-pub bounds-bits-4 : goal.bounds-bits-4
-bounds-bits-4 c = simp length-set (omega arith)
-
-pub bounds-bits-5 : goal.bounds-bits-5
-bounds-bits-5 c = simp length-set (omega arith)
 
 pub returns : goal.returns
 returns c =
