@@ -62,7 +62,10 @@ returns-then-number-eq0 c =
     let count = cells_counted a.domain c.new-grid.result c.cells.result c.new-grid.ensures c.cells.ensures in
     let sized = sized_as a.domain a.count c.cells.result a.room _ _ _ _ _ _ count (sym c.fits.ensures ∙ c.if-not-fits.false) in
     let n = c.begin-number.new in
-    record { box_fits = record { first = search rules; second = search rules }; is = start_accepted a.domain a.count a.room a.inputs.now t box sized c.begin-number.result (tables n.lists n.grains n.queue n.events n.order) (sym c.first_bad-bad.ensures ∙ c.if-bad-z.false) c.begin-number.ensures c.if-number-eq0.true }
+    record {
+      box_fits = record { first = search rules; second = search rules };
+      is = start_accepted a.domain a.count a.room a.inputs.now t box sized c.begin-number.result (tables n.lists n.grains n.queue n.events n.order) (sym c.first_bad-bad.ensures ∙ c.if-bad-z.false) c.begin-number.ensures c.if-number-eq0.true;
+    }
 
 pub returns : goal.returns
 returns c =
@@ -72,4 +75,7 @@ returns c =
     let count = cells_counted a.domain c.new-grid.result c.cells.result c.new-grid.ensures c.cells.ensures in
     let sized = sized_as a.domain a.count c.cells.result a.room _ _ _ _ _ _ count (sym c.fits.ensures ∙ c.if-not-fits.false) in
     let n = c.begin-number.new in
-    record { box_fits = record { first = search rules; second = search rules }; is = start-halted a.domain a.count a.room a.inputs.now t box sized c.begin-number.result (tables n.lists n.grains n.queue n.events n.order) (sym c.first_bad-bad.ensures ∙ c.if-bad-z.false) c.begin-number.ensures c.if-number-eq0.false }
+    record {
+      box_fits = record { first = search rules; second = search rules };
+      is = start-halted a.domain a.count a.room a.inputs.now t box sized c.begin-number.result (tables n.lists n.grains n.queue n.events n.order) (sym c.first_bad-bad.ensures ∙ c.if-bad-z.false) c.begin-number.ensures c.if-number-eq0.false;
+    }
