@@ -21,4 +21,5 @@ pub mod Check
 pub mod Reached
 pub mod History
 pub mod Missing
+pub mod Refusals
 pub mod Reports

@@ -5,7 +5,10 @@ ghost use Rattle.std.specs.Prelude.{◌≡◌};
 ghost use Rattle.model.specs.Grid.{box_of};
 ghost use Rattle.model.specs.Stepping.{grain_of, landed};
 
+mod refusal;
+
 use myvec::MyVec;
+pub use refusal::{Halt, NoHalt, RunError, StartError};
 
 // The box: its lengths, and in which directions it is periodic.
 #[derive(Clone, Copy)]
@@ -163,29 +166,18 @@ pub enum Plan {
     Refused,
 }
 
-// What a start answers: accepted; halted by 5 to 9; refused by 1 or 2; or refused by 4, with the lowest grain whose numbers are out of range.
-#[derive(Clone, Copy)]
-pub enum Started {
-    Accepted,
-    Halted { number: u64 },
-    Refused { number: u64 },
-    BadGrain { grain: u64 },
+// How a run ends that is not refused.
+#[derive(Clone, Copy, Debug, PartialEq, Eq)]
+pub enum End {
+    Synchronised,
+    // The budget is spent.
+    Spent,
 }
 
-// What a run answers: how it ended, the clock, and the events done.
+// What a run answers: how it ended, or why it did not, the clock, and the events done.
 #[derive(Clone, Copy)]
-pub enum Report {
-    Synchronised {
-        clock: f64,
-        events: u64,
-    },
-    Spent {
-        clock: f64,
-        events: u64,
-    },
-    Refused {
-        number: u64,
-        clock: f64,
-        events: u64,
-    },
+pub struct Report {
+    pub end: Result<End, RunError>,
+    pub clock: f64,
+    pub events: u64,
 }
