@@ -93,7 +93,7 @@ module _ (plan : List ℕ) (line : ℕ) (short : Word (length plan)) (within : l
     where
       go : (t : Bool) → ltb (hex_val b) 16 ≡ t → A
       go true q = k (ltb-true (hex_val b) 16 q)
-      go false q = stuck_ends s r (subst (λ (w : Reader). Ends plan line w s) (sym (hexed_bad (last plan line) line r b j (hex_val b) refl (ltb-false (hex_val b) 16 q))) e)
+      go false q = stuck_ends s r (subst (λ (w : Reader). Ends plan line w s) (sym (hexed_bad (last plan line) line r b j (ltb-false (hex_val b) 16 q))) e)
 
   digits_end : (k a : ℕ) (r : Reader) (j : ℕ) (cs s : List ℕ) → j < numbers_held → drop r.at plan ≡ replicate k (hex_letter + j) ++ cs → r.at + k < length plan → OpenTo plan line r (r.at + k) → Ends plan line r s
       → (v : ℕ) × (t : List ℕ) × (v / 16 ^ k ≡ a) × (s ≡ spell k v ++ t)

@@ -1,8 +1,9 @@
 -- Single turns of the reader, and turns one after the other. Assumes nothing.
-use mathlib.Core.Path.{◌≡◌, refl, sym, ap, ◌∙◌, subst}
+use mathlib.Core.Path.{◌≡◌, refl, sym, ap, ◌∙◌}
 use mathlib.Core.List.{List, [], ◌∷◌, ◌++◌}
 use Prim.Native.Nat.{ℕ, ◌+◌, ◌≤◌, ◌<◌}
 use native.Mathlib.Numerals.{add-one}
+use native.Mathlib.Omega.{arith}
 use lib.ListN.{length, get_or, drop, drop_of_length-le}
 use lib.Seq.{drop-cons}
 use borrow.Author.Tests.{le-leb, lt-leb, eq-eqb, ne_eqb}
@@ -10,16 +11,14 @@ use Rattle.text.specs.declared.reader.Reader.{Reader}
 use Rattle.text.specs.Numerals.{hex_val}
 use Rattle.text.specs.Reading.{stuck_of, stepped_of, numbered_of, shifted, hexed_of, fed_by, closed_by}
 
-module _ (last line : ℕ) (r : Reader) (b j d : ℕ) (e : d ≡ hex_val b) where
-  pub hexed_bad : 16 ≤ d → stuck_of r ≡ hexed_of last line r b j
+module _ (last line : ℕ) (r : Reader) (b j : ℕ) where
+  pub hexed_bad : 16 ≤ hex_val b → stuck_of r ≡ hexed_of last line r b j
   unfolding hexed_of
-  hexed_bad h = simp (le-leb 16 (hex_val b) (subst (λ (z : ℕ). 16 ≤ z) e h))
+  hexed_bad h = simp (le-leb 16 (hex_val b) h)
 
-  pub hexed_good : d < 16 → stepped_of last line (numbered_of r j (shifted (get_or r.numbers j 0) d)) ≡ hexed_of last line r b j
+  pub hexed_good : (d : ℕ) → d ≡ hex_val b → d < 16 → stepped_of last line (numbered_of r j (shifted (get_or r.numbers j 0) d)) ≡ hexed_of last line r b j
   unfolding hexed_of
-  hexed_good h =
-      ap (λ (z : ℕ). stepped_of last line (numbered_of r j (shifted (get_or r.numbers j 0) z))) e
-      ∙ simp (lt-leb 16 (hex_val b) (subst (λ (z : ℕ). z < 16) e h))
+  hexed_good d e h = simp (e, lt-leb 16 (hex_val b) (omega arith))
 
 -- ---- the end of a text: a line is ended by it, or the state stays
 module _ {R : Type 0} (feed : R → ℕ → R) (at : R → ℕ) (line : ℕ) where

@@ -1,26 +1,18 @@
 // Upper-case hexadecimal digits, and floats by their bits.
-ghost use Rattle.std.specs.Prelude.{◌≡◌, ◌<◌};
+ghost use Rattle.std.specs.Prelude.{◌≡◌, ◌<◌, SomeIff};
 ghost use Rattle.std.specs.Float.{binary64};
 ghost use Rattle.std.specs.Float.Ieee.{of_bits, to_bits};
 ghost use Rattle.text.specs.Numerals.{glyph, hex_val};
 
-// The value of a digit, 16 for any other byte.
-pub fn hex_value(b: u8) -> u64
-    ensures { result ≡ hex_val b }
+// The value of a digit, and of no other byte.
+pub fn hex_value(b: u8) -> Option<u64>
+    ensures { SomeIff result (hex_val b < 16) (hex_val b) }
 {
-    if b < 48 {
-        return 16;
+    match b {
+        b'0'..=b'9' => Some((b - b'0') as u64),
+        b'A'..=b'F' => Some((b - b'A') as u64 + 10),
+        _ => None,
     }
-    if b < 58 {
-        return b as u64 - 48;
-    }
-    if b < 65 {
-        return 16;
-    }
-    if b < 71 {
-        return b as u64 - 55;
-    }
-    16
 }
 
 // A digit's byte.

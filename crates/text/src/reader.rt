@@ -90,10 +90,9 @@ impl Reader {
         requires { j < numbers_held }
         ensures { result ≡ hexed_of last line self b j }
     {
-        let d = hex_value(b);
-        if 16 <= d {
+        let Some(d) = hex_value(b) else {
             return self.stuck();
-        }
+        };
         let v = self.numbers[j];
         let next = self.numbered(j, v % 1152921504606846976 * 16 + d);
         next.step(last, line)
