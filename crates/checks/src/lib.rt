@@ -5,7 +5,8 @@ ghost use Rattle.std.specs.Prelude.{◌≡◌, ◌≤◌, length, take, drop};
 ghost use Rattle.layout.specs.Widths.{lists_head_wide, members_wide, queue_wide, events_from, heap_wide, order_wide, member_room};
 ghost use Rattle.model.specs.Sizes.{rated};
 ghost use Rattle.scheduler.specs.Inside.{head_in};
-ghost use Rattle.model.specs.Check.{settled, queued, heaped, halt};
+ghost use Rattle.model.specs.Check.{settled, queued, heaped};
+ghost use Rattle.model.specs.Refusals.{check_number};
 ghost use Rattle.tables.specs.Decode.{tables, mark, box_in, clock_in, grains_part, grains_of, rows_of, queues_of};
 ghost use Rattle.checks.specs.Check.{sized_by, legible_by, standing};
 ghost use Rattle.tables.specs.Lengths.{lists_need, grains_need, queue_need};
@@ -15,6 +16,7 @@ ghost use Rattle.checks.specs.Inside.{Sized, Rowed};
 use layout::{
     GRAINS_HEAD, HEAP, HOME, HOME_ROOM, LISTS_HEAD, MEMBER_ROOM, MEMBERS, ORDER, PLACE_NUMS, PLACES,
 };
+use model::{Halt, RunError};
 use tables::{Sizes, headers};
 
 mod counts;
@@ -39,16 +41,6 @@ pub fn sized(lists: &[u64], grains: usize, queue: usize, events: usize, order: u
         return false;
     }
     tables::lengths::long(z, lists.len(), grains, queue, events, order)
-}
-
-// The marks that an earlier halt left.
-pub fn halt(mark: u64) -> bool
-    ensures { result ≡ halt mark }
-{
-    if mark < 5 {
-        return false;
-    }
-    mark <= 9
 }
 
 // Check 3: is the sync rate in range?
@@ -155,7 +147,7 @@ pub fn standing(
     heaped(order, queue, events, z)
 }
 
-// What refuses a run: 2, the mark of an earlier halt, 3 or 10; 0 for nothing.
+// What refuses a run: short tables, an earlier halt, a rate out of range or a broken standing fact, in that order.
 pub fn check(
     lists: &[u64],
     grains: &[f64],
@@ -163,24 +155,23 @@ pub fn check(
     events: &[f64],
     order: &[u8],
     rate: f64,
-) -> u64
-    ensures { Answered rate (tables lists.now grains.now queue.now events.now order.now) result }
+) -> Result<(), RunError>
+    ensures { Answered rate (tables lists.now grains.now queue.now events.now order.now) (check_number result) }
 {
     floats::known(grains);
     floats::known(events);
     if !sized(lists, grains.len(), queue.len(), events.len(), order.len()) {
-        return 2;
+        return Err(RunError::TooShort);
     }
-    let mark = headers::mark(lists);
-    if halt(mark) {
-        return mark;
+    if let Ok(halt) = Halt::try_from(headers::mark(lists)) {
+        return Err(RunError::Halted(halt));
     }
     if !rated(rate) {
-        return 3;
+        return Err(RunError::RateOutOfRange);
     }
     let z = headers::sizes_of(lists);
     if !standing(lists, grains, queue, events, order, z) {
-        return 10;
+        return Err(RunError::Broken);
     }
-    0
+    Ok(())
 }

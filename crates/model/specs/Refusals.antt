@@ -34,6 +34,11 @@ run_error_number (run.Halted h) = halt_number h
 run_error_number run.RateOutOfRange = 3
 run_error_number run.Broken = 10
 
+-- of a run's checks: 0 if they pass
+abbrev pub check_number : {A : Type 0} → Result A RunError → ℕ
+check_number (Ok a) = 0
+check_number (Err e) = run_error_number e
+
 -- ---- the conversions
 abbrev pub NumberOfHalt : Halt → ℕ → Type 0
 NumberOfHalt h n = n ≡ halt_number h
