@@ -4,8 +4,7 @@ use mathlib.Core.Path.{◌≡◌, refl, sym, ap, ◌∙◌}
 use mathlib.Core.Bool.{Bool, true, false, cond}
 use lib.Ieee.{Float, binary64, sub, mul, div, neg, lt, le}
 use Rattle.order.specs.Numbers.{fzero, one}
-use Rattle.root.specs.declared.Root.{Root}
-use Rattle.root.specs.declared.Root.TheVariants as root
+use Rattle.std.specs.Prelude.{Option, Some, None}
 use Rattle.root.specs.Root.{root_of}
 use Rattle.root.specs.Rule.{number as rootNumber}
 use Rattle.myvec.specs.declared.MyVec.{MyVec}
@@ -29,20 +28,20 @@ abbrev dt : Float → Float → Float → Float
 dt a b s = mul binary64 (div binary64 one a) (sub binary64 (neg s) b)
 
 module _ (d a b : Float) where
-  pub before : (s : Float) → root_of d ≡ root.Value s → lt (dt a b s) fzero ≡ true → contact.Never ≡ time_of d a b
+  pub before : (s : Float) → root_of d ≡ Some s → lt (dt a b s) fzero ≡ true → contact.Never ≡ time_of d a b
   before s e h = sym (ap (after_root a b) e ∙ ap (λ (t : Bool). cond t contact.Never (contact.After (dt a b s))) h)
 
-  pub after : (s : Float) → root_of d ≡ root.Value s → lt (dt a b s) fzero ≡ false → contact.After (dt a b s) ≡ time_of d a b
+  pub after : (s : Float) → root_of d ≡ Some s → lt (dt a b s) fzero ≡ false → contact.After (dt a b s) ≡ time_of d a b
   after s e h = sym (ap (after_root a b) e ∙ ap (λ (t : Bool). cond t contact.Never (contact.After (dt a b s))) h)
 
-  pub refused : root_of d ≡ root.Refused → contact.Refused ≡ time_of d a b
+  pub refused : root_of d ≡ None → contact.Refused ≡ time_of d a b
   refused e = sym (ap (after_root a b) e)
 
   -- its number is the root's
-  numbered : (x : Root) → (contact_told (after_root a b x)).0 ≡ rootNumber x
+  numbered : (x : Option Float) → (contact_told (after_root a b x)).0 ≡ rootNumber x
   unfolding contact_told
-  numbered root.Refused = refl
-  numbered (root.Value s) = go (lt (dt a b s) fzero)
+  numbered None = refl
+  numbered (Some s) = go (lt (dt a b s) fzero)
     where
       go : (t : Bool) → (contact_told (cond t contact.Never (contact.After (dt a b s)))).0 ≡ 0
       go true = refl

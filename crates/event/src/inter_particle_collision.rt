@@ -10,7 +10,6 @@ use crate::util;
 use cell::Cell;
 use model::{Contact, Domain, Event, Particle, Plan};
 use myvec::MyVec;
-use root::Root;
 
 // The earlier solution, from the root of the discriminant d.
 fn time_of(d: f64, a: f64, b: f64) -> Contact
@@ -18,7 +17,7 @@ fn time_of(d: f64, a: f64, b: f64) -> Contact
     ensures result_value_2 { (contact_told result).0 ≡ rootNumber (root_of d) }
 {
     match root::square_root(d) {
-        Root::Value(s) => {
+        Some(s) => {
             let dt = (1.0 / a) * (-s - b);
             if dt < 0.0 {
                 Contact::Never
@@ -26,7 +25,7 @@ fn time_of(d: f64, a: f64, b: f64) -> Contact
                 Contact::After(dt)
             }
         }
-        Root::Refused => Contact::Refused,
+        None => Contact::Refused,
     }
 }
 

@@ -16,7 +16,6 @@ use cell::Grid;
 use layout::{INPUT, ORDER};
 use model::{Domain, Report, Started};
 use myvec::MyVec;
-use root::Root;
 use tables::Sizes;
 
 // The number of a run that spent its budget: far above those of refusals.
@@ -207,25 +206,10 @@ pub extern "C" fn fesolopi_square_root(d: f64, root: &mut f64) -> u64
     ensures root_after { root.new ≡ rootValue (root_of d) }
     ensures root_says { RootSays d result root.new }
 {
-    let found = root::square_root(d);
-    *root = root_value(found);
-    root_number(found)
-}
-
-fn root_number(found: Root) -> u64
-    ensures { result ≡ rootNumber found }
-{
-    match found {
-        Root::Value(_) => 0,
-        Root::Refused => 5,
-    }
-}
-
-fn root_value(found: Root) -> f64
-    ensures { result ≡ rootValue found }
-{
-    match found {
-        Root::Value(x) => x,
-        Root::Refused => 0.0,
-    }
+    let (number, value) = match root::square_root(d) {
+        Some(x) => (0, x),
+        None => (5, 0.0),
+    };
+    *root = value;
+    number
 }

@@ -11,8 +11,7 @@ use lib.Ieee.Fits.{add-fits}
 use lib.Ieee.Scale.{finite}
 use lib.Ieee.Bits.{is_true}
 use Rattle.root.specs.Root.{root_of}
-use Rattle.root.specs.declared.Root.{Root}
-use Rattle.root.specs.declared.Root.TheVariants as root
+use Rattle.std.specs.Prelude.{Option, Some, None}
 use Rattle.myvec.specs.declared.MyVec.{MyVec}
 use Rattle.model.specs.declared.Contact.{Contact}
 use Rattle.model.specs.declared.Contact.TheVariants as contact
@@ -82,9 +81,9 @@ on_hit : (b : Bool) (x y : Contact) → (b ≡ true → Late x) → (b ≡ false
 on_hit true x y p q = p refl
 on_hit false x y p q = q refl
 
-late_after : (a b : Float) (r : Root) → Late (after_root a b r)
-late_after a b root.Refused = tt
-late_after a b (root.Value s) = on_hit (lt _ fzero) contact.Never (contact.After _) (λ h. tt) (λ h. h)
+late_after : (a b : Float) (r : Option Float) → Late (after_root a b r)
+late_after a b None = tt
+late_after a b (Some s) = on_hit (lt _ fzero) contact.Never (contact.After _) (λ h. tt) (λ h. h)
 
 pub late_collide : (rr : Float) (x v : MyVec) → Late (collide rr x v)
 late_collide rr x v = on_hit (lt _ _) contact.Never _ (λ h. tt) (λ h. on_hit (le _ _) contact.Never _ (λ h. tt) (λ h. on_hit (lt _ _) contact.Never _ (λ h. tt) (λ h. on_hit (lt _ _) contact.Never _ (λ h. tt) (λ h. late_after _ _ (root_of _)))))

@@ -1,11 +1,9 @@
 -- 01, "Collision": when two grains of a cell touch, and what inter_particle_collision.rs then stores of them, operation by operation.
 -- Assumes nothing: these are definitions.
-use Rattle.std.specs.Prelude.{ℕ, Bool, true, false, cond, Float}
+use Rattle.std.specs.Prelude.{ℕ, Bool, true, false, cond, Float, Option, Some, None}
 use Rattle.std.specs.Float.{binary64}
 use Rattle.std.specs.Float.Ieee.{add, sub, mul, div, neg, lt, le}
 use Rattle.order.specs.Numbers.{fzero, one}
-use Rattle.root.specs.declared.Root.{Root}
-use Rattle.root.specs.declared.Root.TheVariants as root
 use Rattle.root.specs.Root.{root_of}
 use Rattle.myvec.specs.declared.MyVec.{MyVec}
 use Rattle.myvec.specs.Vec.{vec, vadd, vsub, vtimes, vover, vdot}
@@ -39,9 +37,9 @@ abbrev pub d_of : Float → Float → Float → Float
 d_of a b c = sub binary64 (mul binary64 b b) (mul binary64 a c)
 
 -- dt = (1 / a)·(-√d - b); none if dt < 0; refused if the root is
-abbrev pub after_root : Float → Float → Root → Contact
-after_root a b root.Refused = contact.Refused
-after_root a b (root.Value s) =
+abbrev pub after_root : Float → Float → Option Float → Contact
+after_root a b None = contact.Refused
+after_root a b (Some s) =
     let dt = mul binary64 (div binary64 one a) (sub binary64 (neg s) b) in
     cond (lt dt fzero) contact.Never (contact.After dt)
 

@@ -12,7 +12,7 @@ use lib.Ieee.Bits.{nan_bits_is}
 use lib.Ieee.Compare.{differs_from_itself}
 use lib.Ieee.Exact.{HasValue}
 use lib.Ieee.Positive.{positive}
-use Rattle.root.specs.declared.Root.TheVariants.{Value, Refused}
+use Rattle.std.specs.Prelude.{Some, None}
 use Rattle.root.specs.Bits.{root_bits}
 use Rattle.root.specs.Root.{root_of, sqrt_of}
 use Rattle.order.proofs.Order.{or_r}
@@ -32,10 +32,10 @@ some m e = mul-pos (mul-pos (zero-lt-suc m) (up_pos e)) (zero-lt-suc 0)
 clash : (a b : ℕ) → 0 < a → a ≡ b → b ≡ 0 → ⊥
 clash a b h p q = omega arith
 
-pub at_nan : (x : Float) → ne x x ≡ true → Refused ≡ root_of x
-at_nan x h = subst (λ (w : Float). Refused ≡ root_of w) (sym (differs_from_itself x (yes (ne x x) h))) (unfold root_of in refl)
+pub at_nan : (x : Float) → ne x x ≡ true → None ≡ root_of x
+at_nan x h = subst (λ (w : Float). None ≡ root_of w) (sym (differs_from_itself x (yes (ne x x) h))) (unfold root_of in refl)
 
-pub at_zero : (x : Float) → eq x fz ≡ true → Value x ≡ root_of x
+pub at_zero : (x : Float) → eq x fz ≡ true → Some x ≡ root_of x
 at_zero nan h = absurd (unfold eq in yes (eq nan fz) h)
 at_zero (inf s) h = absurd (unfold eq in yes (eq (inf s) fz) h)
 at_zero (fin s zero e) h = unfold root_of in refl
@@ -44,7 +44,7 @@ at_zero (fin s (suc m) e) h =
     (eqb→eq (suc m * up e * 1) (0 * 1 * down e) (and_l (eqb (suc m * up e * 1) (0 * 1 * down e)) (beq s false || eqb (suc m * up e * 1) 0) (unfold eq in yes (eq (fin s (suc m) e) fz) h)))
     (none (pos 0) (down e)))
 
-pub at_negative : (x : Float) → lt x fz ≡ true → Refused ≡ root_of x
+pub at_negative : (x : Float) → lt x fz ≡ true → None ≡ root_of x
 at_negative nan h = unfold root_of in refl
 at_negative (inf true) h = unfold root_of in refl
 at_negative (inf false) h = absurd (unfold lt in yes (lt (inf false) fz) h)
@@ -58,7 +58,7 @@ at_negative (fin false m e) h = absurd (nothing (m * up e * 1) (0 * 1 * down e) 
     nothing : (a b : ℕ) → b ≡ 0 → a < b → ⊥
     nothing a b q h = omega arith
 
-pub at_top : (x : Float) → eq x (inf false) ≡ true → Value x ≡ root_of x
+pub at_top : (x : Float) → eq x (inf false) ≡ true → Some x ≡ root_of x
 at_top nan h = absurd (unfold eq in yes (eq nan (inf false)) h)
 at_top (inf true) h = absurd (unfold eq in yes (eq (inf true) (inf false)) h)
 at_top (inf false) h = unfold root_of in refl
@@ -83,7 +83,7 @@ the_rest (fin s zero e) a b c d = absurd (never (eq (fin s zero e) fz) (zero_is 
 the_rest (fin true (suc m) e) a b c d = absurd (never (lt (fin true (suc m) e) fz) (unfold lt in lt→ltb 0 (suc m * up e * 1 + 0 * 1 * down e) (lt_of_lt_of_le (some m e) (le-add_right (suc m * up e * 1) (0 * 1 * down e)))) c)
 the_rest (fin false (suc m) e) a b c d = lt→ltb 0 (suc m) (zero-lt-suc m)
 
-pub positive_is : (x : Float) → T (positive x) → Value (sqrt_of x) ≡ root_of x
+pub positive_is : (x : Float) → T (positive x) → Some (sqrt_of x) ≡ root_of x
 positive_is nan p = absurd p
 positive_is (inf s) p = absurd p
 positive_is (fin true m e) p = absurd p

@@ -1,11 +1,9 @@
 -- 01, "Square root": what the answer is, in the document's own words and not by how it is found. Assumes nothing: these are definitions.
-use Rattle.std.specs.Prelude.{◌≡◌, ℕ, zero, suc, ◌+◌, ◌-◌, ◌*◌, ◌^◌, ◌≤◌, ◌<◌, true, false, T, ℤ, Float}
+use Rattle.std.specs.Prelude.{◌≡◌, ℕ, zero, suc, ◌+◌, ◌-◌, ◌*◌, ◌^◌, ◌≤◌, ◌<◌, true, false, T, ℤ, Float, Option, Some, None}
 use Rattle.std.specs.Float.{nan, inf, fin, binary64}
 use Rattle.std.specs.Float.Ieee.{fits, up, down}
 use Rattle.std.specs.Float.Ieee.Exact.{HasValue}
 use Rattle.order.specs.Numbers.{fzero}
-use Rattle.root.specs.declared.Root.{Root}
-use Rattle.root.specs.declared.Root.TheVariants.{Value, Refused}
 
 -- (2r-1)² < 4M < (2r+1)²
 pub record Nearest (M r : ℕ) : Type 0 where
@@ -24,13 +22,13 @@ pub record Rooted (d y : Float) : Type 0 where
   pub is : HasValue y false (r * up e) (down e)
 
 -- what an answer gives back: its number, 5 where there is no root, and its value, +0 beside a refusal
-abbrev pub number : Root → ℕ
-number (Value y) = 0
-number Refused = 5
+abbrev pub number : Option Float → ℕ
+number (Some y) = 0
+number None = 5
 
-abbrev pub value : Root → Float
-value (Value y) = y
-value Refused = fzero
+abbrev pub value : Option Float → Float
+value (Some y) = y
+value None = fzero
 
 -- +0, -0 and +infinity give themselves, other negatives and NaN are refused by 5, a positive finite value has its root: by the number n and the value y
 unfoldable pub RootSays : Float → ℕ → Float → Type 0
@@ -41,5 +39,5 @@ RootSays (fin s zero e) n y = (n ≡ 0) × (y ≡ fin s zero e)
 RootSays (fin true (suc m) e) n y = n ≡ 5
 RootSays (fin false (suc m) e) n y = (n ≡ 0) × T (fits binary64 y) × Rooted (fin false (suc m) e) y
 
-abbrev pub RootRule : Float → Root → Type 0
+abbrev pub RootRule : Float → Option Float → Type 0
 RootRule x r = RootSays x (number r) (value r)

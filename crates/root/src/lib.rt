@@ -103,30 +103,24 @@ fn root_bits(bits: u64) -> u64
     }
 }
 
-#[derive(Clone, Copy)]
-pub enum Root {
-    Value(f64),
-    Refused,
-}
-
-// The correctly rounded square root.
-pub fn square_root(x: f64) -> Root
+// The correctly rounded square root; none of a NaN, nor of what is negative.
+pub fn square_root(x: f64) -> Option<f64>
     ensures value { result ≡ root_of x }
     ensures root_rule { RootRule x result }
 {
     if x != x {
-        return Root::Refused;
+        return None;
     }
     if x == 0.0 {
-        return Root::Value(x);
+        return Some(x);
     }
     if x < 0.0 {
-        return Root::Refused;
+        return None;
     }
     let top: f64 = 1.0 / 0.0;
     if x == top {
-        return Root::Value(x);
+        return Some(x);
     }
     let b = root_bits(f64::to_bits(x));
-    Root::Value(f64::from_bits(b))
+    Some(f64::from_bits(b))
 }

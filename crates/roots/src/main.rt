@@ -4,17 +4,15 @@
 
 ghost use Rattle.std.specs.Prelude.{◌≤◌};
 
-use root::Root;
 use std::io::Stdin;
 use text::{bits_of_float, float_of_bits};
 use words::Word;
 
 // Whether the square root of x's float has the bits y; it is refused where they are a NaN's.
 fn agrees(x: u64, y: u64) -> bool {
-    let r = root::square_root(float_of_bits(x));
-    match r {
-        Root::Value(v) => v == v && bits_of_float(v) == y,
-        Root::Refused => 9218868437227405312 < y % 9223372036854775808,
+    match root::square_root(float_of_bits(x)) {
+        Some(v) => v == v && bits_of_float(v) == y,
+        None => 9218868437227405312 < y % 9223372036854775808,
     }
 }
 

@@ -1,12 +1,11 @@
 use mathlib.Core.Path.{◌≡◌, sym, ap, subst, ◌∙◌}
 use Prim.Native.Nat.{ℕ}
 use lib.Ieee.{Float}
-use Rattle.root.specs.declared.Root.{Root}
 use Rattle.root.specs.Rule.{number, value, RootSays, RootRule}
 use Rattle.fesolopi.proofs.fesolopi_square_root.Goals as goal
 
 -- from the answer x to its number and its value
-told : (d : Float) (x : Root) (r : ℕ) (y : Float) → RootRule d x → r ≡ number x → y ≡ value x → RootSays d r y
+told : (d : Float) (x : Option Float) (r : ℕ) (y : Float) → RootRule d x → r ≡ number x → y ≡ value x → RootSays d r y
 told d x r y h n v = subst (λ (y : Float). RootSays d r y) (sym v) (subst (λ (r : ℕ). RootSays d r (value x)) (sym n) h)
 
 pub returns : goal.returns

@@ -2,10 +2,9 @@ use mathlib.Core.Path.{◌≡◌, sym, ap, ◌∙◌, subst}
 use mathlib.Core.Bool.{not}
 use Prim.Native.Nat.{ℕ}
 use lib.Dec.{T}
-use lib.Ieee.{binary64, fits, of_bits, nan_bits, div}
+use lib.Ieee.{Float, binary64, fits, of_bits, nan_bits, div}
 use lib.Ieee.Positive.{positive}
-use Rattle.root.specs.declared.Root.{Root}
-use Rattle.root.specs.declared.Root.TheVariants.{Value}
+use Rattle.std.specs.Prelude.{Option, Some}
 use Rattle.root.specs.Root.{root_of}
 use Rattle.root.specs.Rule.{RootRule}
 use Rattle.root.proofs.Law.{pattern_range}
@@ -17,7 +16,7 @@ use Rattle.root.proofs.square_root.Goals as goal
 held : (c : Start) → T (fits binary64 c.args.x)
 held c = subst T (sym c.well_formed.0.1) tt
 
-both : (c : Start) (r : Root) → r ≡ root_of c.args.x → record { value : r ≡ root_of c.args.x; root_rule : RootRule c.args.x r }
+both : (c : Start) (r : Option Float) → r ≡ root_of c.args.x → record { value : r ≡ root_of c.args.x; root_rule : RootRule c.args.x r }
 both c r e = record { value = e; root_rule = subst (RootRule c.args.x) (sym e) (root_rule c.args.x (held c)) }
 
 -- past the tests x is positive and finite
@@ -56,6 +55,6 @@ pub returns : goal.returns
 returns c =
     let at = goal.at.returns c in
     both at.Start _
-    (ap (λ (n : ℕ). Value (of_bits binary64 n)) c.root_bits-b.ensures
-    ∙ ap Value (sqrt_is c.args.x)
+    (ap (λ (n : ℕ). Some (of_bits binary64 n)) c.root_bits-b.ensures
+    ∙ ap Some (sqrt_is c.args.x)
     ∙ positive_is c.args.x (is_positive at.Else-x-top))

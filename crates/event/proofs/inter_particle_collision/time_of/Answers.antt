@@ -13,10 +13,10 @@ told : (d a b : Float) (r : Contact) → r ≡ time_of d a b
 told d a b r e = let t = time_told d a b r e in record { result_value = t.0; result_value_2 = t.1 }
 
 pub returns-then-dt : goal.returns-then-dt
-returns-then-dt c = told _ _ _ _ (before _ _ _ c.in-Value.s (sym c.square_root.ensures.value ∙ c.in-Value.is) c.if-dt.true)
+returns-then-dt c = told _ _ _ _ (before _ _ _ c.in-Some.s (sym c.square_root.ensures.value ∙ c.in-Some.is) c.if-dt.true)
 
 pub returns-else-dt : goal.returns-else-dt
-returns-else-dt c = told _ _ _ _ (after _ _ _ c.in-Value.s (sym c.square_root.ensures.value ∙ c.in-Value.is) c.if-dt.false)
+returns-else-dt c = told _ _ _ _ (after _ _ _ c.in-Some.s (sym c.square_root.ensures.value ∙ c.in-Some.is) c.if-dt.false)
 
-pub returns-in-Refused : goal.returns-in-Refused
-returns-in-Refused c = told _ _ _ _ (refused _ _ _ (sym c.square_root.ensures.value ∙ c.in-Refused.is))
+pub returns-in-None : goal.returns-in-None
+returns-in-None c = told _ _ _ _ (refused _ _ _ (sym c.square_root.ensures.value ∙ c.in-None.is))
