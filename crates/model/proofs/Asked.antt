@@ -11,8 +11,8 @@ use Rattle.halting.specs.Every.{All}
 use Rattle.halting.proofs.Bools.{clash, differ, and_l, and_r, or_case}
 use Rattle.halting.proofs.All.{all_to, all_both}
 use Rattle.model.specs.declared.Pending.{Pending}
-use Rattle.model.specs.declared.Plan.{Plan}
-use Rattle.model.specs.declared.Plan.TheVariants.{Nothing, Due, Refused}
+use Rattle.std.specs.Prelude.{Some, None, Ok, Err}
+use Rattle.model.specs.Plans.{Plan}
 use Rattle.model.specs.Events.{place_of}
 use Rattle.model.specs.State.{State}
 use Rattle.model.specs.declared.Bound.{Bound}
@@ -92,23 +92,23 @@ asked_is (d ∷ h) c r o p e = by (asks c r d) refl (asks c o d) refl p e (asked
 
 -- what was found was asked for
 abbrev is_due : Plan → Bool
-is_due Nothing = false
-is_due (Due e) = true
-is_due Refused = false
+is_due (Ok None) = false
+is_due (Ok (Some e)) = true
+is_due (Err _) = false
 
-found_some : (t : Deed → Bool) (h : History) (e : Pending) → last_of Nothing plan_of t h ≡ Due e → 0 < latest t h
+found_some : (t : Deed → Bool) (h : History) (e : Pending) → last_of (Ok None) plan_of t h ≡ Ok (Some e) → 0 < latest t h
 unfolding latest last_of
 found_some t [] e q = clash (ap is_due q)
 found_some t (d ∷ h) e q = by (t d) q (found_some t h e)
   where
-    by : (b : Bool) → cond b (plan_of d) (last_of Nothing plan_of t h) ≡ Due e → (last_of Nothing plan_of t h ≡ Due e → 0 < latest t h) → 0 < cond b (suc (length h)) (latest t h)
+    by : (b : Bool) → cond b (plan_of d) (last_of (Ok None) plan_of t h) ≡ Ok (Some e) → (last_of (Ok None) plan_of t h ≡ Ok (Some e) → 0 < latest t h) → 0 < cond b (suc (length h)) (latest t h)
     by true q i = omega arith
     by false q i = i q
 
 -- ---- what is owed, and that its event is of the rule's kind and names the rule's grains
 pub record Mine (h : History) (s : State) (c : ℕ) (d : Dated) : Type 0 where
   pub owed : Owed h s c d
-  pub fits : Fits owed.rule (Due owed.event)
+  pub fits : Fits owed.rule (Ok (Some owed.event))
 
 -- in each of n cells
 abbrev pub AllMine : ℕ → State → History → Type 0
@@ -128,7 +128,7 @@ mine_same d h s c x m a e =
         rule = o.rule;
         event = o.event;
         owes = o.owes;
-        finds = ap (λ (b : Bool). cond b (plan_of d) (last_of Nothing plan_of (asks c o.rule) h)) a ∙ o.finds;
+        finds = ap (λ (b : Bool). cond b (plan_of d) (last_of (Ok None) plan_of (asks c o.rule) h)) a ∙ o.finds;
         is = o.is ∙ ap (λ (b : Bool). dated_at (place_of o.event) (cond b (suc (length h)) (asked h c o.rule))) (sym a);
         since = λ g i. subst (λ (b : Bool). cond b (suc (length h)) (arrived h g c) < x.by) (sym (e g i)) (o.since g i);
       };
@@ -186,17 +186,17 @@ module _ (n : ℕ) (s : State) (h : History) (mine : AllMine n s h) where
           all_to (λ d. Mine h s c d × (d.by ≡ asked h c o → ⊥)) (Mine (did (trying k o x) ∷ h) s c) (dated h c)
           (λ d m. mine_same (did (trying k o x)) h s c d m.0 (others (λ q. f) d (λ q. m.1) m.0) (λ g w. refl)) (all_both (Mine h s c) (λ d. d.by ≡ asked h c o → ⊥) (dated h c) (mine c C) f)
 
-      new : (j : ℕ) (r : Rule) (e : Pending) → did (trying k o x) ≡ did (trying j r (Due e)) → j ≡ c → Mine (did (trying k o x) ∷ h) s c (dated_at (place_of e) (suc (length h)))
+      new : (j : ℕ) (r : Rule) (e : Pending) → did (trying k o x) ≡ did (trying j r (Ok (Some e))) → j ≡ c → Mine (did (trying k o x) ∷ h) s c (dated_at (place_of e) (suc (length h)))
       new j r e q jc =
           let kc : k ≡ c = ap cell_of q ∙ jc in
-          let xe : x ≡ Due e = ap plan_of q in
+          let xe : x ≡ Ok (Some e) = ap plan_of q in
           let me : (eqb k c && This o o) ≡ true = rw (kc, eq-eqb c c refl) (this_self o) in
           record {
             owed = record {
               rule = o;
               event = e;
               owes = subst (λ (i : ℕ). Owes s i o) kc owes;
-              finds = ap (λ (b : Bool). cond b x (last_of Nothing plan_of (asks c o) h)) me ∙ xe;
+              finds = ap (λ (b : Bool). cond b x (last_of (Ok None) plan_of (asks c o) h)) me ∙ xe;
               is = ap (λ (b : Bool). dated_at (place_of e) (cond b (suc (length h)) (asked h c o))) (sym me);
               since = λ g w. let k = latest_below (enters g c) h in omega (arith, k);
             };

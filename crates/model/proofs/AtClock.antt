@@ -16,8 +16,8 @@ use Rattle.order.specs.Numbers.{fzero}
 use Rattle.myvec.specs.declared.MyVec.{MyVec}
 use Rattle.model.specs.declared.Domain.{Domain}
 use Rattle.model.specs.declared.Particle.{Particle}
-use Rattle.model.specs.declared.Plan.{Plan}
-use Rattle.model.specs.declared.Plan.TheVariants.{Due}
+use Rattle.std.specs.Prelude.{Some, Ok}
+use Rattle.model.specs.Plans.{Plan}
 use Rattle.model.specs.declared.Event.{Event}
 use Rattle.model.specs.declared.Event.TheVariants.{InterParticleCollision, MoveToNeighbour, MoveOutOfCell, WallReflection, Synchronisation}
 use Rattle.model.specs.Grid.{cells}
@@ -218,7 +218,7 @@ module _ (s : State) (all : (g : ℕ) → AtClock s g) where
   pairing_honest c (p ∷ qs) u k = then_honest _ _ u (Carried s) (Carried s) (each_honest (Carried s) (colliding c p) qs (λ q v h. colliding_honest s c p q (all p) (all q) v) u k) (pairing_honest c qs)
 
   sync_honest : (c : ℕ) → Carries s (first_sync c)
-  sync_honest zero u k = trying_honest s 0 sync (Due (record { time = fzero; event = Synchronisation })) u k ((_, refl), λ g e. clash e)
+  sync_honest zero u k = trying_honest s 0 sync (Ok (Some (record { time = fzero; event = Synchronisation }))) u k ((_, refl), λ g e. clash e)
   sync_honest (suc c) u k = k
 
   init_honest : (c : ℕ) → Carries s (initiates c)

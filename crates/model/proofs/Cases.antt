@@ -9,8 +9,8 @@ use borrow.Author.Tests.{ltb-true, ltb-false, leb-false}
 use Rattle.halting.specs.Out.{Out, out}
 use Rattle.model.specs.declared.Particle.{Particle}
 use Rattle.model.specs.declared.Place.{Place}
-use Rattle.model.specs.declared.Plan.{Plan}
-use Rattle.model.specs.declared.Plan.TheVariants.{Nothing, Due, Refused}
+use Rattle.std.specs.Prelude.{Some, None, Ok, Err}
+use Rattle.model.specs.Plans.{Plan}
 use Rattle.scheduler.specs.declared.Scheduler.{Scheduler}
 use Rattle.model.specs.Events.{fine_place, place_of}
 use Rattle.model.specs.State.{Row, State, home, listed, queue, has, with_grains, with_queues, requeued}
@@ -36,9 +36,9 @@ module _ (P : Out State → Type 0) (s : State) where
 
   -- what was found goes in: of the state only events change
   pub put_case : (c : ℕ) (x : Plan) → ((r : ℕ) → P (out r s)) → ((q : List (Row Place)) (h : Scheduler) → P (out 0 (with_queues q h s))) → P (put c x s)
-  put_case c Nothing same new = same 0
-  put_case c (Due e) same new = insert_case c (place_of e) (same 5) (λ r. same 6) (λ f r. unfold requeued in new _ _)
-  put_case c Refused same new = same 5
+  put_case c (Ok None) same new = same 0
+  put_case c (Ok (Some e)) same new = insert_case c (place_of e) (same 5) (λ r. same 6) (λ f r. unfold requeued in new _ _)
+  put_case c (Err _) same new = same 5
 
   -- 8 before 7, the cell's room before the grain's
   pub enter_case : (g c : ℕ) → (has g (listed s c) ≡ true → P (out 8 s)) → P (out 7 s) → (has g (listed s c) ≡ false → length (listed s c) < 32 → length (home s g) < 8 → P (out 0 (entered g c s))) → P (enter g c s)

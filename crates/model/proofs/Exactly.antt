@@ -10,8 +10,8 @@ use borrow.Author.Tests.{leb-true, leb-false, ltb-true, ltb-false}
 use Rattle.halting.specs.Out.{out}
 use Rattle.model.specs.declared.Particle.{Particle}
 use Rattle.model.specs.declared.Place.{Place}
-use Rattle.model.specs.declared.Plan.{Plan}
-use Rattle.model.specs.declared.Plan.TheVariants.{Nothing, Due, Refused}
+use Rattle.std.specs.Prelude.{Some, None, Ok, Err}
+use Rattle.model.specs.Plans.{Plan}
 use Rattle.model.specs.Events.{place_of, fine_place}
 use Rattle.model.specs.State.{State, home, listed, queue, has, with_grains}
 use Rattle.model.specs.Acts.{fine_grain, store, inserted, insert, put, entered, enter, gone, leave}
@@ -57,15 +57,15 @@ module _ (c : ℕ) (e : Place) (s : State) where
 
 -- what a scheduling found cannot be stored: it is refused, or due with a number that is not finite or a time not below f64::MAX
 abbrev pub Unfit : Plan → Type 0
-Unfit Nothing = ⊥
-Unfit (Due e) = fine_place (place_of e) ≡ false
-Unfit Refused = Unit {0}
+Unfit (Ok None) = ⊥
+Unfit (Ok (Some e)) = fine_place (place_of e) ≡ false
+Unfit (Err _) = Unit {0}
 
 -- what a scheduling found is refused by 5 exactly if it cannot be stored
 pub put_gives_5 : (c : ℕ) (x : Plan) (s : State) → Exactly ((put c x s).num ≡ 5) (Unfit x)
-put_gives_5 c Nothing s = record { only = λ h. absurd (omega (arith, h)); so = λ h. absurd h }
-put_gives_5 c (Due e) s = insert_gives_5 c (place_of e) s
-put_gives_5 c Refused s = record { only = λ h. tt; so = λ h. refl }
+put_gives_5 c (Ok None) s = record { only = λ h. absurd (omega (arith, h)); so = λ h. absurd h }
+put_gives_5 c (Ok (Some e)) s = insert_gives_5 c (place_of e) s
+put_gives_5 c (Err _) s = record { only = λ h. tt; so = λ h. refl }
 
 module _ (g c : ℕ) (s : State) where
   abbrev cell : Bool

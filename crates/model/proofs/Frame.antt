@@ -11,8 +11,8 @@ use lib.Ieee.{le}
 use borrow.Author.Tests.{eq-eqb}
 use Rattle.model.specs.declared.Particle.{Particle}
 use Rattle.model.specs.declared.Place.{Place}
-use Rattle.model.specs.declared.Plan.{Plan}
-use Rattle.model.specs.declared.Plan.TheVariants.{Nothing, Refused, Due}
+use Rattle.std.specs.Prelude.{Some, None, Ok, Err}
+use Rattle.model.specs.Plans.{Plan}
 use Rattle.model.specs.declared.Event.{Event}
 use Rattle.model.specs.declared.Event.TheVariants.{InterParticleCollision, MoveToNeighbour, MoveOutOfCell, WallReflection, Synchronisation}
 use Rattle.halting.specs.Out.{Out, each_of}
@@ -162,9 +162,9 @@ insert_keeps s c e sound C a z = record {
     done' = requeued_frame s c (row (insert_by e (queue s c)) (drop 1 (queue_row s c).spare)) (omega (arith, sound.long)) (λ w. syncs_insert e (queue s c) ∙ rw (z, w) (omega arith))
 
 pub put_keeps : (s : State) (c : ℕ) (x : Plan) → Sound s → c < cells s.box → AptPlan (cells s.box) c (listed s c) s.clock x → Keeps s (put c x s).st
-put_keeps s c Nothing sound C a = keeps_refl s sound
-put_keeps s c Refused sound C a = keeps_refl s sound
-put_keeps s c (Due e) sound C a = insert_keeps s c (place_of e) sound C a.0 a.1
+put_keeps s c (Ok None) sound C a = keeps_refl s sound
+put_keeps s c (Err _) sound C a = keeps_refl s sound
+put_keeps s c (Ok (Some e)) sound C a = insert_keeps s c (place_of e) sound C a.0 a.1
 
 pub cancelled_keeps : (s : State) (g c : ℕ) → Sound s → c < cells s.box → Keeps s (cancelled g c s)
 cancelled_keeps s g c sound C = record {

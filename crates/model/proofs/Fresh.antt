@@ -10,8 +10,8 @@ use borrow.Author.Tests.{eq-eqb}
 use Rattle.model.specs.declared.Domain.{Domain}
 use Rattle.model.specs.declared.Particle.{Particle}
 use Rattle.model.specs.declared.Place.{Place}
-use Rattle.model.specs.declared.Plan.{Plan}
-use Rattle.model.specs.declared.Plan.TheVariants.{Nothing, Due, Refused}
+use Rattle.std.specs.Prelude.{Some, None, Ok, Err}
+use Rattle.model.specs.Plans.{Plan}
 use Rattle.halting.specs.Out.{Out, next, then, each, each_of}
 use Rattle.order.specs.Numbers.{fzero}
 use Rattle.model.specs.Stepping.{at_zero}
@@ -71,9 +71,9 @@ insert_fair : (c : ℕ) (e : Place) (u : State) → Fair (insert c e u).num
 insert_fair c e u = insert_case (λ o. Fair o.num) u c e (fair 5 (omega arith)) (λ r. fair 6 (omega arith)) (λ f r. fair 0 (omega arith))
 
 put_fair : (c : ℕ) (x : Plan) (u : State) → Fair (put c x u).num
-put_fair c Nothing u = fair 0 (omega arith)
-put_fair c (Due e) u = insert_fair c (place_of e) u
-put_fair c Refused u = fair 5 (omega arith)
+put_fair c (Ok None) u = fair 0 (omega arith)
+put_fair c (Ok (Some e)) u = insert_fair c (place_of e) u
+put_fair c (Err _) u = fair 5 (omega arith)
 
 store_fair : (g : ℕ) (p : Particle) (u : State) → Fair (store g p u).num
 store_fair g p u = store_case (λ o. Fair o.num) u g p (fair 5 (omega arith)) (λ f. fair 0 (omega arith))

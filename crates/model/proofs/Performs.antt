@@ -11,7 +11,7 @@ use Rattle.model.specs.declared.Particle.{Particle}
 use Rattle.model.specs.declared.Event.{Event}
 use Rattle.model.specs.declared.Event.TheVariants.{InterParticleCollision, MoveToNeighbour, MoveOutOfCell, WallReflection, Synchronisation}
 use Rattle.model.specs.declared.Place.{Place}
-use Rattle.model.specs.declared.Plan.TheVariants.{Nothing, Due, Refused}
+use Rattle.std.specs.Prelude.{Some, None, Ok, Err}
 use Rattle.halting.specs.Out.{Out, out, next, then, each, each_of}
 use Rattle.order.specs.Numbers.{fzero}
 use Rattle.model.specs.Stepping.{renewed, landed, new_pos}
@@ -70,9 +70,9 @@ leave_same g c s = leave_case (Same s) s g c (same_at s 9 (omega arith) (omega a
 pub act_same : (a : Act) (s : State) → Same s (perform a s)
 act_same (moving g x t) s = store_same g (landed x t (grain s g)) s
 act_same (turning g p) s = store_same g p s
-act_same (trying c r Nothing) s = same_done s s
-act_same (trying c r (Due e)) s = insert_same c (place_of e) s
-act_same (trying c r Refused) s = same_at s 5 (omega arith) (omega arith)
+act_same (trying c r (Ok None)) s = same_done s s
+act_same (trying c r (Ok (Some e))) s = insert_same c (place_of e) s
+act_same (trying c r (Err _)) s = same_at s 5 (omega arith) (omega arith)
 act_same (cancelling g c) s = same_done s _
 act_same (entering g c) s = enter_same g c s
 act_same (leaving g c) s = leave_same g c s

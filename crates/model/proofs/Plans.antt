@@ -11,16 +11,13 @@ use lib.Ieee.Fits.{add-fits}
 use lib.Ieee.Scale.{finite}
 use lib.Ieee.Bits.{is_true}
 use Rattle.root.specs.Root.{root_of}
-use Rattle.std.specs.Prelude.{Option, Some, None}
 use Rattle.myvec.specs.declared.MyVec.{MyVec}
-use Rattle.model.specs.declared.Contact.{Contact}
-use Rattle.model.specs.declared.Contact.TheVariants as contact
+use Rattle.std.specs.Prelude.{Option, Some, None, Ok, Err}
+use Rattle.model.specs.Plans.{Contact, Plan}
 use Rattle.model.specs.declared.Domain.{Domain}
 use Rattle.model.specs.declared.Particle.{Particle}
 use Rattle.model.specs.declared.Event.{Event}
 use Rattle.model.specs.declared.Event.TheVariants.{InterParticleCollision, MoveToNeighbour, MoveOutOfCell, WallReflection, Synchronisation}
-use Rattle.model.specs.declared.Plan.{Plan}
-use Rattle.model.specs.declared.Plan.TheVariants.{Nothing, Refused, Due}
 use Rattle.order.specs.Numbers.{fzero}
 use Rattle.myvec.specs.Vec.{vsub}
 use Rattle.order.proofs.Order.{lt→le}
@@ -73,9 +70,9 @@ not_below dt h = by (lt dt fzero) refl
 
 -- ---- a collision's dt is not below 0
 abbrev pub Late : Contact → Type 0
-Late contact.Never = Unit {0}
-Late (contact.After dt) = lt dt fzero ≡ false
-Late contact.Refused = Unit {0}
+Late (Ok None) = Unit {0}
+Late (Ok (Some dt)) = lt dt fzero ≡ false
+Late (Err _) = Unit {0}
 
 on_hit : (b : Bool) (x y : Contact) → (b ≡ true → Late x) → (b ≡ false → Late y) → Late (cond b x y)
 on_hit true x y p q = p refl
@@ -83,16 +80,16 @@ on_hit false x y p q = q refl
 
 late_after : (a b : Float) (r : Option Float) → Late (after_root a b r)
 late_after a b None = tt
-late_after a b (Some s) = on_hit (lt _ fzero) contact.Never (contact.After _) (λ h. tt) (λ h. h)
+late_after a b (Some s) = on_hit (lt _ fzero) (Ok None) (Ok (Some _)) (λ h. tt) (λ h. h)
 
 pub late_collide : (rr : Float) (x v : MyVec) → Late (collide rr x v)
-late_collide rr x v = on_hit (lt _ _) contact.Never _ (λ h. tt) (λ h. on_hit (le _ _) contact.Never _ (λ h. tt) (λ h. on_hit (lt _ _) contact.Never _ (λ h. tt) (λ h. on_hit (lt _ _) contact.Never _ (λ h. tt) (λ h. late_after _ _ (root_of _)))))
+late_collide rr x v = on_hit (lt _ _) (Ok None) _ (λ h. tt) (λ h. on_hit (le _ _) (Ok None) _ (λ h. tt) (λ h. on_hit (lt _ _) (Ok None) _ (λ h. tt) (λ h. on_hit (lt _ _) (Ok None) _ (λ h. tt) (λ h. late_after _ _ (root_of _)))))
 
 -- ---- an event dt after the clock, dt not below 0
 abbrev pub AptPlan : ℕ → ℕ → List ℕ → Float → Plan → Type 0
-AptPlan n c l t Nothing = Unit {0}
-AptPlan n c l t Refused = Unit {0}
-AptPlan n c l t (Due e) = Apt n c l t (place_of e) × (one_if (event_of (place_of e).kind (place_of e)) ≡ 0)
+AptPlan n c l t (Ok None) = Unit {0}
+AptPlan n c l t (Err _) = Unit {0}
+AptPlan n c l t (Ok (Some e)) = Apt n c l t (place_of e) × (one_if (event_of (place_of e).kind (place_of e)) ≡ 0)
 
 module _ (n c : ℕ) (l : List ℕ) (t : Float) (F : T (finite t)) (f : T (fits binary64 t)) where
   ahead : (dt : Float) → lt dt fzero ≡ false → T (not (is_nan (add binary64 t dt))) → T (le t (add binary64 t dt))
@@ -108,12 +105,12 @@ module _ (n c : ℕ) (l : List ℕ) (t : Float) (F : T (finite t)) (f : T (fits 
 
   later_apt : (dt : Float) (e : Event) → Named n c l e → one_if e ≡ 0 → AptPlan n c l t (later t dt e)
   unfolding later
-  later_apt dt e m z = on_test (AptPlan n c l t) (le dt fzero) Nothing (due t dt e) (λ h. tt) (λ h. due_apt dt e (not_below dt h) m z)
+  later_apt dt e m z = on_test (AptPlan n c l t) (le dt fzero) (Ok None) (due t dt e) (λ h. tt) (λ h. due_apt dt e (not_below dt h) m z)
 
   hit_apt : (h : Contact) (e : Float → Event) → Late h → ((dt : Float) → Named n c l (e dt) × (one_if (e dt) ≡ 0)) → AptPlan n c l t (planned h t e)
-  hit_apt contact.Never e p m = tt
-  hit_apt (contact.After dt) e p m = due_apt dt (e dt) p (m dt).0 (m dt).1
-  hit_apt contact.Refused e p m = tt
+  hit_apt (Ok None) e p m = tt
+  hit_apt (Ok (Some dt)) e p m = due_apt dt (e dt) p (m dt).0 (m dt).1
+  hit_apt (Err _) e p m = tt
 
   -- ---- the four kinds
   pub collision_apt : (b : Domain) (i j : ℕ) (p q : Particle) → has i l ≡ true → has j l ≡ true → eqb i j ≡ false → AptPlan n c l t (collision b t c i j p q)
@@ -123,7 +120,7 @@ module _ (n c : ℕ) (l : List ℕ) (t : Float) (F : T (finite t)) (f : T (fits 
   pub to_neighbour_apt : (d : ℕ) (b : Domain) (i : ℕ) (p : Particle) → cells b ≡ n → c < n → has i l ≡ true → AptPlan n c l t (to_neighbour d b t c i p)
   unfolding to_neighbour
   to_neighbour_apt d b i p e C hi =
-      on_test (AptPlan n c l t) (shut d b c p) Nothing _ (λ h. tt) (λ h. later_apt _ (MoveToNeighbour i (new_pos b p.pos p.vel (move_dt d b c p.rad p)) (aside d b c p)) (hi, beside) refl)
+      on_test (AptPlan n c l t) (shut d b c p) (Ok None) _ (λ h. tt) (λ h. later_apt _ (MoveToNeighbour i (new_pos b p.pos p.vel (move_dt d b c p.rad p)) (aside d b c p)) (hi, beside) refl)
     where
       in' : c < cells b
       in' = rw e C
@@ -133,8 +130,8 @@ module _ (n c : ℕ) (l : List ℕ) (t : Float) (F : T (finite t)) (f : T (fits 
 
   pub out_of_cell_apt : (d : ℕ) (b : Domain) (i : ℕ) (p : Particle) → has i l ≡ true → AptPlan n c l t (out_of_cell d b t c i p)
   unfolding out_of_cell
-  out_of_cell_apt d b i p hi = on_test (AptPlan n c l t) (shut d b c p) Nothing _ (λ h. tt) (λ h. later_apt _ (MoveOutOfCell i (new_pos b p.pos p.vel (move_dt d b c (neg p.rad) p)) c) (hi, refl) refl)
+  out_of_cell_apt d b i p hi = on_test (AptPlan n c l t) (shut d b c p) (Ok None) _ (λ h. tt) (λ h. later_apt _ (MoveOutOfCell i (new_pos b p.pos p.vel (move_dt d b c (neg p.rad) p)) c) (hi, refl) refl)
 
   pub wall_apt : (d : ℕ) (b : Domain) (i : ℕ) (p : Particle) → has i l ≡ true → AptPlan n c l t (wall d b t c i p)
   unfolding wall
-  wall_apt d b i p hi = on_test (AptPlan n c l t) (no_wall d b c p) Nothing _ (λ h. tt) (λ h. later_apt _ (WallReflection i _ _ _) (hi, tt) refl)
+  wall_apt d b i p hi = on_test (AptPlan n c l t) (no_wall d b c p) (Ok None) _ (λ h. tt) (λ h. later_apt _ (WallReflection i _ _ _) (hi, tt) refl)

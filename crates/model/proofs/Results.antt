@@ -12,8 +12,8 @@ use Rattle.halting.proofs.Bools.{and_l, and_r}
 use Rattle.model.specs.declared.Domain.{Domain}
 use Rattle.model.specs.declared.Particle.{Particle}
 use Rattle.model.specs.declared.Place.{Place}
-use Rattle.model.specs.declared.Plan.{Plan}
-use Rattle.model.specs.declared.Plan.TheVariants.{Nothing, Due, Refused}
+use Rattle.std.specs.Prelude.{Some, None, Ok, Err}
+use Rattle.model.specs.Plans.{Plan}
 use Rattle.model.specs.Sizes.{box_ok, counts_ok, first_bad, rated}
 use Rattle.model.specs.Grid.{cells}
 use Rattle.model.specs.Events.{place_of, fine_place, zero_p}
@@ -34,9 +34,9 @@ abbrev pub old_insert : ℕ → Place → State → Out State
 old_insert c e s = cond (fine_place e) (cond (ltb (length (queue s c)) s.room) (out 0 (old_inserted c e s)) (out 6 s)) (out 5 s)
 
 abbrev pub old_put : ℕ → Plan → State → Out State
-old_put c Nothing s = out 0 s
-old_put c (Due e) s = old_insert c (place_of e) s
-old_put c Refused s = out 5 s
+old_put c (Ok None) s = out 0 s
+old_put c (Ok (Some e)) s = old_insert c (place_of e) s
+old_put c (Err _) s = out 5 s
 
 abbrev pub old_perform : Act → State → Out State
 old_perform (moving g x t) s = perform (moving g x t) s
@@ -86,9 +86,9 @@ insert_as_before c e s f = by (fine_place e) (ltb (length (queue s c)) s.room) r
 perform_as_before : (a : Act) (s : State) → AllFine s → Same (perform a s) (old_perform a s)
 perform_as_before (moving g x t) s f = (refl, store_case (λ o. AllFine o.st) s g _ f (λ q. f))
 perform_as_before (turning g p) s f = (refl, store_case (λ o. AllFine o.st) s g p f (λ q. f))
-perform_as_before (trying c r Nothing) s f = (refl, f)
-perform_as_before (trying c r (Due e)) s f = insert_as_before c (place_of e) s f
-perform_as_before (trying c r Refused) s f = (refl, f)
+perform_as_before (trying c r (Ok None)) s f = (refl, f)
+perform_as_before (trying c r (Ok (Some e))) s f = insert_as_before c (place_of e) s f
+perform_as_before (trying c r (Err _)) s f = (refl, f)
 perform_as_before (cancelling g c) s f =
     (ap (out 0) (cancelled_as_before s f g c), unfold cancelled in requeued_fine s c _ f (all_keep (λ x. fine_place x ≡ true) g (queue s c) (f c)))
 perform_as_before (entering g c) s f = (refl, enter_case (λ o. AllFine o.st) s g c (λ a. f) f (λ a b d. f))

@@ -28,10 +28,8 @@ use Rattle.model.specs.declared.Particle.{Particle}
 use Rattle.model.specs.declared.Place.{Place}
 use Rattle.model.specs.declared.Event.{Event}
 use Rattle.model.specs.declared.Event.TheVariants.{InterParticleCollision, MoveToNeighbour, MoveOutOfCell, WallReflection, Synchronisation}
-use Rattle.model.specs.declared.Contact.{Contact}
-use Rattle.model.specs.declared.Contact.TheVariants as contact
-use Rattle.model.specs.declared.Plan.{Plan}
-use Rattle.model.specs.declared.Plan.TheVariants.{Nothing, Due, Refused}
+use Rattle.std.specs.Prelude.{Some, None, Ok, Err}
+use Rattle.model.specs.Plans.{Contact, Plan}
 use Rattle.halting.specs.Out.{then, each, each_of}
 use Rattle.halting.proofs.Laws.{then_sound, each_sound}
 use Rattle.model.specs.Stepping.{new_pos, due}
@@ -165,9 +163,9 @@ rooted_insert n c e u C r f h = record {
 
 -- ---- what is found at the clock 0 is not before 0
 abbrev FromZero : Plan → Type 0
-FromZero Nothing = Unit {0}
-FromZero Refused = Unit {0}
-FromZero (Due e) = lt (place_of e).time fzero ≡ false
+FromZero (Ok None) = Unit {0}
+FromZero (Err _) = Unit {0}
+FromZero (Ok (Some e)) = lt (place_of e).time fzero ≡ false
 
 from_zero : (dt : Float) → lt dt fzero ≡ false → lt (add binary64 fzero dt) fzero ≡ false
 from_zero dt h = fails (lt (add binary64 fzero dt) fzero) (λ t. lt_not_le (add binary64 fzero dt) fzero t (on (lt_left (add binary64 fzero dt) fzero t)))
@@ -187,12 +185,12 @@ due_from dt e h = at e
 
 later_from : (dt : Float) (e : Event) → FromZero (later fzero dt e)
 unfolding later
-later_from dt e = on_test FromZero (le dt fzero) Nothing (due fzero dt e) (λ h. tt) (λ h. due_from dt e (not_below dt h))
+later_from dt e = on_test FromZero (le dt fzero) (Ok None) (due fzero dt e) (λ h. tt) (λ h. due_from dt e (not_below dt h))
 
 hit_from : (x : Contact) (e : Float → Event) → Late x → FromZero (planned x fzero e)
-hit_from contact.Never e l = tt
-hit_from (contact.After dt) e l = due_from dt (e dt) l
-hit_from contact.Refused e l = tt
+hit_from (Ok None) e l = tt
+hit_from (Ok (Some dt)) e l = due_from dt (e dt) l
+hit_from (Err _) e l = tt
 
 collision_from : (b : Domain) (c i j : ℕ) (p q : Particle) → FromZero (collision b fzero c i j p q)
 unfolding collision
@@ -203,15 +201,15 @@ Finds f = (d : ℕ) (b : Domain) (c i : ℕ) (p : Particle) → FromZero (f d b 
 
 neighbour_from : Finds to_neighbour
 unfolding to_neighbour
-neighbour_from d b c i p = on_test FromZero (shut d b c p) Nothing _ (λ h. tt) (λ h. later_from _ (MoveToNeighbour i (new_pos b p.pos p.vel (move_dt d b c p.rad p)) (aside d b c p)))
+neighbour_from d b c i p = on_test FromZero (shut d b c p) (Ok None) _ (λ h. tt) (λ h. later_from _ (MoveToNeighbour i (new_pos b p.pos p.vel (move_dt d b c p.rad p)) (aside d b c p)))
 
 out_from : Finds out_of_cell
 unfolding out_of_cell
-out_from d b c i p = on_test FromZero (shut d b c p) Nothing _ (λ h. tt) (λ h. later_from _ (MoveOutOfCell i (new_pos b p.pos p.vel (move_dt d b c (neg p.rad) p)) c))
+out_from d b c i p = on_test FromZero (shut d b c p) (Ok None) _ (λ h. tt) (λ h. later_from _ (MoveOutOfCell i (new_pos b p.pos p.vel (move_dt d b c (neg p.rad) p)) c))
 
 wall_from : Finds wall
 unfolding wall
-wall_from d b c i p = on_test FromZero (no_wall d b c p) Nothing _ (λ h. tt) (λ h. later_from _ (WallReflection i _ _ _))
+wall_from d b c i p = on_test FromZero (no_wall d b c p) (Ok None) _ (λ h. tt) (λ h. later_from _ (WallReflection i _ _ _))
 
 -- ---- init_events keeps it, done or refused
 module _ (n c : ℕ) (C : c < n) where
@@ -219,9 +217,9 @@ module _ (n c : ℕ) (C : c < n) where
   insert_root e u r h = insert_case (λ o. Rooted n o.st) u c e r (λ q. r) (λ f q. rooted_insert n c e u C r f h)
 
   put_root : (x : Plan) (u : State) → Rooted n u → FromZero x → Rooted n (put c x u).st
-  put_root Nothing u r h = r
-  put_root Refused u r h = r
-  put_root (Due e) u r h = insert_root (place_of e) u r h
+  put_root (Ok None) u r h = r
+  put_root (Err _) u r h = r
+  put_root (Ok (Some e)) u r h = insert_root (place_of e) u r h
 
   by_root : (f : Finder) → Finds f → (p d : ℕ) (u : State) → Rooted n u → Rooted n (schedule_by f c p d u).st
   by_root f finds p d u r = put_root (f d u.box u.clock c p (grain u p)) u r (subst (λ (t : Float). FromZero (f d u.box t c p (grain u p))) (sym r.clock) (finds d u.box c p (grain u p)))

@@ -10,10 +10,8 @@ use Rattle.model.specs.declared.Domain.{Domain}
 use Rattle.model.specs.declared.Particle.{Particle}
 use Rattle.model.specs.declared.Place.{Place}
 use Rattle.model.specs.declared.Event.TheVariants.{MoveOutOfCell}
-use Rattle.model.specs.declared.Contact.{Contact}
-use Rattle.model.specs.declared.Contact.TheVariants.{Never, After, Refused}
-use Rattle.model.specs.declared.Plan.{Plan}
-use Rattle.model.specs.declared.Plan.TheVariants as plan
+use Rattle.std.specs.Prelude.{Some, None, Ok, Err}
+use Rattle.model.specs.Plans.{Contact, Plan, root_refused}
 use Rattle.model.specs.Grid.{box_of}
 use Rattle.model.specs.Periodic.{apart}
 use Rattle.model.specs.Stepping.{grain_of}
@@ -52,14 +50,14 @@ sized r p = grain_of p.pos p.vel p.time p.val r
 
 -- the dt of a plan at the clock 0, and the event's place, with the cell and the floats that it carries
 abbrev pub dt : Plan → Contact
-dt plan.Nothing = Never
-dt (plan.Due e) = After e.time
-dt plan.Refused = Refused
+dt (Ok None) = Ok None
+dt (Ok (Some e)) = Ok (Some e.time)
+dt (Err _) = Err root_refused
 
 abbrev pub place : Plan → Place
-place plan.Nothing = zero_p
-place (plan.Due e) = place_of e
-place plan.Refused = zero_p
+place (Ok None) = zero_p
+place (Ok (Some e)) = place_of e
+place (Err _) = zero_p
 
 -- in direction 0 and cell c: when it enters the neighbour, leaves the cell, reflects
 abbrev pub entering : Domain → ℕ → Particle → Plan

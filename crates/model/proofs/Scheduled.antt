@@ -16,10 +16,8 @@ use Rattle.model.specs.declared.Domain.{Domain}
 use Rattle.model.specs.declared.Particle.{Particle}
 use Rattle.model.specs.declared.Event.{Event}
 use Rattle.model.specs.declared.Event.TheVariants.{MoveToNeighbour, MoveOutOfCell, WallReflection}
-use Rattle.model.specs.declared.Contact.{Contact}
-use Rattle.model.specs.declared.Contact.TheVariants as contact
-use Rattle.model.specs.declared.Plan.{Plan}
-use Rattle.model.specs.declared.Plan.TheVariants.{Nothing, Due, Refused}
+use Rattle.std.specs.Prelude.{Some, None, Ok, Err}
+use Rattle.model.specs.Plans.{Contact, Plan}
 use Rattle.model.specs.Events.{place_of}
 use Rattle.model.specs.State.{State, Row, live_at, grain, home, listed, has, requeued}
 use Rattle.model.specs.Stepping.{due}
@@ -40,9 +38,9 @@ use Rattle.model.proofs.Tries.{Fits, Kept, Spares, tried_now, row_spares}
 
 -- ---- what the rules find fits them
 planned_fits : (t : Float) (h : Contact) (e : Float → Event) (r : Rule) → ((dt : Float) → Fits r (due t dt (e dt))) → Fits r (planned h t e)
-planned_fits t contact.Never e r f = tt
-planned_fits t (contact.After dt) e r f = f dt
-planned_fits t contact.Refused e r f = tt
+planned_fits t (Ok None) e r f = tt
+planned_fits t (Ok (Some dt)) e r f = f dt
+planned_fits t (Err _) e r f = tt
 
 pub collision_fits : (b : Domain) (t : Float) (c p q : ℕ) (x y : Particle) → Fits (pair p q) (collision b t c p q x y)
 unfolding collision
@@ -50,13 +48,13 @@ collision_fits b t c p q x y = planned_fits t (collide (reach x y) (Periodic.apa
 
 later_fits : (r : Rule) (t dt : Float) (e : Event) → Fits r (due t dt e) → Fits r (later t dt e)
 unfolding later
-later_fits r t dt e f = on_test (Fits r) (le dt fzero) Nothing (due t dt e) (λ h. tt) (λ h. f)
+later_fits r t dt e f = on_test (Fits r) (le dt fzero) (Ok None) (due t dt e) (λ h. tt) (λ h. f)
 
 pub bound_fits : (b : Bound) (d : ℕ) (box : Domain) (t : Float) (c p : ℕ) (x : Particle) → Fits (bound b p d) (finder b d box t c p x)
 unfolding to_neighbour out_of_cell wall
-bound_fits ToNeighbour d box t c p x = on_test (Fits (bound ToNeighbour p d)) (shut d box c x) Nothing _ (λ h. tt) (λ h. later_fits (bound ToNeighbour p d) t _ (MoveToNeighbour p _ _) (refl, λ g. refl))
-bound_fits OutOfCell d box t c p x = on_test (Fits (bound OutOfCell p d)) (shut d box c x) Nothing _ (λ h. tt) (λ h. later_fits (bound OutOfCell p d) t _ (MoveOutOfCell p _ _) (refl, λ g. refl))
-bound_fits Wall d box t c p x = on_test (Fits (bound Wall p d)) (no_wall d box c x) Nothing _ (λ h. tt) (λ h. later_fits (bound Wall p d) t _ (WallReflection p _ _ _) (refl, λ g. refl))
+bound_fits ToNeighbour d box t c p x = on_test (Fits (bound ToNeighbour p d)) (shut d box c x) (Ok None) _ (λ h. tt) (λ h. later_fits (bound ToNeighbour p d) t _ (MoveToNeighbour p _ _) (refl, λ g. refl))
+bound_fits OutOfCell d box t c p x = on_test (Fits (bound OutOfCell p d)) (shut d box c x) (Ok None) _ (λ h. tt) (λ h. later_fits (bound OutOfCell p d) t _ (MoveOutOfCell p _ _) (refl, λ g. refl))
+bound_fits Wall d box t c p x = on_test (Fits (bound Wall p d)) (no_wall d box c x) (Ok None) _ (λ h. tt) (λ h. later_fits (bound Wall p d) t _ (WallReflection p _ _ _) (refl, λ g. refl))
 
 -- ---- rows of moves and tries
 abbrev pub Mild : Act → Type 0
@@ -121,9 +119,9 @@ SameLists s u = (u.members ≡ s.members) × (u.homes ≡ s.homes)
 pub act_lists : (a : Act) (s : State) → Mild a → SameLists s (perform a s).st
 act_lists (moving i x t) s m = store_case (λ o. SameLists s o.st) s i _ (refl, refl) (λ f. (refl, refl))
 act_lists (turning i p) s m = absurd m
-act_lists (trying k o Nothing) s m = (refl, refl)
-act_lists (trying k o Refused) s m = (refl, refl)
-act_lists (trying k o (Due e)) s m = insert_case (λ o. SameLists s o.st) s k (place_of e) (refl, refl) (λ r. (refl, refl)) (λ f r. unfold requeued in (refl, refl))
+act_lists (trying k o (Ok None)) s m = (refl, refl)
+act_lists (trying k o (Err _)) s m = (refl, refl)
+act_lists (trying k o (Ok (Some e))) s m = insert_case (λ o. SameLists s o.st) s k (place_of e) (refl, refl) (λ r. (refl, refl)) (λ f r. unfold requeued in (refl, refl))
 act_lists (cancelling i k) s m = absurd m
 act_lists (entering i k) s m = absurd m
 act_lists (leaving i k) s m = absurd m

@@ -17,8 +17,8 @@ use Rattle.root.specs.Root.{root_of, sqrt_of}
 use Rattle.myvec.specs.declared.MyVec.{MyVec}
 use Rattle.myvec.specs.Vec.{vec}
 use Rattle.model.specs.declared.Particle.{Particle}
-use Rattle.model.specs.declared.Contact.{Contact}
-use Rattle.model.specs.declared.Contact.TheVariants.{Never, After, Refused}
+use Rattle.std.specs.Prelude.{Some, None, Ok, Err}
+use Rattle.model.specs.Plans.{Contact}
 use Rattle.model.specs.Sizes.{box_ok, rated, grain_ok}
 use Rattle.model.specs.Grid.{box_of, cells_of, across, below, above, position}
 use Rattle.model.specs.Periodic.{apart}
@@ -83,23 +83,23 @@ starred =
     let p = mover (plus 3 1) one in
     let q = mover (plus 6 1) (minus 1 1) in
     let c = c_of (reach p q) x in
-    float (a_of v) (plus 4 1) ∷ float (b_of x v) (minus 6 1) ∷ float c (plus 8 1) ∷ float (d_of (a_of v) (b_of x v) c) (plus 4 1) ∷ touch p q x v (After (plus 1 1)))
+    float (a_of v) (plus 4 1) ∷ float (b_of x v) (minus 6 1) ∷ float c (plus 8 1) ∷ float (d_of (a_of v) (b_of x v) c) (plus 4 1) ∷ touch p q x v (Ok (Some (plus 1 1))))
     ∷ (let x = vec (plus 3 1) (plus 1 1) in
     let v = vec (minus 1 1) fzero in
     let p = slider (plus 3 1) (plus 4 1) one in
     let q = slider (plus 6 1) (plus 5 1) fzero in
-    float (d_of (a_of v) (b_of x v) (c_of (reach p q) x)) fzero ∷ touch p q x v (After (plus 3 1)))
-    ∷ touch (slider (plus 3 1) (plus 4 1) one) (slider (plus 6 1) (plus 11 2) fzero) (vec (plus 3 1) (plus 3 2)) (vec (minus 1 1) fzero) Never
-    ∷ touch (mover (plus 4 1) one) (mover (plus 5 1) (minus 1 1)) (vec (plus 1 1) fzero) (vec (minus 2 1) fzero) (After fzero)
+    float (d_of (a_of v) (b_of x v) (c_of (reach p q) x)) fzero ∷ touch p q x v (Ok (Some (plus 3 1))))
+    ∷ touch (slider (plus 3 1) (plus 4 1) one) (slider (plus 6 1) (plus 11 2) fzero) (vec (plus 3 1) (plus 3 2)) (vec (minus 1 1) fzero) (Ok None)
+    ∷ touch (mover (plus 4 1) one) (mover (plus 5 1) (minus 1 1)) (vec (plus 1 1) fzero) (vec (minus 2 1) fzero) (Ok (Some fzero))
     -- the test on a, alone and in the collision
     ∷ (let v = vec (minus 1 (2 ^ 26)) fzero in
-    test (too_slow (a_of v)) false ∷ touch (mover (plus 3 1) (plus 1 (2 ^ 26))) (mover (plus 6 1) fzero) (vec (plus 3 1) fzero) v (After (plus (2 ^ 27) 1)))
+    test (too_slow (a_of v)) false ∷ touch (mover (plus 3 1) (plus 1 (2 ^ 26))) (mover (plus 6 1) fzero) (vec (plus 3 1) fzero) v (Ok (Some (plus (2 ^ 27) 1))))
     ∷ (let v = vec (minus 1 (2 ^ 27)) fzero in
-    test (too_slow (a_of v)) true ∷ touch (mover (plus 3 1) (plus 1 (2 ^ 27))) (mover (plus 6 1) fzero) (vec (plus 3 1) fzero) v Never)
+    test (too_slow (a_of v)) true ∷ touch (mover (plus 3 1) (plus 1 (2 ^ 27))) (mover (plus 6 1) fzero) (vec (plus 3 1) fzero) v (Ok None))
     -- a move from cell column 1: into cell 5, and out of cell 4
     ∷ (let p = mover (plus 9 2) one in
-    when (dt (entering periodic_box 4 p)) (After (plus 1 1)) ∷ number (place (entering periodic_box 4 p)).cell 5
-    ∷ when (dt (leaving periodic_box 4 p)) (After (plus 2 1)) ∷ number (place (leaving periodic_box 4 p)).cell 4 ∷ [])
+    when (dt (entering periodic_box 4 p)) (Ok (Some (plus 1 1))) ∷ number (place (entering periodic_box 4 p)).cell 5
+    ∷ when (dt (leaving periodic_box 4 p)) (Ok (Some (plus 2 1))) ∷ number (place (leaving periodic_box 4 p)).cell 4 ∷ [])
     ∷ []
 
 fourteen : length starred ≡ 14
@@ -117,11 +117,11 @@ other_radii =
     let p = sized one_quarter (mover (plus 3 1) one) in
     let q = mover (plus 6 1) (minus 1 1) in
     let c = c_of (reach p q) x in
-    float (reach p q) (plus 3 4) ∷ float c (plus 135 16) ∷ float (d_of (a_of v) (b_of x v) c) (plus 9 4) ∷ touch p q x v (After (plus 9 8)))
+    float (reach p q) (plus 3 4) ∷ float c (plus 135 16) ∷ float (d_of (a_of v) (b_of x v) c) (plus 9 4) ∷ touch p q x v (Ok (Some (plus 9 8))))
     -- radius 1/4 from 9/2 on at speed 1: into the cell that begins at 6 after 5/4, out of its own after 7/4; at the wall at 9 from 15/2 on after 5/4
     ∷ (let p = sized one_quarter (mover (plus 9 2) one) in
-    when (dt (entering periodic_box 4 p)) (After (plus 5 4)) ∷ when (dt (leaving periodic_box 4 p)) (After (plus 7 4))
-    ∷ when (dt (reflecting walled_box 5 (sized one_quarter (mover (plus 15 2) one)))) (After (plus 5 4)) ∷ [])
+    when (dt (entering periodic_box 4 p)) (Ok (Some (plus 5 4))) ∷ when (dt (leaving periodic_box 4 p)) (Ok (Some (plus 7 4)))
+    ∷ when (dt (reflecting walled_box 5 (sized one_quarter (mover (plus 15 2) one)))) (Ok (Some (plus 5 4))) ∷ [])
     ∷ []
 
 -- ---- the others
@@ -131,14 +131,14 @@ unstarred =
     (number (refusal (start_in (plus 17 2) nine)) 1 ∷ number (refusal (start_in nine (plus 17 2))) 1 ∷ [])
     ∷ (number (refusal (start_in (plus 97 2) nine)) 1 ∷ number (refusal (start_in nine (plus 97 2))) 1 ∷ [])
     -- the last column of walls: a reflection, and no event
-    ∷ (when (dt (reflecting walled_box 5 (mover (plus 15 2) one))) (After (plus 1 1)) ∷ [])
+    ∷ (when (dt (reflecting walled_box 5 (mover (plus 15 2) one))) (Ok (Some (plus 1 1))) ∷ [])
     ∷ (let p = mover (plus 17 2) one in
-    when (dt (reflecting walled_box 5 p)) Never ∷ when (dt (entering walled_box 5 p)) Never ∷ when (dt (leaving walled_box 5 p)) Never ∷ [])
+    when (dt (reflecting walled_box 5 p)) (Ok None) ∷ when (dt (entering walled_box 5 p)) (Ok None) ∷ when (dt (leaving walled_box 5 p)) (Ok None) ∷ [])
     -- across the periodic edge: a grain at 8.5 seen from column 0, one at 0.5 seen from column 2
-    ∷ (when (dt (entering periodic_box 3 (mover (plus 17 2) one))) (After (plus 3 1)) ∷ [])
-    ∷ (when (dt (entering periodic_box 5 (mover half (minus 1 1)))) (After (plus 3 1)) ∷ [])
+    ∷ (when (dt (entering periodic_box 3 (mover (plus 17 2) one))) (Ok (Some (plus 3 1))) ∷ [])
+    ∷ (when (dt (entering periodic_box 5 (mover half (minus 1 1)))) (Ok (Some (plus 3 1))) ∷ [])
     -- (1 / a)·(-√d - b) where dividing by a rounds to another float
-    ∷ (when (collide one (vec (plus 3 1) fzero) (vec (minus 21 1) fzero)) (After (of_bits binary64 0x3fb8_6186_1861_8619)) ∷ [])
+    ∷ (when (collide one (vec (plus 3 1) fzero) (vec (minus 21 1) fzero)) (Ok (Some (of_bits binary64 0x3fb8_6186_1861_8619))) ∷ [])
     -- an event goes after one that is as early, and before a later one
     ∷ (numbers (grains (insert_by (of_grain 2 one) (of_grain 0 one ∷ of_grain 1 two ∷ []))) (0 ∷ 2 ∷ 1 ∷ []) ∷ [])
     -- two grains of value 1 that touch in direction 1 bounce by the restitution there, and half of gravity pulls both in direction 0, which has walls
@@ -192,15 +192,15 @@ same_float (fin s m e) (inf t) = false
 same_float (fin s m e) (fin t n d) = beq s t && (eqb m n && same_int e d)
 
 abbrev same_time : Contact → Contact → Bool
-same_time Never Never = true
-same_time Never (After y) = false
-same_time Never Refused = false
-same_time (After x) Never = false
-same_time (After x) (After y) = same_float x y
-same_time (After x) Refused = false
-same_time Refused Never = false
-same_time Refused (After y) = false
-same_time Refused Refused = true
+same_time (Ok None) (Ok None) = true
+same_time (Ok None) (Ok (Some y)) = false
+same_time (Ok None) (Err _) = false
+same_time (Ok (Some x)) (Ok None) = false
+same_time (Ok (Some x)) (Ok (Some y)) = same_float x y
+same_time (Ok (Some x)) (Err _) = false
+same_time (Err _) (Ok None) = false
+same_time (Err _) (Ok (Some y)) = false
+same_time (Err _) (Err _) = true
 
 abbrev same_vec : MyVec → MyVec → Bool
 same_vec u v = same_float u.x v.x && same_float u.y v.y
@@ -252,15 +252,15 @@ same_float_lem (fin s m e) (fin t n d) h =
     λ i. fin (p i) (q i) (r i)
 
 same_time_lem : (x y : Contact) → T (same_time x y) → x ≡ y
-same_time_lem Never Never h = refl
-same_time_lem Never (After y) h = absurd h
-same_time_lem Never Refused h = absurd h
-same_time_lem (After x) Never h = absurd h
-same_time_lem (After x) (After y) h = ap After (same_float_lem x y h)
-same_time_lem (After x) Refused h = absurd h
-same_time_lem Refused Never h = absurd h
-same_time_lem Refused (After y) h = absurd h
-same_time_lem Refused Refused h = refl
+same_time_lem (Ok None) (Ok None) h = refl
+same_time_lem (Ok None) (Ok (Some y)) h = absurd h
+same_time_lem (Ok None) (Err _) h = absurd h
+same_time_lem (Ok (Some x)) (Ok None) h = absurd h
+same_time_lem (Ok (Some x)) (Ok (Some y)) h = ap (λ (t : Float). Ok (Some t)) (same_float_lem x y h)
+same_time_lem (Ok (Some x)) (Err _) h = absurd h
+same_time_lem (Err _) (Ok None) h = absurd h
+same_time_lem (Err _) (Ok (Some y)) h = absurd h
+same_time_lem (Err _) (Err _) h = refl
 
 same_vec_lem : (u v : MyVec) → T (same_vec u v) → u ≡ v
 same_vec_lem u v h =

@@ -19,8 +19,8 @@ use Rattle.order.specs.Numbers.{fzero, half}
 use Rattle.myvec.specs.Vec.{vec}
 use Rattle.scheduler.specs.Heap.{time_in, swap_at, child_in, down, downshifted, parent_in, up, upshifted, updated, numbered, start_heap}
 use Rattle.model.specs.declared.Particle.{Particle}
-use Rattle.model.specs.declared.Plan.{Plan}
-use Rattle.model.specs.declared.Plan.TheVariants.{Nothing, Due, Refused}
+use Rattle.std.specs.Prelude.{Some, None, Ok, Err}
+use Rattle.model.specs.Plans.{Plan}
 use Rattle.model.specs.Grid.{across, cells, position}
 use Rattle.model.specs.Stepping.{grain_of, new_pos}
 use Rattle.model.specs.Periodic.{apart}
@@ -81,9 +81,9 @@ is_entry (bound Wall p d) = false
 is_entry sync = false
 
 abbrev stays : History → ℕ → ℕ → Rule → Plan → Bool
-stays h c n r Nothing = true
-stays h c n r (Due e) = has n (numbers (dated h c)) || (is_entry r && executed h c n)
-stays h c n r Refused = false
+stays h c n r (Ok None) = true
+stays h c n r (Ok (Some e)) = has n (numbers (dated h c)) || (is_entry r && executed h c n)
+stays h c n r (Err _) = false
 
 abbrev watched : History → ℕ → Rule → Bool
 watched h c r = since h c (tried h c r) r && stays h c (tried h c r) r (found h c r)
@@ -150,10 +150,10 @@ module _ (h : History) (c : ℕ) where
   entry_is sync e = absurd e
 
   stays_passes : (r : Rule) (x : Plan) → Stays h c r x → stays h c (tried h c r) r x ≡ true
-  stays_passes r Nothing k = refl
-  stays_passes r (Due e) (inl a) = rw (among_has _ (dated h c) a)
-  stays_passes r (Due e) (inr a) = rw (entry_is r a.0, a.1) (or-true (has (tried h c r) (numbers (dated h c))))
-  stays_passes r Refused k = absurd k
+  stays_passes r (Ok None) k = refl
+  stays_passes r (Ok (Some e)) (inl a) = rw (among_has _ (dated h c) a)
+  stays_passes r (Ok (Some e)) (inr a) = rw (entry_is r a.0, a.1) (or-true (has (tried h c r) (numbers (dated h c))))
+  stays_passes r (Err _) k = absurd k
 
   watched_passes : (r : Rule) → Watched h c r → watched h c r ≡ true
   watched_passes r w = rw (since_passes r (tried h c r) w.since) (stays_passes r (found h c r) w.stays)

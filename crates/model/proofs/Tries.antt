@@ -12,8 +12,8 @@ use borrow.Author.Tests.{eqb-true, eq-eqb}
 use Rattle.halting.proofs.Bools.{clash, differ, and_l, and_r, or_case}
 use Rattle.model.specs.declared.Place.{Place}
 use Rattle.model.specs.declared.Pending.{Pending}
-use Rattle.model.specs.declared.Plan.{Plan}
-use Rattle.model.specs.declared.Plan.TheVariants.{Nothing, Due, Refused}
+use Rattle.std.specs.Prelude.{Some, None, Ok, Err}
+use Rattle.model.specs.Plans.{Plan}
 use Rattle.model.specs.Events.{place_of, event_of, names}
 use Rattle.model.specs.State.{State}
 use Rattle.model.specs.declared.Bound.{Bound}
@@ -32,9 +32,9 @@ kind_of (bound Wall p d) = 4
 kind_of sync = 5
 
 abbrev pub Fits : Rule → Plan → Type 0
-Fits r Nothing = Unit {0}
-Fits r (Due e) = ((place_of e).kind ≡ kind_of r) × ((g : ℕ) → names (event_of (place_of e).kind (place_of e)) g ≡ about r g)
-Fits r Refused = Unit {0}
+Fits r (Ok None) = Unit {0}
+Fits r (Ok (Some e)) = ((place_of e).kind ≡ kind_of r) × ((g : ℕ) → names (event_of (place_of e).kind (place_of e)) g ≡ about r g)
+Fits r (Err _) = Unit {0}
 
 -- what is watched of a cell's rule, with that
 pub record Kept (h : History) (c : ℕ) (r : Rule) : Type 0 where
@@ -43,9 +43,9 @@ pub record Kept (h : History) (c : ℕ) (r : Rule) : Type 0 where
 
 -- ---- the same rule
 same_fits : (r o : Rule) (x : Plan) → same_rule r o ≡ true → Fits o x → Fits r x
-same_fits r o Nothing e f = tt
-same_fits r o Refused e f = tt
-same_fits r o (Due d) e f = (f.0 ∙ kinds r o e, λ g. f.1 g ∙ abouts r o e g)
+same_fits r o (Ok None) e f = tt
+same_fits r o (Err _) e f = tt
+same_fits r o (Ok (Some d)) e f = (f.0 ∙ kinds r o e, λ g. f.1 g ∙ abouts r o e g)
   where
     bounds : (b x : Bound) (p i m n : ℕ) → (same_bound b x && (eqb p i && eqb m n)) ≡ true → kind_of (bound x i n) ≡ kind_of (bound b p m)
     bounds ToNeighbour ToNeighbour p i m n e = refl
@@ -126,7 +126,7 @@ Spares c r (leaving i k) = Unit {0}
 -- a deed that tries another rule, turns none of the grains and lets none enter, and after which what was found is still there or was taken out
 module _ (d : Deed) (h : History) (c : ℕ) (r : Rule) (other : tries c r d ≡ false) where
   abbrev Held : Type 0
-  Held = (e : Pending) (n : ℕ) → Fits r (Due e) → Among (dated_at (place_of e) n) (dated h c) → Among (dated_at (place_of e) n) (dated (d ∷ h) c) ⊎ (Entry r × (draws d c n (dated h c) ≡ true))
+  Held = (e : Pending) (n : ℕ) → Fits r (Ok (Some e)) → Among (dated_at (place_of e) n) (dated h c) → Among (dated_at (place_of e) n) (dated (d ∷ h) c) ⊎ (Entry r × (draws d c n (dated h c) ≡ true))
 
   same_tried : tried (d ∷ h) c r ≡ tried h c r
   unfolding latest
@@ -138,9 +138,9 @@ module _ (d : Deed) (h : History) (c : ℕ) (r : Rule) (other : tries c r d ≡ 
 
   stays_on : Held → (x : Plan) → Fits r x → Stays h c r x → Stays (d ∷ h) c r x
   unfolding executed
-  stays_on k Nothing f s = tt
-  stays_on k Refused f s = s
-  stays_on k (Due e) f s = rw same_tried (by s)
+  stays_on k (Ok None) f s = tt
+  stays_on k (Err _) f s = s
+  stays_on k (Ok (Some e)) f s = rw same_tried (by s)
     where
       n : ℕ
       n = tried h c r
@@ -181,9 +181,9 @@ tried_now k o x s h c r e f z = record {
     now = ap (λ (b : Bool). cond b x (found h c r)) e
 
     there : (y : Plan) → (perform (trying k o y) s).num ≡ 0 → Stays (did (trying k o y) ∷ h) c r y
-    there Nothing z = tt
-    there Refused z = absurd (omega (arith, z))
-    there (Due p) z = rw (e, and_l (eqb k c) (same_rule r o) e) (inl (among_new (dated_at (place_of p) (suc (length h))) (dated h c)))
+    there (Ok None) z = tt
+    there (Err _) z = absurd (omega (arith, z))
+    there (Ok (Some p)) z = rw (e, and_l (eqb k c) (same_rule r o) e) (inl (among_new (dated_at (place_of p) (suc (length h))) (dated h c)))
 
 -- within is false of i, and true of g: they differ
 apart : (r : Rule) (i g : ℕ) → about r i ≡ false → about r g ≡ true → eqb i g ≡ false
@@ -196,9 +196,9 @@ apart r i g e f = by (eqb i g) refl
 -- an act that spares a rule
 module _ (c : ℕ) (r : Rule) where
   put_among : (k : ℕ) (x : Plan) (n : ℕ) (d : Dated) (l : List Dated) → Among d l → Among d (put_in k x n c l)
-  put_among k Nothing n d l a = a
-  put_among k Refused n d l a = a
-  put_among k (Due e) n d l a = by (eqb k c)
+  put_among k (Ok None) n d l a = a
+  put_among k (Err _) n d l a = a
+  put_among k (Ok (Some e)) n d l a = by (eqb k c)
     where
       by : (b : Bool) → Among d (cond b (insert_dated (dated_at (place_of e) n) l) l)
       by true = among_insert d (dated_at (place_of e) n) l a
@@ -215,7 +215,7 @@ module _ (c : ℕ) (r : Rule) where
       by false e = carry (did (trying k o x)) h c r e (λ g m. (refl, refl)) (λ y n f a. inl (put_among k x (suc (length h)) (dated_at (place_of y) n) (dated h c) a)) w
   spared (cancelling i k) s h p z w = carry (did (cancelling i k)) h c r refl (λ g m. (refl, refl)) (λ e n f a. inl (by (eqb k c) refl e n f a)) w
     where
-      by : (b : Bool) → eqb k c ≡ b → (e : Pending) (n : ℕ) → Fits r (Due e) → Among (dated_at (place_of e) n) (dated h c) → Among (dated_at (place_of e) n) (cond b (keep_dated i (dated h c)) (dated h c))
+      by : (b : Bool) → eqb k c ≡ b → (e : Pending) (n : ℕ) → Fits r (Ok (Some e)) → Among (dated_at (place_of e) n) (dated h c) → Among (dated_at (place_of e) n) (cond b (keep_dated i (dated h c)) (dated h c))
       by true q e n f a = among_keep (dated_at (place_of e) n) i (dated h c) (f.1 i ∙ (rw q at p)) a
       by false q e n f a = a
   spared (entering i k) s h p z w = carry (did (entering i k)) h c r refl (λ g m. (refl, by (eqb k c) refl g m)) (λ e n f a. inl a) w
@@ -237,7 +237,7 @@ module _ (c k : ℕ) (r : Rule) (h : History) where
   unfolding dated
   took_keeps is w = carry (took k) h c r refl (λ g m. (refl, refl)) (λ e n f a. by (eqb k c) refl (dated h c) refl e n f a) w
     where
-      out' : (d : Dated) (l : List Dated) → Not r d.event → (e : Pending) (n : ℕ) → Fits r (Due e) → (dated_at (place_of e) n ≡ d) ⊎ Among (dated_at (place_of e) n) l
+      out' : (d : Dated) (l : List Dated) → Not r d.event → (e : Pending) (n : ℕ) → Fits r (Ok (Some e)) → (dated_at (place_of e) n ≡ d) ⊎ Among (dated_at (place_of e) n) l
           → Among (dated_at (place_of e) n) l ⊎ (Entry r × ((true && eqb d.by n) ≡ true))
       out' d l no' e n f (inr a) = inl a
       out' d l no' e n f (inl q) = inr (
@@ -245,7 +245,7 @@ module _ (c k : ℕ) (r : Rule) (h : History) where
         eq-eqb d.by n (ap (λ (x : Dated). x.by) (sym q)),
       )
 
-      by : (b : Bool) → eqb k c ≡ b → (l : List Dated) → dated h c ≡ l → (e : Pending) (n : ℕ) → Fits r (Due e) → Among (dated_at (place_of e) n) l
+      by : (b : Bool) → eqb k c ≡ b → (l : List Dated) → dated h c ≡ l → (e : Pending) (n : ℕ) → Fits r (Ok (Some e)) → Among (dated_at (place_of e) n) l
           → Among (dated_at (place_of e) n) (cond b (drop 1 l) l) ⊎ (Entry r × ((b && eqb (head_number l) n) ≡ true))
       by false q l m e n f a = inl a
       by true q [] m e n f a = absurd a

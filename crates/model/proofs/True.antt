@@ -18,7 +18,7 @@ use Rattle.halting.proofs.All.{all_to}
 use Rattle.model.specs.declared.Domain.{Domain}
 use Rattle.model.specs.declared.Particle.{Particle}
 use Rattle.model.specs.declared.Pending.{Pending}
-use Rattle.model.specs.declared.Plan.TheVariants.{Nothing, Due, Refused}
+use Rattle.std.specs.Prelude.{Some, None, Ok, Err}
 use Rattle.model.specs.Events.{place_of}
 use Rattle.model.specs.Stepping.{landed}
 use Rattle.model.specs.State.{State, zero_g, grain, requeued}
@@ -72,7 +72,7 @@ pub record PutBy (h : History) (c : ℕ) (d : Dated) : Type 0 where
   pub earlier : History
   pub rule : Rule
   pub event : Pending
-  pub is : h ≡ later ++ did (trying c rule (Due event)) ∷ earlier
+  pub is : h ≡ later ++ did (trying c rule (Ok (Some event))) ∷ earlier
   pub same : d.event ≡ place_of event
   pub number : d.by ≡ suc (length earlier)
 
@@ -85,12 +85,12 @@ module _ (P : Dated → Type 0) (n c : ℕ) (l : List Dated) (a : All P l) where
   on true x f = f refl
   on false x f = a
 
-  pub all_put : (d : Deed) → ((k : ℕ) (r : Rule) (e : Pending) → d ≡ did (trying k r (Due e)) → k ≡ c → P (dated_at (place_of e) n)) → All P (change d n c l)
+  pub all_put : (d : Deed) → ((k : ℕ) (r : Rule) (e : Pending) → d ≡ did (trying k r (Ok (Some e))) → k ≡ c → P (dated_at (place_of e) n)) → All P (change d n c l)
   all_put (did (moving i x t)) p = a
   all_put (did (turning i x)) p = a
-  all_put (did (trying k r Nothing)) p = a
-  all_put (did (trying k r (Due e))) p = on (eqb k c) (insert_dated (dated_at (place_of e) n) l) (λ q. all_insert P (dated_at (place_of e) n) l (p k r e refl (eqb-true k c q)) a)
-  all_put (did (trying k r Refused)) p = a
+  all_put (did (trying k r (Ok None))) p = a
+  all_put (did (trying k r (Ok (Some e)))) p = on (eqb k c) (insert_dated (dated_at (place_of e) n) l) (λ q. all_insert P (dated_at (place_of e) n) l (p k r e refl (eqb-true k c q)) a)
+  all_put (did (trying k r (Err _))) p = a
   all_put (did (cancelling i k)) p = on (eqb k c) _ (λ q. all_keep P _ l a)
   all_put (did (entering i k)) p = a
   all_put (did (leaving i k)) p = a
@@ -101,7 +101,7 @@ unfolding dated
 put_by [] c = tt
 put_by (x ∷ h) c =
     all_put (PutBy (x ∷ h) c) (suc (length h)) c (dated h c) (all_to (PutBy h c) (PutBy (x ∷ h) c) (dated h c) (put_on x h c) (put_by h c)) x
-    (λ k r e q j. record { later = []; earlier = h; rule = r; event = e; is = ap (λ (d : Deed). d ∷ h) (q ∙ ap (λ (i : ℕ). did (trying i r (Due e))) j); same = refl; number = refl })
+    (λ k r e q j. record { later = []; earlier = h; rule = r; event = e; is = ap (λ (d : Deed). d ∷ h) (q ∙ ap (λ (i : ℕ). did (trying i r (Ok (Some e)))) j); same = refl; number = refl })
 
 -- ---- no two pending events of a cell have one number
 abbrev pub Others : Dated → List Dated → Type 0
@@ -136,9 +136,9 @@ distinct_drop (x ∷ xs) o = o.1
 distinct_change : (d : Deed) (n c : ℕ) (l : List Dated) → All (λ x. x.by < n) l → Distinct l → Distinct (change d n c l)
 distinct_change (did (moving i x t)) n c l b o = o
 distinct_change (did (turning i x)) n c l b o = o
-distinct_change (did (trying k r Nothing)) n c l b o = o
-distinct_change (did (trying k r (Due e))) n c l b o = on_test Distinct (eqb k c) (insert_dated (dated_at (place_of e) n) l) l (λ q. distinct_insert (dated_at (place_of e) n) l b o) (λ q. o)
-distinct_change (did (trying k r Refused)) n c l b o = o
+distinct_change (did (trying k r (Ok None))) n c l b o = o
+distinct_change (did (trying k r (Ok (Some e)))) n c l b o = on_test Distinct (eqb k c) (insert_dated (dated_at (place_of e) n) l) l (λ q. distinct_insert (dated_at (place_of e) n) l b o) (λ q. o)
+distinct_change (did (trying k r (Err _))) n c l b o = o
 distinct_change (did (cancelling i k)) n c l b o = on_test Distinct (eqb k c) _ l (λ q. distinct_keep _ l o) (λ q. o)
 distinct_change (did (entering i k)) n c l b o = o
 distinct_change (did (leaving i k)) n c l b o = o
@@ -180,9 +180,9 @@ module _ (s : State) (h : History) (v : Velocities h s) where
   unfolding last_of
   act_given (moving i x t) = stored (did (moving i x t)) i (landed x t (grain s i)) (λ I. v.each i I) (λ g n. refl)
   act_given (turning i p) = stored (did (turning i p)) i p (λ I. rw (eq-eqb i i refl)) (λ g n. rw (ne_eqb i g (λ e. n (sym e))))
-  act_given (trying k r Nothing) = λ z. same_grains_lem (did (trying k r Nothing)) s refl (λ g. refl)
-  act_given (trying k r Refused) = λ z. absurd (omega (arith, z))
-  act_given (trying k r (Due e)) = insert_case (λ o. o.num ≡ 0 → Velocities (did (trying k r (Due e)) ∷ h) o.st) s k (place_of e) (λ z. absurd (omega (arith, z))) (λ f z. absurd (omega (arith, z))) (λ f y z. unfold requeued in same_grains_lem (did (trying k r (Due e))) _ refl (λ g. refl))
+  act_given (trying k r (Ok None)) = λ z. same_grains_lem (did (trying k r (Ok None))) s refl (λ g. refl)
+  act_given (trying k r (Err _)) = λ z. absurd (omega (arith, z))
+  act_given (trying k r (Ok (Some e))) = insert_case (λ o. o.num ≡ 0 → Velocities (did (trying k r (Ok (Some e))) ∷ h) o.st) s k (place_of e) (λ z. absurd (omega (arith, z))) (λ f z. absurd (omega (arith, z))) (λ f y z. unfold requeued in same_grains_lem (did (trying k r (Ok (Some e)))) _ refl (λ g. refl))
   act_given (cancelling i k) = λ z. unfold cancelled requeued in same_grains_lem (did (cancelling i k)) _ refl (λ g. refl)
   act_given (entering i k) = enter_case (λ o. o.num ≡ 0 → Velocities (did (entering i k) ∷ h) o.st) s i k (λ b z. absurd (omega (arith, z))) (λ z. absurd (omega (arith, z))) (λ b c d z. same_grains_lem (did (entering i k)) _ refl (λ g. refl))
   act_given (leaving i k) = leave_case (λ o. o.num ≡ 0 → Velocities (did (leaving i k) ∷ h) o.st) s i k (λ z. absurd (omega (arith, z))) (λ b z. same_grains_lem (did (leaving i k)) _ refl (λ g. refl))

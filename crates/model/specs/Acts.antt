@@ -1,11 +1,10 @@
 -- 01, "Numbers given back": the acts, each done whole or refused by its number (5 to 9) with nothing of it done. Assumes nothing: these are definitions.
-use Rattle.std.specs.Prelude.{ℕ, ◌∷◌, ◌++◌, Bool, ◌&&◌, cond, ltb, leb, length, get_or, set, drop, replicate}
+use Rattle.std.specs.Prelude.{ℕ, ◌∷◌, ◌++◌, Bool, ◌&&◌, cond, ltb, leb, length, get_or, set, drop, replicate, Some, None, Ok, Err}
 use Rattle.std.specs.Float.Ieee.Scale.{finite}
 use Rattle.halting.specs.Out.{Out, out}
 use Rattle.model.specs.declared.Particle.{Particle}
 use Rattle.model.specs.declared.Place.{Place}
-use Rattle.model.specs.declared.Plan.{Plan}
-use Rattle.model.specs.declared.Plan.TheVariants.{Nothing, Due, Refused}
+use Rattle.model.specs.Plans.{Plan}
 use Rattle.layout.specs.Widths.{home_room, member_room}
 use Rattle.model.specs.Events.{place_of, insert_by, keep_by, gone_by, head_place, zero_p, fine_place, fine_v}
 use Rattle.model.specs.State.{Row, row, none, State, home, listed, queue, with_grains, with_lists, with_clock, requeued, has, pushed, pulled}
@@ -29,9 +28,9 @@ insert c e s = cond (fine_place e) (cond (ltb (length (queue s c)) s.room) (out 
 
 -- what the scheduling of one kind found goes in
 abbrev pub put : ℕ → Plan → State → Out State
-put c Nothing s = out 0 s
-put c (Due e) s = insert c (place_of e) s
-put c Refused s = out 5 s
+put c (Ok None) s = out 0 s
+put c (Ok (Some e)) s = insert c (place_of e) s
+put c (Err _) s = out 5 s
 
 -- cancelling a grain's events in one cell, with its heap update
 unfoldable pub cancelled : ℕ → ℕ → State → State

@@ -1,6 +1,6 @@
 -- 01, "Collision": when two grains of a cell touch, and what inter_particle_collision.rs then stores of them, operation by operation.
 -- Assumes nothing: these are definitions.
-use Rattle.std.specs.Prelude.{ℕ, Bool, true, false, cond, Float, Option, Some, None}
+use Rattle.std.specs.Prelude.{ℕ, Bool, true, false, cond, Float, Option, Some, None, Ok, Err}
 use Rattle.std.specs.Float.{binary64}
 use Rattle.std.specs.Float.Ieee.{add, sub, mul, div, neg, lt, le}
 use Rattle.order.specs.Numbers.{fzero, one}
@@ -11,10 +11,7 @@ use Rattle.model.specs.declared.Domain.{Domain}
 use Rattle.model.specs.declared.Particle.{Particle}
 use Rattle.model.specs.declared.Event.{Event}
 use Rattle.model.specs.declared.Event.TheVariants.{InterParticleCollision}
-use Rattle.model.specs.declared.Contact.{Contact}
-use Rattle.model.specs.declared.Contact.TheVariants as contact
-use Rattle.model.specs.declared.Plan.{Plan}
-use Rattle.model.specs.declared.Plan.TheVariants.{Nothing, Refused}
+use Rattle.model.specs.Plans.{Contact, Plan, root_refused}
 use Rattle.model.specs.Constants.{restitution, least_a, mean_factor, centre_factor, gravity_size, neutral_val}
 use Rattle.model.specs.Stepping.{new_pos, due}
 use Rattle.model.specs.Periodic.{apart}
@@ -38,10 +35,10 @@ d_of a b c = sub binary64 (mul binary64 b b) (mul binary64 a c)
 
 -- dt = (1 / a)·(-√d - b); none if dt < 0; refused if the root is
 abbrev pub after_root : Float → Float → Option Float → Contact
-after_root a b None = contact.Refused
+after_root a b None = Err root_refused
 after_root a b (Some s) =
     let dt = mul binary64 (div binary64 one a) (sub binary64 (neg s) b) in
-    cond (lt dt fzero) contact.Never (contact.After dt)
+    cond (lt dt fzero) (Ok None) (Ok (Some dt))
 
 abbrev pub time_of : Float → Float → Float → Contact
 time_of d a b = after_root a b (root_of d)
@@ -52,7 +49,7 @@ too_slow a = lt a least_a
 
 abbrev pub tests : Float → Float → Float → Float → Contact → Contact
 tests a b c d k =
-    cond (too_slow a) contact.Never (cond (le fzero b) contact.Never (cond (lt c fzero) contact.Never (cond (lt d fzero) contact.Never k)))
+    cond (too_slow a) (Ok None) (cond (le fzero b) (Ok None) (cond (lt c fzero) (Ok None) (cond (lt d fzero) (Ok None) k)))
 
 abbrev pub contact_by : Float → Float → Float → Contact
 contact_by a b c = tests a b c (d_of a b c) (time_of (d_of a b c) a b)
@@ -94,9 +91,9 @@ struck b c i j p q dt =
     InterParticleCollision i j x y (vsub g w) (vadd g w) (mean p q)
 
 abbrev pub planned : Contact → Float → (Float → Event) → Plan
-planned contact.Never t e = Nothing
-planned (contact.After dt) t e = due t dt (e dt)
-planned contact.Refused t e = Refused
+planned (Ok None) t e = Ok None
+planned (Ok (Some dt)) t e = due t dt (e dt)
+planned (Err _) t e = Err root_refused
 
 -- of the grains i and j, which are p and q, in cell c at the clock t
 unfoldable pub collision : Domain → Float → ℕ → ℕ → ℕ → Particle → Particle → Plan

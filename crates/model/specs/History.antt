@@ -1,6 +1,6 @@
 -- The history of acts: every act done since an accepted start, newest first, as 01's rules give them, the taking of a head among them; and what can be read off it.
 -- Acts are numbered from 1 in the order in which they were done. Assumes nothing: these are definitions.
-use Rattle.std.specs.Prelude.{ℕ, zero, suc, ◌<◌, ◌≡◌, List, [], ◌∷◌, Bool, true, false, cond, eqb, length, drop, Float}
+use Rattle.std.specs.Prelude.{ℕ, zero, suc, ◌<◌, ◌≡◌, List, [], ◌∷◌, Bool, true, false, cond, eqb, length, drop, Float, Some, None, Ok, Err}
 use Rattle.std.specs.Float.Ieee.{le}
 use Rattle.halting.specs.Out.{out}
 use Rattle.halting.specs.Every.{All}
@@ -8,8 +8,7 @@ use Rattle.myvec.specs.declared.MyVec.{MyVec}
 use Rattle.model.specs.declared.Domain.{Domain}
 use Rattle.model.specs.declared.Particle.{Particle}
 use Rattle.model.specs.declared.Place.{Place}
-use Rattle.model.specs.declared.Plan.{Plan}
-use Rattle.model.specs.declared.Plan.TheVariants.{Nothing, Due, Refused}
+use Rattle.model.specs.Plans.{Plan}
 use Rattle.model.specs.Grid.{cells}
 use Rattle.model.specs.declared.Event.TheVariants.{Synchronisation}
 use Rattle.model.specs.Events.{zero_v, place_of, event_of, names}
@@ -116,9 +115,9 @@ keep_dated g (x ∷ xs) = cond (named_by x g) (keep_dated g xs) (x ∷ keep_date
 
 -- what deed number n makes of cell c's events
 abbrev pub put_in : ℕ → Plan → ℕ → ℕ → List Dated → List Dated
-put_in k Nothing n c l = l
-put_in k (Due e) n c l = cond (eqb k c) (insert_dated (dated_at (place_of e) n) l) l
-put_in k Refused n c l = l
+put_in k (Ok None) n c l = l
+put_in k (Ok (Some e)) n c l = cond (eqb k c) (insert_dated (dated_at (place_of e) n) l) l
+put_in k (Err _) n c l = l
 
 abbrev pub change : Deed → ℕ → ℕ → List Dated → List Dated
 change (did (moving i x t)) n c l = l
@@ -138,7 +137,7 @@ dated (d ∷ h) c = change d (suc (length h)) c (dated h c)
 abbrev pub Sought : Rule → ℕ → State → Plan → Type 0
 Sought (pair p q) c s x = x ≡ collision s.box s.clock c p q (grain s p) (grain s q)
 Sought (bound b p d) c s x = x ≡ finder b d s.box s.clock c p (grain s p)
-Sought sync c s x = (t : Float) × (x ≡ Due (record { time = t; event = Synchronisation }))
+Sought sync c s x = (t : Float) × (x ≡ Ok (Some (record { time = t; event = Synchronisation })))
 
 -- a grain has been stepped to the clock: its own time is the clock's
 abbrev pub AtClock : State → ℕ → Type 0

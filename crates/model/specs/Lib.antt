@@ -5,6 +5,7 @@ pub mod Grid
 pub mod Stepping
 pub mod Periodic
 pub mod FromPToC
+pub mod Plans
 pub mod Collision
 pub mod Moves
 pub mod Walls

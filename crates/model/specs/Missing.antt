@@ -1,10 +1,9 @@
 -- NO MISSING EVENT, the converse of T-13, over the same history: each rule that concerns a cell was tried there since the grains that it is about were last given a velocity
 -- and entered the cell, and what it found is still pending there; and nothing else is pending. Assumes nothing: these are definitions.
-use Rattle.std.specs.Prelude.{ℕ, ◌<◌, ◌≡◌, ◌⊎◌, List, [], ◌∷◌, Bool, true, false, ◌&&◌, ◌||◌, eqb}
+use Rattle.std.specs.Prelude.{ℕ, ◌<◌, ◌≡◌, ◌⊎◌, List, [], ◌∷◌, Bool, true, false, ◌&&◌, ◌||◌, eqb, Some, None, Ok, Err}
 use Rattle.halting.specs.Every.{All}
 use Rattle.model.specs.declared.Pending.{Pending}
-use Rattle.model.specs.declared.Plan.{Plan}
-use Rattle.model.specs.declared.Plan.TheVariants.{Nothing, Due, Refused}
+use Rattle.model.specs.Plans.{Plan}
 use Rattle.model.specs.Grid.{cells}
 use Rattle.model.specs.Events.{place_of}
 use Rattle.model.specs.State.{State, listed, has}
@@ -61,20 +60,20 @@ tries c r (did (leaving i k)) = false
 tries c r (took k) = false
 
 abbrev pub plan_of : Deed → Plan
-plan_of (did (moving i x t)) = Nothing
-plan_of (did (turning i p)) = Nothing
+plan_of (did (moving i x t)) = Ok None
+plan_of (did (turning i p)) = Ok None
 plan_of (did (trying k r x)) = x
-plan_of (did (cancelling i k)) = Nothing
-plan_of (did (entering i k)) = Nothing
-plan_of (did (leaving i k)) = Nothing
-plan_of (took k) = Nothing
+plan_of (did (cancelling i k)) = Ok None
+plan_of (did (entering i k)) = Ok None
+plan_of (did (leaving i k)) = Ok None
+plan_of (took k) = Ok None
 
 -- the last try's number, and what it found
 abbrev pub tried : History → ℕ → Rule → ℕ
 tried h c r = latest (tries c r) h
 
 abbrev pub found : History → ℕ → Rule → Plan
-found h c r = last_of Nothing plan_of (tries c r) h
+found h c r = last_of (Ok None) plan_of (tries c r) h
 
 -- the event that act n put into cell c was taken out to be done
 abbrev pub head_number : List Dated → ℕ
@@ -103,9 +102,9 @@ Entry sync = ⊥
 
 -- what the last try found is pending in that cell, as that act put it in; an entry may have been done instead
 abbrev pub Stays : History → ℕ → Rule → Plan → Type 0
-Stays h c r Nothing = Unit {0}
-Stays h c r (Due e) = Among (dated_at (place_of e) (tried h c r)) (dated h c) ⊎ (Entry r × (executed h c (tried h c r) ≡ true))
-Stays h c r Refused = ⊥
+Stays h c r (Ok None) = Unit {0}
+Stays h c r (Ok (Some e)) = Among (dated_at (place_of e) (tried h c r)) (dated h c) ⊎ (Entry r × (executed h c (tried h c r) ≡ true))
+Stays h c r (Err _) = ⊥
 
 -- the rule was last tried after the last change of velocity of every grain that it is about, and after each entered the cell
 pub record Watched (h : History) (c : ℕ) (r : Rule) : Type 0 where
@@ -152,7 +151,7 @@ pub record Owed (h : History) (s : State) (c : ℕ) (d : Dated) : Type 0 where
   pub rule : Rule
   pub event : Pending
   pub owes : Owes s c rule
-  pub finds : last_of Nothing plan_of (asks c rule) h ≡ Due event
+  pub finds : last_of (Ok None) plan_of (asks c rule) h ≡ Ok (Some event)
   pub is : d ≡ dated_at (place_of event) (asked h c rule)
   pub since : (g : ℕ) → about rule g ≡ true → arrived h g c < d.by
 

@@ -1,6 +1,6 @@
 -- 01, "Moves": when grain i, which is p, enters the neighbour of cell c that it moves to in direction d, and when it leaves c, at the clock t.
 -- Assumes nothing: these are definitions.
-use Rattle.std.specs.Prelude.{ℕ, Bool, not, ◌&&◌, ◌||◌, cond, Float}
+use Rattle.std.specs.Prelude.{ℕ, Bool, not, ◌&&◌, ◌||◌, cond, Float, None, Ok}
 use Rattle.std.specs.Float.{binary64}
 use Rattle.std.specs.Float.Ieee.{add, sub, div, neg, lt, le, eq}
 use Rattle.order.specs.Numbers.{fzero}
@@ -9,8 +9,7 @@ use Rattle.model.specs.declared.Domain.{Domain}
 use Rattle.model.specs.declared.Particle.{Particle}
 use Rattle.model.specs.declared.Event.{Event}
 use Rattle.model.specs.declared.Event.TheVariants.{MoveToNeighbour, MoveOutOfCell}
-use Rattle.model.specs.declared.Plan.{Plan}
-use Rattle.model.specs.declared.Plan.TheVariants.{Nothing}
+use Rattle.model.specs.Plans.{Plan}
 use Rattle.model.specs.Grid.{periodic, length_of, low, high, below, above, position, is_low, is_high}
 use Rattle.model.specs.Stepping.{new_pos, due}
 use Rattle.model.specs.Periodic.{corrected}
@@ -45,15 +44,15 @@ shut d b c p = still d p || (not (periodic d b) && at_edge d b c p)
 
 -- none if dt ≤ 0
 unfoldable pub later : Float → Float → Event → Plan
-later t dt e = cond (le dt fzero) Nothing (due t dt e)
+later t dt e = cond (le dt fzero) (Ok None) (due t dt e)
 
 unfoldable pub to_neighbour : ℕ → Domain → Float → ℕ → ℕ → Particle → Plan
 to_neighbour d b t c i p =
     let dt = move_dt d b c p.rad p in
-    cond (shut d b c p) Nothing (later t dt (MoveToNeighbour i (new_pos b p.pos p.vel dt) (aside d b c p)))
+    cond (shut d b c p) (Ok None) (later t dt (MoveToNeighbour i (new_pos b p.pos p.vel dt) (aside d b c p)))
 
 -- out of cell, rad's sign flips
 unfoldable pub out_of_cell : ℕ → Domain → Float → ℕ → ℕ → Particle → Plan
 out_of_cell d b t c i p =
     let dt = move_dt d b c (neg p.rad) p in
-    cond (shut d b c p) Nothing (later t dt (MoveOutOfCell i (new_pos b p.pos p.vel dt) c))
+    cond (shut d b c p) (Ok None) (later t dt (MoveOutOfCell i (new_pos b p.pos p.vel dt) c))

@@ -1,16 +1,13 @@
 -- 01, "Numbers given back", "Collision" and "Doing an event": the number and the values that each case of an answer stands for. Assumes nothing: these are definitions.
-use Rattle.std.specs.Prelude.{ℕ, List, [], ◌∷◌, Float, Result, Ok, Err}
+use Rattle.std.specs.Prelude.{ℕ, List, [], ◌∷◌, Float, Result, Ok, Err, Some, None}
 use Rattle.model.specs.declared.refusal.StartError.{StartError}
 use Rattle.model.specs.declared.refusal.StartError.TheVariants as start
 use Rattle.model.specs.declared.refusal.RunError.{RunError}
 use Rattle.model.specs.declared.End.{End}
 use Rattle.model.specs.declared.End.TheVariants as ending
 use Rattle.model.specs.declared.Report.{Report}
-use Rattle.model.specs.declared.Contact.{Contact}
-use Rattle.model.specs.declared.Contact.TheVariants as contact
+use Rattle.model.specs.Plans.{Contact, Plan}
 use Rattle.model.specs.declared.Pending.{Pending}
-use Rattle.model.specs.declared.Plan.{Plan}
-use Rattle.model.specs.declared.Plan.TheVariants as plan
 use Rattle.model.specs.State.{State}
 use Rattle.model.specs.Refusals.{start_error_number, run_error_number}
 use Rattle.model.specs.Run.{How, synchronised, spent, refused, Ran}
@@ -42,12 +39,12 @@ told r s = ran_of (how_of r.end) r.clock r.events s
 
 -- of a contact: 0 and no time, 0 and its dt, or 5
 unfoldable pub contact_told : Contact → ℕ × List Float
-contact_told contact.Never = (0, [])
-contact_told (contact.After dt) = (0, dt ∷ [])
-contact_told contact.Refused = (5, [])
+contact_told (Ok None) = (0, [])
+contact_told (Ok (Some dt)) = (0, dt ∷ [])
+contact_told (Err _) = (5, [])
 
 -- of what a scheduling found: 0 and no event, 0 and the event that is due, or 5
 unfoldable pub plan_told : Plan → ℕ × List Pending
-plan_told plan.Nothing = (0, [])
-plan_told (plan.Due e) = (0, e ∷ [])
-plan_told plan.Refused = (5, [])
+plan_told (Ok None) = (0, [])
+plan_told (Ok (Some e)) = (0, e ∷ [])
+plan_told (Err _) = (5, [])

@@ -1,5 +1,5 @@
 -- 01's acts as data, and every execution and a start as a row of them, in 01's order. Assumes nothing: these are definitions.
-use Rattle.std.specs.Prelude.{ℕ, zero, suc, List, [], ◌∷◌, Bool, false, ◌||◌, cond, eqb, length, get_or, Float}
+use Rattle.std.specs.Prelude.{ℕ, zero, suc, List, [], ◌∷◌, Bool, false, ◌||◌, cond, eqb, length, get_or, Float, Some, Ok}
 use Rattle.std.specs.Float.{binary64}
 use Rattle.std.specs.Float.Ieee.{add, sub}
 use Rattle.halting.specs.Out.{Out, out, then}
@@ -9,8 +9,7 @@ use Rattle.model.specs.declared.Bound.{Bound}
 use Rattle.model.specs.declared.Bound.TheVariants.{ToNeighbour, OutOfCell, Wall}
 use Rattle.model.specs.declared.Domain.{Domain}
 use Rattle.model.specs.declared.Particle.{Particle}
-use Rattle.model.specs.declared.Plan.{Plan}
-use Rattle.model.specs.declared.Plan.TheVariants.{Due}
+use Rattle.model.specs.Plans.{Plan}
 use Rattle.model.specs.declared.Event.{Event}
 use Rattle.model.specs.declared.Event.TheVariants.{InterParticleCollision, MoveToNeighbour, MoveOutOfCell, WallReflection, Synchronisation}
 use Rattle.model.specs.Stepping.{new_pos, landed, renewed, at_zero}
@@ -126,7 +125,7 @@ forgets p s = of_each (λ c. only (cancelling p c)) (home s p) s
 
 -- a synchronisation goes in
 abbrev pub syncing : Float → Act
-syncing t = trying 0 sync (Due (record { time = t; event = Synchronisation }))
+syncing t = trying 0 sync (Ok (Some (record { time = t; event = Synchronisation })))
 
 -- the five executions
 abbrev pub acts_of : Float → Event → State → Acts

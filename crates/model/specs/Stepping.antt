@@ -1,5 +1,5 @@
 -- 01, "Stepping": where a grain is after dt, and a grain stepped to a time. Assumes nothing: these are definitions.
-use Rattle.std.specs.Prelude.{Float, cond}
+use Rattle.std.specs.Prelude.{Float, cond, Some, Ok}
 use Rattle.std.specs.Float.{binary64}
 use Rattle.std.specs.Float.Ieee.{add, sub, lt}
 use Rattle.order.specs.Numbers.{fzero}
@@ -8,8 +8,7 @@ use Rattle.myvec.specs.Vec.{vec, vadd, vscale}
 use Rattle.model.specs.declared.Domain.{Domain}
 use Rattle.model.specs.declared.Particle.{Particle}
 use Rattle.model.specs.declared.Event.{Event}
-use Rattle.model.specs.declared.Plan.{Plan}
-use Rattle.model.specs.declared.Plan.TheVariants.{Due}
+use Rattle.model.specs.Plans.{Plan}
 use Rattle.model.specs.Grid.{length_of}
 
 abbrev pub grain_of : MyVec → MyVec → Float → Float → Float → Particle
@@ -41,4 +40,4 @@ stepped b t p = landed (new_pos b p.pos p.vel (sub binary64 t p.time)) t p
 
 -- an event's time is the clock plus its dt
 abbrev pub due : Float → Float → Event → Plan
-due t dt e = Due (record { time = add binary64 t dt; event = e })
+due t dt e = Ok (Some (record { time = add binary64 t dt; event = e }))

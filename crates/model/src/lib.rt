@@ -8,7 +8,7 @@ ghost use Rattle.model.specs.Stepping.{grain_of, landed};
 mod refusal;
 
 use myvec::MyVec;
-pub use refusal::{Halt, NoHalt, RunError, StartError};
+pub use refusal::{Halt, NoHalt, RootRefused, RunError, StartError};
 
 // The box: its lengths, and in which directions it is periodic.
 #[derive(Clone, Copy)]
@@ -150,21 +150,11 @@ pub enum Bound {
     Wall,
 }
 
-// When two grains touch: never, after a time, or the root was refused.
-#[derive(Clone, Copy)]
-pub enum Contact {
-    Never,
-    After(f64),
-    Refused,
-}
+// When two grains touch: never, after a time, or the root is refused.
+pub type Contact = Result<Option<f64>, RootRefused>;
 
-// What the scheduling of one kind finds: no event, one that is due, or refusal 5.
-#[derive(Clone, Copy)]
-pub enum Plan {
-    Nothing,
-    Due(Pending),
-    Refused,
-}
+// What the scheduling of one kind finds: no event, one that is due, or a refused root.
+pub type Plan = Result<Option<Pending>, RootRefused>;
 
 // How a run ends that is not refused.
 #[derive(Clone, Copy, Debug, PartialEq, Eq)]

@@ -1,6 +1,7 @@
 // Why an act, a start or a run is refused, and the number that stands for each.
 ghost use Rattle.std.specs.Prelude.{◌≡◌};
 ghost use Rattle.model.specs.Refusals.{NumberOfHalt, HaltOfNumber, NumberOfStart, NumberOfRun};
+ghost use Rattle.model.specs.declared.refusal.Halt.TheVariants as halt;
 ghost use Rattle.model.specs.declared.refusal.StartError.TheVariants as start;
 ghost use Rattle.model.specs.declared.refusal.RunError.TheVariants as run;
 
@@ -51,6 +52,18 @@ impl TryFrom<u64> for Halt {
             9 => Ok(Halt::OnlyCell),
             _ => Err(NoHalt(number)),
         }
+    }
+}
+
+// The root of a contact is refused: the number is NaN or below 0.
+#[derive(Clone, Copy, Debug, PartialEq, Eq)]
+pub struct RootRefused;
+
+impl From<RootRefused> for Halt {
+    ghost from_gives = { λ r h. h ≡ halt.NotFinite };
+
+    fn from(_refused: RootRefused) -> Halt {
+        Halt::NotFinite
     }
 }
 
