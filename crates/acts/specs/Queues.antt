@@ -8,22 +8,15 @@ use Rattle.tables.specs.declared.parts.Part.{Part}
 use Rattle.tables.specs.Parts.{queue_part, events_part}
 use Rattle.acts.specs.declared.queue.CellRow.{CellRow}
 
--- the parts of the two tables that a cell's row is
-abbrev pub nums_part : CellRow → Part
-nums_part k = record { from = k.a; to = k.b }
-
-abbrev pub reals_part : CellRow → Part
-reals_part k = record { from = k.p; to = k.q }
-
--- they are cell c's and within the tables, and its head is
+-- the parts of the two tables that cell c's row is, which are within them, and its head
 pub record RowOf (z : Sizes) (nums : List ℕ) (reals : List Float) (c : ℕ) (k : CellRow) : Type 0 where
-  pub nums_are : nums_part k ≡ queue_part z c
-  pub reals_are : reals_part k ≡ events_part z c
+  pub nums_are : k.nums ≡ queue_part z c
+  pub reals_are : k.reals ≡ events_part z c
   pub head_is : k.head ≡ head_in reals nums z.room c
-  pub nums_on : k.a ≤ k.b
-  pub nums_in : k.b ≤ length nums
-  pub reals_on : k.p ≤ k.q
-  pub reals_in : k.q ≤ length reals
+  pub nums_on : k.nums.from ≤ k.nums.to
+  pub nums_in : k.nums.to ≤ length nums
+  pub reals_on : k.reals.from ≤ k.reals.to
+  pub reals_in : k.reals.to ≤ length reals
 
 -- the index that the cell at a heap index changes places with, or that index: a child's if its head is later than it was, otherwise the parent's
 abbrev pub shifted_to : (ℕ → Head) → List ℕ → ℕ → ℕ → Bool → ℕ

@@ -1,10 +1,11 @@
--- What the acts on the lists and on the grains ask, and what they answer and leave: the table holds some state, and afterwards the outcome's. Assumes nothing: these are definitions.
+-- What the acts on the lists, on the grains and on the queues ask, and what they answer and leave: the tables hold some state, and afterwards the outcome's. Assumes nothing: these are definitions.
 use Rattle.std.specs.Prelude.{ℕ, ◌≡◌, true, List, Float}
 use Rattle.halting.specs.Out.{Out}
 use Rattle.model.specs.declared.Domain.{Domain}
 use Rattle.model.specs.State.{State, has, home, listed}
 use Rattle.tables.specs.declared.Sizes.{Sizes}
-use Rattle.tables.specs.Holds.{Listed, Grained}
+use Rattle.tables.specs.Holds.{Listed, Grained, Queued}
+use Rattle.acts.specs.declared.queue.Queues.{Queues}
 
 -- ---- the lists
 abbrev pub InLists : Sizes → List ℕ → State → Type 0
@@ -36,3 +37,19 @@ GrainsTold z t r o = (r ≡ o.num) × InGrains z t o.st
 -- the box and the clock, which travel by value, are the state's
 abbrev pub At : Domain → Float → State → Type 0
 At b t s = (s.box ≡ b) × (s.clock ≡ t)
+
+-- ---- the queues with the heap
+abbrev pub InQueues : Sizes → Queues → State → Type 0
+InQueues z q s = Queued z q.queue.now q.events.now q.order.now s
+
+abbrev pub IsReady : Sizes → Queues → Type 0
+IsReady z q = (s : State) × InQueues z q s
+
+abbrev pub QueuesTold : Sizes → Queues → ℕ → Out State → Type 0
+QueuesTold z q r o = (r ≡ o.num) × InQueues z q o.st
+
+-- the tables that are lent stay the same ones
+pub record SameTables (old new : Queues) : Type 0 where
+  pub queue : new.queue.ghost_name ≡ old.queue.ghost_name
+  pub events : new.events.ghost_name ≡ old.events.ghost_name
+  pub order : new.order.ghost_name ≡ old.order.ghost_name

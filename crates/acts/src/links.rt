@@ -2,64 +2,62 @@
 ghost use Rattle.std.specs.Prelude.{◌≡◌, ◌<◌, ◌≤◌, length};
 ghost use Rattle.model.specs.State.{State, home, listed};
 ghost use Rattle.model.specs.Acts.{enter as enterAct, leave as leaveAct};
+ghost use Rattle.model.specs.Refusals.{number_of};
 ghost use Rattle.tables.specs.Holds.{Ranged};
-ghost use Rattle.tables.specs.Parts.{lent};
 ghost use Rattle.acts.specs.Tell.{InLists, Lists, Pair, ListsPair, ListsTold};
 
 use layout::{HOME_ROOM, MEMBER_ROOM};
+use model::Halt;
 use tables::parts::Part;
 use tables::{Sizes, parts, rows};
 
-// Where the grains stand that a cell lists.
-pub fn members_of(lists: &[u64], z: Sizes, cell: usize) -> Part
+// The grains that a cell lists.
+pub fn members_of(lists: &[u64], z: Sizes, cell: usize) -> &[u64]
     requires { Lists z lists.now × Ranged z × (cell < z.cells) }
-    ensures { (result.from ≤ result.to) × (result.to ≤ length lists.now)
-        × ((s : State) → InLists z lists.now s → lent result lists.now ≡ listed s cell) }
+    ensures { (s : State) → InLists z lists.now s → result.now ≡ listed s cell }
 {
-    rows::live_of(lists, parts::member_part(z, cell))
+    let Part { from, to } = parts::member_part(z, cell);
+    rows::live_of(&lists[from..to])
 }
 
-// Where the cells stand that list a grain.
-pub fn cells_of(lists: &[u64], z: Sizes, grain: usize) -> Part
+// The cells that list a grain.
+pub fn cells_of(lists: &[u64], z: Sizes, grain: usize) -> &[u64]
     requires { Lists z lists.now × Ranged z × (grain < z.grains) }
-    ensures { (result.from ≤ result.to) × (result.to ≤ length lists.now)
-        × ((s : State) → InLists z lists.now s → lent result lists.now ≡ home s grain) }
+    ensures { (s : State) → InLists z lists.now s → result.now ≡ home s grain }
 {
-    rows::live_of(lists, parts::home_part(grain))
+    let Part { from, to } = parts::home_part(grain);
+    rows::live_of(&lists[from..to])
 }
 
 // A grain enters a cell, in both lists or in neither: 8 before 7, the cell's room before the grain's.
-pub fn enter(lists: &mut [u64], z: Sizes, grain: usize, cell: usize) -> u64
+pub fn enter(lists: &mut [u64], z: Sizes, grain: usize, cell: usize) -> Result<(), Halt>
     requires { Lists z lists.old × Ranged z × (grain < z.grains) × (cell < z.cells) }
-    ensures { (s : State) → InLists z lists.old s → ListsTold z lists.new result (enterAct grain cell s) }
+    ensures { (s : State) → InLists z lists.old s → ListsTold z lists.new (number_of result) (enterAct grain cell s) }
 {
     let Part { from: a, to: b } = parts::home_part(grain);
     let Part { from: p, to: q } = parts::member_part(z, cell);
     if rows::lists(&lists[p..q], grain as u64) {
-        return 8;
+        return Err(Halt::AlreadyListed);
     }
-    if MEMBER_ROOM <= rows::count_of(&lists[p..q]) {
-        return 7;
-    }
-    if HOME_ROOM <= rows::count_of(&lists[a..b]) {
-        return 7;
+    if MEMBER_ROOM <= rows::count_of(&lists[p..q]) || HOME_ROOM <= rows::count_of(&lists[a..b]) {
+        return Err(Halt::ListFull);
     }
     rows::add_to(&mut lists[p..q], grain as u64);
     rows::add_to(&mut lists[a..b], cell as u64);
-    0
+    Ok(())
 }
 
 // A grain leaves a cell, where both list each other, unless it is the grain's only one: 9.
-pub fn leave(lists: &mut [u64], z: Sizes, grain: usize, cell: usize) -> u64
+pub fn leave(lists: &mut [u64], z: Sizes, grain: usize, cell: usize) -> Result<(), Halt>
     requires { ListsPair z lists.old grain cell × Ranged z × (grain < z.grains) × (cell < z.cells) }
-    ensures { (s : State) → InLists z lists.old s → Pair grain cell s → ListsTold z lists.new result (leaveAct grain cell s) }
+    ensures { (s : State) → InLists z lists.old s → Pair grain cell s → ListsTold z lists.new (number_of result) (leaveAct grain cell s) }
 {
     let Part { from: a, to: b } = parts::home_part(grain);
     let Part { from: p, to: q } = parts::member_part(z, cell);
     if rows::count_of(&lists[a..b]) <= 1 {
-        return 9;
+        return Err(Halt::OnlyCell);
     }
     rows::drop_from(&mut lists[p..q], grain as u64);
     rows::drop_from(&mut lists[a..b], cell as u64);
-    0
+    Ok(())
 }

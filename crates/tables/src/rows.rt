@@ -16,18 +16,13 @@ pub fn count_of(row: &[u64]) -> usize
     row[COUNT] as usize
 }
 
-// Where the numbers in use stand, of the row at a part of a table.
-pub fn live_of(t: &[u64], p: Part) -> Part
-    requires { ((r : Row ℕ) × (lent p t.now ≡ row_nums r)) × (p.to ≤ length t.now) }
-    ensures { (result.from ≤ result.to) × (result.to ≤ length t.now)
-        × ((r : Row ℕ) → lent p t.now ≡ row_nums r → lent result t.now ≡ r.live) }
+// The numbers in use of a row.
+pub fn live_of(row: &[u64]) -> &[u64]
+    requires { (r : Row ℕ) × (row.now ≡ row_nums r) }
+    ensures { (r : Row ℕ) → row.now ≡ row_nums r → result.now ≡ r.live }
 {
-    let at = p.from;
-    let n = t[at] as usize;
-    Part {
-        from: at + PLACES,
-        to: at + PLACES + n,
-    }
+    let n = count_of(row);
+    &row[PLACES..PLACES + n]
 }
 
 // Is x among the first n?
