@@ -10,6 +10,9 @@ use lib.Ieee.{Float}
 use borrow.Author.Tests.{leb-true, le-leb}
 use borrow.Rule.Slice.PartMut.{mid_of}
 use Rattle.layout.specs.Widths.{lists_head_wide, home_room, member_room, home_wide, members_wide, home_from, queue_wide, order_wide}
+use Rattle.model.specs.declared.refusal.Halt.{Halt}
+use Rattle.model.specs.declared.refusal.Halt.TheVariants.{NotFinite, QueueFull, ListFull, AlreadyListed, OnlyCell}
+use Rattle.model.specs.Refusals.{halt_number}
 use Rattle.model.specs.Sizes.{most_grains, least_room, most_room, fewest_cells, most_cells, counts_ok, cells_ok, rated}
 use Rattle.model.specs.State.{Row}
 use Rattle.model.specs.Check.{linked, queued, halt}
@@ -137,6 +140,14 @@ module _ (z : Sizes) (t : Tables) where
   queued_lent h e =
       sym (e ∙ ap (λ (x : Float). queued_by x (rows_of member_room z.cells (lent (lists_head_wide + home_from z.grains)))) h
       ∙ ap (λ (l : List ℕ). queued_by (clock_in t.grains) (rows_of member_room z.cells l)) (tail_is (lists_head_wide + home_from z.grains) t.lists))
+
+-- the marks are the numbers of the halts
+pub halt_marks : (h : Halt) → halt (halt_number h) ≡ true
+halt_marks NotFinite = refl
+halt_marks QueueFull = refl
+halt_marks ListFull = refl
+halt_marks AlreadyListed = refl
+halt_marks OnlyCell = refl
 
 -- ---- 2, the mark, 3, 10
 module _ (rate : Float) (t : Tables) where

@@ -21,7 +21,6 @@ use tables::{Sizes, headers};
 
 mod counts;
 mod domain;
-mod floats;
 mod grains;
 mod heap;
 mod places;
@@ -158,8 +157,6 @@ pub fn check(
 ) -> Result<(), RunError>
     ensures { Answered rate (tables lists.now grains.now queue.now events.now order.now) (check_number result) }
 {
-    floats::known(grains);
-    floats::known(events);
     if !sized(lists, grains.len(), queue.len(), events.len(), order.len()) {
         return Err(RunError::TooShort);
     }
