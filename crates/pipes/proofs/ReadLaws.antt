@@ -1,46 +1,18 @@
 -- What a read's answer says, and reads one after another. Assumes nothing.
-use Prim.Native.Nat.{ℕ, zero, suc, ◌+◌, ◌≤◌}
-use mathlib.Core.Path.{◌≡◌, refl, sym, ap, ◌∙◌, subst}
-use mathlib.Core.Bool.{Bool, true, false, not, cond, true≢false, false≢true}
-use mathlib.Core.List.{List, [], ◌∷◌, ◌++◌, append-nil, append_assoc}
-use native.Mathlib.Nat.{zero-min, zero-add, suc-add}
-use native.Mathlib.Omega.{arith}
-use lib.IntN.{ℤ, pos, negsuc}
-use lib.ListN.{length, take, drop, length-take, take-append-drop}
-use lib.Seq.{take_at, length-take-le}
-use lib.Signed.{lt_z}
-use borrow.Author.Tests.{lt-ltb, le-ltb}
+use Rattle.std.proofs.Common.{ℕ, zero, suc, ◌+◌, ◌≤◌, ◌≡◌, refl, sym, ap, ◌∙◌, subst, true, false, not, List, [], ◌∷◌, ◌++◌, length, take, arith, append_assoc}
+use mathlib.Core.Bool.{cond, true≢false, false≢true}
+use native.Mathlib.Nat.{zero-add, suc-add}
+use lib.Seq.{length-take-le}
+use Rattle.std.specs.Prelude.{Ok, Err}
+use Rattle.core.specs.declared.result.Result.{Result}
 use Rattle.pipes.specs.Counts.{Moved}
-use Rattle.io.specs.Counts.{clamp_len}
-use Rattle.pipes.specs.declared.reading.Heard.{Heard}
-use Rattle.pipes.specs.Reads.{Read, failed, over, gave, Reads, spent, ended, broken, more, read_by, bytes_of, by_end, goes_on_of, failed_of, over_of, heard_of}
-
-heard_as : (n : ℕ) (m f : Bool) (a : Read) → n ≡ length (bytes_of (a ∷ [])) → m ≡ goes_on_of (a ∷ []) → f ≡ failed_of (a ∷ []) → ◌≡◌ {A = Heard} (record { count = n; more = m; failed = f }) (heard_of a)
-heard_as n m f a p q r = cc
-
--- the tests of the number z that a read gives back, made on a copy y
-pub heard_is : {y z : ℤ} → y ≡ z → (n : ℕ) (buf : List ℕ) → n ≡ clamp_len y (length buf) → ◌≡◌ {A = Heard} (record { count = n; more = lt_z (pos 0) y; failed = lt_z y (pos 0) }) (heard_of (read_by z buf))
-heard_is {y} c n buf e = go y e ∙ ap (λ (w : ℤ). heard_of (read_by w buf)) c
-  where
-    go : (z : ℤ) → n ≡ clamp_len z (length buf) → ◌≡◌ {A = Heard} (record { count = n; more = lt_z (pos 0) z; failed = lt_z z (pos 0) }) (heard_of (read_by z buf))
-    go (negsuc k) e = heard_as n _ _ failed e refl refl
-    go (pos zero) e = heard_as n _ _ over (e ∙ zero-min (length buf)) refl refl
-    go (pos (suc k)) e = heard_as n _ _ (gave (take (suc k) buf)) (e ∙ sym (length-take (suc k) buf) ∙ ap length (sym (append-nil (take (suc k) buf)))) (lt-ltb 0 (suc k) (omega arith)) (le-ltb (suc k) 0 (omega arith))
-
--- the bytes of one read are the first of the buffer
-pub heard_text : (z : ℤ) (buf : List ℕ) → take (heard_of (read_by z buf)).count buf ≡ bytes_of (read_by z buf ∷ [])
-heard_text (negsuc k) buf = refl
-heard_text (pos zero) buf = refl
-heard_text (pos (suc k)) buf = rw append-nil (first (suc k) buf)
-  where
-    first : (k : ℕ) (l : List ℕ) → take (length (take k l)) l ≡ take k l
-    first k l = ap (take (length (take k l))) (sym (take-append-drop k l)) ∙ take_at (take k l) (drop k l) (length (take k l)) refl
+use Rattle.pipes.specs.Reads.{Read, failed, over, gave, Reads, spent, ended, broken, more, read_by, bytes_of, by_end, goes_on_of, failed_of, over_of}
 
 -- a read into 4,096 bytes is a row of one
-pub one_read : (z : ℤ) (buf : List ℕ) → 4096 ≡ length buf → Moved 4096 z → Reads 1 (read_by z buf ∷ [])
-one_read (negsuc k) buf l m = broken
-one_read (pos zero) buf l m = ended
-one_read (pos (suc k)) buf l m = let e = length-take-le (suc k) buf (omega arith) in more {s = take (suc k) buf} (omega arith) (omega arith) spent
+pub one_read : {E : Type 0} (got : Result ℕ E) (buf : List ℕ) → 4096 ≡ length buf → Moved 4096 got → Reads 1 (read_by got buf ∷ [])
+one_read (Err e) buf l m = broken
+one_read (Ok zero) buf l m = ended
+one_read (Ok (suc k)) buf l m = let e = length-take-le (suc k) buf (omega arith) in more {s = take (suc k) buf} (omega arith) (omega arith) spent
 
 -- ---- reads one after another
 -- after reads that all gave bytes, more of them

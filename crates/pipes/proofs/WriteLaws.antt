@@ -1,70 +1,52 @@
 -- What writes take, one after another, put together. Assumes nothing.
-use Prim.Native.Nat.{ℕ, zero, suc, ◌+◌, ◌-◌, ◌<◌, ◌≤◌}
-use mathlib.Core.Path.{◌≡◌, refl, sym, ap, ◌∙◌, subst}
-use mathlib.Core.Bool.{Bool, true, false}
-use mathlib.Core.List.{List, [], ◌∷◌, ◌++◌, append_assoc}
-use native.Mathlib.Omega.{arith}
-use Rattle.std.proofs.Math.Nat.{min-eq_left}
-use lib.IntN.{ℤ, pos, negsuc}
+use Rattle.std.proofs.Common.{ℕ, suc, ◌-◌, ◌≡◌, refl, sym, ap, ◌∙◌, subst, Bool, true, false, List, [], ◌∷◌, ◌++◌, length, take, drop, arith, append_assoc, length-append, length-drop, append-nil}
+use mathlib.Core.Bool.{true≢false, false≢true}
+use Rattle.std.specs.Prelude.{◌==◌, None, Some}
+use Rattle.std.specs.Io.KnownBytes.{Keeps, Appends}
+use Rattle.core.specs.declared.option.Option.{Option}
 use lib.Dec.{eqb}
 use borrow.Author.Tests.{ne_eqb}
-use lib.ListN.{length, take, drop, length-append, length-drop, drop_of_length-le}
-use lib.Seq.{take-length, length-take-le, drop-drop}
-use Rattle.pipes.specs.Counts.{Moved}
-use Rattle.io.specs.Counts.{clamp_len}
-use Rattle.pipes.specs.Writes.{Took, Handed, all, stopped, part, HandedOut}
+use lib.Seq.{take-length, length-take-le}
+use lib.ListN.{take-append-drop}
+use Rattle.pipes.specs.Writes.{Took, Put, Handed, all, stopped, part, HandedOut, together, WrittenOut}
 
--- as many bytes as the number z says that a write gives back, read off a copy y
-pub took_some : {y z : ℤ} → y ≡ z → (n : ℕ) (s : List ℕ) → Moved (length s) z → n ≡ clamp_len y (length s) → n ≡ length (take n s) → (p : List ℕ) × Took s p × (n ≡ length p)
-took_some {y} {z} c n s m e l = (take n s, record { got = z; moved = m; first = ap (λ (k : ℕ). take k s) e ∙ ap (λ (w : ℤ). take (clamp_len w (length s)) s) c }, l)
+-- what is known of a writer, from one write to the next
+keeps_none : (old : Option (List ℕ)) → Appends old old []
+keeps_none None = tt
+keeps_none (Some xs) = sym (append-nil _)
 
--- a write that says how many bytes it took, and one that fails
-pub took_count : (n : ℕ) (s : List ℕ) → n ≤ length s → (p : List ℕ) × Took s p × (n ≡ length p)
-took_count n s h = took_some {y = pos n} refl n s h (sym (min-eq_left h)) (sym (length-take-le n s h))
+keeps_all : (old new : Option (List ℕ)) → Keeps old new → Appends old new ([] ++ [])
+keeps_all None new k = tt
+keeps_all (Some xs) None k = absurd k
+keeps_all (Some xs) (Some ys) k = k ∙ sym (append-nil _)
 
-pub took_none : (s : List ℕ) → (p : List ℕ) × Took s p × (0 ≡ length p)
-took_none s = took_some {y = negsuc 0} refl 0 s refl refl refl
+appends_then : (old mid new : Option (List ℕ)) (p q : List ℕ) → Appends old mid p → Appends mid new q → Appends old new (p ++ q)
+appends_then None mid new p q a b = tt
+appends_then (Some xs) None new p q a b = absurd a
+appends_then (Some xs) (Some ys) None p q a b = absurd b
+appends_then (Some xs) (Some ys) (Some zs) p q a b = b ∙ ap (λ (s : List ℕ). s ++ q) a ∙ append_assoc xs p q
 
--- what a write takes is the front of what it is handed
-took_front : {s p : List ℕ} → Took s p → p ++ drop (length p) s ≡ s
-took_front {s} {p} t = ap (λ (q : List ℕ). q ++ drop (length q) s) t.first ∙ front (clamp_len t.got (length s)) s
-  where
-    front : (k : ℕ) (l : List ℕ) → take k l ++ drop (length (take k l)) l ≡ l
-    front zero l = refl
-    front (suc k) [] = refl
-    front (suc k) (x ∷ l) = ap (λ (q : List ℕ). x ∷ q) (front k l)
+-- one write more, in front of those that follow
+pub taken_some : (old mid new : Option (List ℕ)) (n : ℕ) (s : List ℕ) {r : Bool} → Took s (Some n) → Put old mid s (Some n) → WrittenOut mid new (take (length s - n) (drop n s)) r → WrittenOut old new s r
+taken_some old mid new n s {r} t w k =
+    let l = length-take-le n s t.1 in
+    let e : take n s ++ take (length s - n) (drop n s) ≡ s = ap (λ (k : ℕ). take n s ++ take k (drop n s)) (sym (length-drop n s)) ∙ ap (λ (q : List ℕ). take n s ++ q) (take-length (drop n s)) ∙ take-append-drop n s in
+    (take n s ∷ k.0, subst (λ (q : List ℕ). Handed q (take n s ∷ k.0) r) e (part (omega arith) k.1), appends_then old mid new (take n s) (together k.0) w k.2)
 
-module _ (bytes : List ℕ) (done : ℕ) {p : List ℕ} (t : Took (take (length bytes - done) (drop done bytes)) p) where
-  from : take (length bytes - done) (drop done bytes) ≡ drop done bytes
-  from = ap (λ (k : ℕ). take k (drop done bytes)) (sym (length-drop done bytes)) ∙ take-length (drop done bytes)
-
-  pub taken_most : done ≤ length bytes → done + length p ≤ length bytes
-  taken_most h = let e = ap length (took_front t ∙ from) in omega (arith, length-append p (drop (length p) (take (length bytes - done) (drop done bytes))), length-drop done bytes)
-
-  -- one write more, in front of those that follow
-  pub taken_some : (n : ℕ) {r : Bool} → n ≡ length p → 0 < n → HandedOut (drop (done + n) bytes) r → HandedOut (drop done bytes) r
-  taken_some n {r} l h k =
-      let rest : p ++ drop (done + n) bytes ≡ drop done bytes = ap (λ (q : List ℕ). p ++ q) (sym (drop-drop n done bytes) ∙ ap (drop n) (sym from) ∙ ap (λ (m : ℕ). drop m (take (length bytes - done) (drop done bytes))) l) ∙ took_front t ∙ from in
-      (p ∷ k.0, subst (λ (q : List ℕ). Handed q (p ∷ k.0) r) rest (part (omega arith) k.1))
-
-  -- the last: it took nothing, where something is left
-  pub taken_none : (n : ℕ) → n ≡ length p → n ≡ 0 → done < length bytes → HandedOut (drop done bytes) false
-  taken_none n l z h = (p ∷ [], subst (λ (q : List ℕ). Handed (drop done bytes) (q ∷ []) false) (sym (none p (sym l ∙ z))) (stopped {s = drop done bytes} (omega (arith, length-drop done bytes))))
-    where
-      none : (q : List ℕ) → length q ≡ 0 → q ≡ []
-      none [] e = refl
-      none (x ∷ q) e = absurd (omega arith)
+-- the last: it took nothing, where something is left
+pub taken_none : (old new : Option (List ℕ)) (s : List ℕ) → (length s == 0) ≡ false → Put old new s None → WrittenOut old new s false
+taken_none old new [] e w = absurd (true≢false e)
+taken_none old new (x ∷ s) e w = ([] ∷ [], stopped (omega arith), keeps_all old new w)
 
 -- nothing is left
-pub taken_all : (bytes : List ℕ) (done : ℕ) → length bytes ≤ done → HandedOut (drop done bytes) true
-taken_all bytes done h = ([], subst (λ (q : List ℕ). Handed q [] true) (sym (drop_of_length-le bytes h)) all)
+pub taken_all : (old : Option (List ℕ)) (s : List ℕ) → (length s == 0) ≡ true → WrittenOut old old s true
+taken_all old [] e = ([], all, keeps_none old)
+taken_all old (x ∷ s) e = absurd (false≢true (sym (ne_eqb (suc (length s)) 0 (λ (q : suc (length s) ≡ 0). omega arith)) ∙ e))
+
+pub handed_out : (old new : Option (List ℕ)) {s : List ℕ} {r : Bool} → WrittenOut old new s r → HandedOut s r
+handed_out old new w = (w.0, w.1)
 
 -- ---- what the parts make together
--- the bytes that were taken, in their order
-abbrev pub together : List (List ℕ) → List ℕ
-together [] = []
-together (p ∷ parts) = p ++ together parts
-
 -- the parts are the front of s, and the answer says whether nothing is left
 pub handed_front : {s : List ℕ} {parts : List (List ℕ)} {r : Bool} → Handed s parts r → (rest : List ℕ) × (s ≡ together parts ++ rest) × (r ≡ eqb (length rest) 0)
 handed_front all = ([], refl, refl)

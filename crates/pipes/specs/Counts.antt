@@ -1,7 +1,7 @@
 -- What a read or a write that is handed bytes may answer. Assumes nothing: this is a definition.
-use Rattle.std.specs.Prelude.{ℕ, ◌≡◌, ◌≤◌, ℤ, pos, negsuc}
+use Rattle.std.specs.Prelude.{ℕ, ◌≤◌, IfOk}
+use Rattle.core.specs.declared.result.Result.{Result}
 
--- of n bytes: how many of them it moved, or -1 where it fails
-abbrev pub Moved : ℕ → ℤ → Type 0
-Moved n (pos k) = k ≤ n
-Moved n (negsuc k) = k ≡ 0
+-- of n bytes: how many of them it moved, where it doesn't fail
+abbrev pub Moved : {E : Type 0} → ℕ → Result ℕ E → Type 0
+Moved n got = IfOk got (λ k. k ≤ n)

@@ -1,6 +1,8 @@
 -- A text as a row of reads gives it. Assumes nothing: these are definitions.
-use Rattle.std.specs.Prelude.{ℕ, zero, suc, ◌<◌, ◌≤◌, Bool, true, false, List, [], ◌∷◌, ◌++◌, length, take, ℤ, pos, negsuc}
-use Rattle.pipes.specs.declared.reading.Heard.{Heard}
+use Rattle.std.specs.Prelude.{ℕ, zero, suc, ◌<◌, ◌≤◌, Bool, true, false, List, [], ◌∷◌, ◌++◌, length, take, None, Some, Ok, Err}
+use Rattle.core.specs.declared.option.Option.{Option}
+use Rattle.core.specs.declared.result.Result.{Result}
+use denote.Ref.{Bor}
 
 -- what a read answers: it fails, the text is over, or bytes come
 pub data Read : Type 0 where
@@ -8,11 +10,17 @@ pub data Read : Type 0 where
   over : Read
   gave : List ℕ → Read
 
--- by the number that the call gives back, and the buffer afterwards
-abbrev pub read_by : ℤ → List ℕ → Read
-read_by (negsuc k) buf = failed
-read_by (pos zero) buf = over
-read_by (pos (suc k)) buf = gave (take (suc k) buf)
+-- by what the call gives back, and the buffer afterwards
+abbrev pub read_by : {E : Type 0} → Result ℕ E → List ℕ → Read
+read_by (Err e) buf = failed
+read_by (Ok zero) buf = over
+read_by (Ok (suc k)) buf = gave (take (suc k) buf)
+
+-- by the bytes that are lent of it
+abbrev pub heard_as : {E : Type 0} → Result (Option (Bor (List ℕ))) E → Read
+heard_as (Err e) = failed
+heard_as (Ok None) = over
+heard_as (Ok (Some s)) = gave s.now
 
 -- reads into 4,096 bytes, one after another, n at most: each but the last gives bytes, and the row ends earlier only where one says the end or fails
 pub data Reads : ℕ → List Read → Type 0 where
@@ -44,7 +52,3 @@ failed_of reads = by_end false true false reads
 
 abbrev pub over_of : List Read → Bool
 over_of reads = by_end false false true reads
-
--- one read: how many bytes it gave, and both
-abbrev pub heard_of : Read → Heard
-heard_of a = record { count = length (bytes_of (a ∷ [])); more = goes_on_of (a ∷ []); failed = failed_of (a ∷ []) }

@@ -1,13 +1,15 @@
 -- Bytes that are handed out by a row of writes. Assumes nothing: these are definitions.
-use Rattle.std.specs.Prelude.{ℕ, ◌<◌, ◌≡◌, Bool, true, false, List, [], ◌∷◌, ◌++◌, ℤ, length, take}
-use Rattle.pipes.specs.Counts.{Moved}
-use Rattle.io.specs.Counts.{clamp_len}
+use Rattle.std.specs.Prelude.{ℕ, ◌<◌, ◌≤◌, Bool, true, false, List, [], ◌∷◌, ◌++◌, length, take, IfSome, MatchOption}
+use Rattle.std.specs.Io.KnownBytes.{Keeps, Appends}
+use Rattle.core.specs.declared.option.Option.{Option}
 
--- a write of s takes p: its first bytes, as many as the call says, and none where it fails
-pub record Took (s p : List ℕ) : Type 0 where
-  pub got : ℤ
-  pub moved : Moved (length s) got
-  pub first : p ≡ take (clamp_len got (length s)) s
+-- how many of the first bytes of s a write took; nothing where it failed or took none
+abbrev pub Took : List ℕ → Option ℕ → Type 0
+Took s got = IfSome got (λ n. (0 < n) × (n ≤ length s))
+
+-- what a writer held that took so many of s, and holds then, where that is known
+abbrev pub Put : Option (List ℕ) → Option (List ℕ) → List ℕ → Option ℕ → Type 0
+Put old new s got = MatchOption got (Keeps old new) (λ n. Appends old new (take n s))
 
 -- the bytes that writes take, one after another, each of what those before it left: the last of them takes nothing, or fails, where something is left;
 -- and whether all was taken
@@ -18,3 +20,12 @@ pub data Handed : List ℕ → List (List ℕ) → Bool → Type 0 where
 
 abbrev pub HandedOut : List ℕ → Bool → Type 0
 HandedOut s r = (parts : List (List ℕ)) × Handed s parts r
+
+-- the parts, one after another
+abbrev pub together : List (List ℕ) → List ℕ
+together [] = []
+together (p ∷ parts) = p ++ together parts
+
+-- and just the parts that were taken are what a writer holds more than it did, where that is known
+abbrev pub WrittenOut : Option (List ℕ) → Option (List ℕ) → List ℕ → Bool → Type 0
+WrittenOut old new s r = (parts : List (List ℕ)) × Handed s parts r × Appends old new (together parts)

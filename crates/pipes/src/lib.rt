@@ -4,5 +4,5 @@
 mod reading;
 mod writing;
 
-pub use reading::{Heard, hear, read_some};
+pub use reading::{ReadFailed, hear, read_some};
 pub use writing::hand_out;

@@ -1,41 +1,35 @@
 // What a read means.
 ghost use Rattle.std.specs.Prelude.{◌≡◌, length};
-ghost use Rattle.io.specs.Counts.{IsPrefixLen};
+ghost use Rattle.std.specs.Io.KnownBytes.{ReadConsumes};
 ghost use Rattle.pipes.specs.Counts.{Moved};
-ghost use Rattle.pipes.specs.Reads.{read_by, heard_of};
+ghost use Rattle.pipes.specs.Reads.{read_by, heard_as};
 
-use std::io::{Read, Stderr, Stdin};
+use std::io::{Read, Stderr};
 
-// How many bytes a read gave; whether more may follow, and whether it failed.
-#[derive(Clone, Copy)]
-pub struct Heard {
-    pub count: usize,
-    pub more: bool,
-    pub failed: bool,
-}
+// A read failed. Its cause was said on standard error.
+#[derive(Clone, Copy, Debug, PartialEq, Eq)]
+pub struct ReadFailed;
 
-// One read: how many bytes it gave, 0 where the input is over, and -1 where it fails. A failure is said on standard error.
-pub fn read_some(input: Stdin, said: Stderr, buf: &mut [u8]) -> isize
-    ensures { Moved (length buf.new) result }
+// One read: how many bytes it gave, 0 where the input is over. A failure is said on standard error.
+pub fn read_some<R: Read>(input: &mut R, said: Stderr, buf: &mut [u8]) -> Result<usize, ReadFailed>
+    ensures moved { Moved (length buf.new) result }
+    ensures consumed { ReadConsumes (R.remaining input.old) (R.remaining input.new) result buf.new }
 {
-    let mut from = input;
-    match from.read(buf) {
-        Ok(n) => n as isize,
+    match input.read(buf) {
+        Ok(n) => Ok(n),
         Err(e) => {
             let _ = eprintln!(said; "standard input: {e}");
-            -1
+            Err(ReadFailed)
         }
     }
 }
 
-// A read gave this number back, and left the buffer so.
-pub fn hear(got: isize, buf: &[u8]) -> Heard
-    ensures prefix_len { IsPrefixLen result.count buf.now }
-    ensures value { result ≡ heard_of (read_by got buf.now) }
+// What a read gave that answered so and left the buffer so: the bytes at its front; none where the input is over.
+pub fn hear(got: Result<usize, ReadFailed>, buf: &[u8]) -> Result<Option<&[u8]>, ReadFailed>
+    ensures { heard_as result ≡ read_by got buf.now }
 {
-    Heard {
-        count: io::count(got, buf),
-        more: got > 0,
-        failed: got < 0,
+    match got? {
+        0 => Ok(None),
+        n => Ok(Some(&buf[..n.min(buf.len())])),
     }
 }

@@ -1,37 +1,38 @@
 // Bytes on standard output.
-ghost use Rattle.std.specs.Prelude.{◌≡◌, List, ℕ, length};
-ghost use Rattle.pipes.specs.Writes.{Took, HandedOut};
+ghost use Rattle.std.specs.Prelude.{length};
+ghost use Rattle.pipes.specs.Writes.{Took, Put, HandedOut, WrittenOut};
 
-use std::io::{Stderr, Stdout};
+use std::io::{Stderr, Write};
 
-// One write; how many of the first bytes it took, 0 where it failed. A failure is said on standard error, and a write that takes nothing too.
-fn write_some(out: Stdout, said: Stderr, bytes: &[u8]) -> usize
-    ensures { (p : List ℕ) × Took bytes.now p × (result ≡ length p) }
+// One write: how many of the first bytes it took. A failure is said on standard error, and a write that takes nothing too.
+fn write_some<W: Write>(out: &mut W, said: Stderr, bytes: &[u8]) -> Option<usize>
+    ensures took { Took bytes.now result }
+    ensures put { Put (W.contents out.old) (W.contents out.new) bytes.now result }
 {
-    match out.write_some(bytes) {
+    match out.write(bytes) {
         Ok(0) => {
             let _ = eprintln!(said; "standard output: nothing was taken");
-            0
+            None
         }
-        Ok(n) => n,
+        Ok(n) => Some(n),
         Err(e) => {
             let _ = eprintln!(said; "standard output: {e}");
-            0
+            None
         }
     }
 }
 
 // All of the bytes, by as many writes as it takes: false at the first that takes nothing or fails.
-pub fn hand_out(out: Stdout, said: Stderr, bytes: &[u8]) -> bool
-    ensures { HandedOut bytes.now result }
+pub fn hand_out<W: Write>(out: &mut W, said: Stderr, bytes: &[u8]) -> bool
+    ensures handed_out { HandedOut bytes.now result }
+    ensures written { WrittenOut (W.contents out.old) (W.contents out.new) bytes.now result }
 {
-    let mut done: usize = 0;
-    while done < bytes.len() {
-        let took = write_some(out, said, &bytes[done..]);
-        if took == 0 {
+    let mut rest = bytes;
+    while !rest.is_empty() {
+        let Some(n) = write_some(out, said, rest) else {
             return false;
-        }
-        done += took;
+        };
+        rest = &rest[n..];
     }
     true
 }

@@ -1,31 +1,22 @@
-use mathlib.Core.Bool.{true, false}
-use native.Mathlib.Omega.{arith}
-use borrow.Author.Rules.{rules}
-use Rattle.pipes.proofs.WriteLaws.{taken_most, taken_some, taken_none, taken_all}
+use Rattle.std.proofs.Common.{sym, ◌∙◌, subst}
+use Rattle.pipes.specs.Writes.{Put}
+use Rattle.pipes.proofs.WriteLaws.{taken_some, taken_none, taken_all, handed_out}
 use Rattle.pipes.proofs.writing.hand_out.Goals as goal
 
-pub loop-done-init : goal.loop-done-init
-loop-done-init c = (search rules, λ r k. k)
+pub returns-in_default-clause-handed_out : goal.returns-in_default-clause-handed_out
+returns-in_default-clause-handed_out g c =
+    handed_out _ _ (c.loop-rest.invariant _ _ (taken_none _ _ _ (sym c.is_empty.ensures ∙ c.loop-rest-test.true) (subst (Put _ _ _) c.in_default.is c.write_some.ensures.put)))
 
-pub returns-then-took-eq0 : goal.returns-then-took-eq0
-returns-then-took-eq0 c =
-    c.loop-done.invariant.1 false (taken_none c.args.bytes.now c.loop-done.done c.write_some-took.ensures.1 _ c.write_some-took.ensures.2 (search rules) (search rules))
+pub returns-in_default-clause-written : goal.returns-in_default-clause-written
+returns-in_default-clause-written g c =
+    c.loop-rest.invariant _ _ (taken_none _ _ _ (sym c.is_empty.ensures ∙ c.loop-rest-test.true) (subst (Put _ _ _) c.in_default.is c.write_some.ensures.put))
 
-pub overflow_add-done : goal.overflow_add-done
-overflow_add-done c =
-    omega (arith, taken_most c.args.bytes.now c.loop-done.done c.write_some-took.ensures.1 (search rules))
+pub loop-rest-preserved : goal.loop-rest-preserved
+loop-rest-preserved g c = λ new r k.
+    c.loop-rest.invariant new r (taken_some _ _ new c.in-Some.n c.loop-rest.rest.now c.in-Some.ensures.took (subst (Put _ _ _) c.in-Some.is c.write_some.ensures.put) k)
 
-pub loop-done-smaller : goal.loop-done-smaller
-loop-done-smaller c =
-    omega (arith, taken_most c.args.bytes.now c.loop-done.done c.write_some-took.ensures.1 (search rules), c.if-took-eq0.false)
+pub returns-clause-handed_out : goal.returns-clause-handed_out
+returns-clause-handed_out g c = handed_out _ _ (c.loop-rest.invariant _ _ (taken_all _ _ (sym c.is_empty.ensures ∙ c.loop-rest-test.false)))
 
-pub loop-done-preserved : goal.loop-done-preserved
-loop-done-preserved c =
-    let bytes = c.args.bytes.now in
-    let loop = c.loop-done in
-    let took = c.write_some-took.ensures in
-    (omega (arith, taken_most bytes loop.done took.1 (search rules)), λ r k. loop.invariant.1 r (taken_some bytes loop.done took.1 _ took.2 (search rules) k))
-
-pub returns : goal.returns
-returns c =
-    c.loop-done.invariant.1 true (taken_all c.args.bytes.now c.loop-done.done (search rules))
+pub returns-clause-written : goal.returns-clause-written
+returns-clause-written g c = c.loop-rest.invariant _ _ (taken_all _ _ (sym c.is_empty.ensures ∙ c.loop-rest-test.false))

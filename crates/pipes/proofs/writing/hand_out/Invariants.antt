@@ -1,11 +1,9 @@
-use Prim.Native.Nat.{◌-◌, ◌≤◌}
-use mathlib.Core.Bool.{Bool}
-use lib.ListN.{length, drop}
-use Rattle.pipes.specs.Writes.{HandedOut}
+use Rattle.std.proofs.Common.{Bool, length}
+use Rattle.pipes.specs.Writes.{WrittenOut}
 use Rattle.pipes.proofs.writing.hand_out.Given as goal
 
-abbrev pub invariant-loop-done : goal.invariant-loop-done
-invariant-loop-done l = (l.done ≤ length l.bytes) × ((r : Bool) → HandedOut (drop l.done l.bytes) r → HandedOut l.bytes r)
+abbrev pub invariant-loop-rest : goal.invariant-loop-rest
+invariant-loop-rest g l = (new : _) (r : Bool) → WrittenOut (g.W.Write.contents l.out) new l.rest r → WrittenOut (g.W.Write.contents l.fn.out) new l.fn.bytes r
 
-abbrev pub decreases-loop-done : goal.decreases-loop-done
-decreases-loop-done l = length l.bytes - l.done
+abbrev pub decreases-loop-rest : goal.decreases-loop-rest
+decreases-loop-rest g l = length l.rest
