@@ -23,5 +23,5 @@ slice_bounds-out-end c = let p = c.answer-n.ensures.put in omega (arith, p.room,
 
 pub returns : goal.returns
 returns c =
-    let h = handed c.answer-n.ensures.put c.hand_out.ensures in
+    let h = handed c.answer-n.ensures.put c.hand_out.ensures.handed_out in
     record { of_answer = of_answer _ (λ a. HandedOut a c.hand_out.result) h; handed_out = h }
