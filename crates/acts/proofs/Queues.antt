@@ -11,14 +11,14 @@ use lib.ListN.{length, get_or, set, length-set, get_or-append, get_or-eq_default
 use lib.Seq.{get_or-set_same, get_or-append-add}
 use lib.Ieee.{Float, nan}
 use borrow.Author.Tests.{le-ltb, lt-ltb}
+use Rattle.std.specs.Prelude.{Some}
 use Rattle.halting.specs.Out.{Out, out}
 use Rattle.halting.specs.Every.{All}
 use Rattle.halting.proofs.All.{all_at, all_set}
 use Rattle.halting.proofs.Bools.{clash}
 use Rattle.chunks.specs.Flat.{flat}
 use Rattle.chunks.proofs.Laws.{length_flat, chunk_in, chunk_mid, chunk_put}
-use Rattle.scheduler.specs.declared.head.Head.{Head}
-use Rattle.scheduler.specs.declared.head.Head.TheVariants.{At}
+use Rattle.scheduler.specs.Head.{Head}
 use Rattle.scheduler.proofs.Heads.{head_none, head_some}
 use Rattle.scheduler.specs.declared.Scheduler.{Scheduler}
 use Rattle.scheduler.specs.Heap.{updated}
@@ -110,7 +110,7 @@ module _ {z : Sizes} {nums : List ℕ} {reals : List Float} {qs : List (Row Plac
       by [] e = head_none reals nums z.room c (count_at c ∙ ap length e) ∙ sym (ap head_time e)
       by (x ∷ l) e =
           head_some reals nums z.room c (time_there k c x l e) (λ w. suc-ne-zero (length l) (sym (ap length e) ∙ sym (count_at c) ∙ w))
-          ∙ ap At (time_at_lem k c x l e) ∙ sym (ap head_time e)
+          ∙ ap Some (time_at_lem k c x l e) ∙ sym (ap head_time e)
 
   pub heads_are : 0 < z.room → head_in reals nums z.room ≡ heads qs
   heads_are k = λ i c. heads_at k c i

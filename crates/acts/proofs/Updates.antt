@@ -6,8 +6,7 @@ use mathlib.Core.List.{List}
 use lib.ListN.{length, get_or, take}
 use borrow.Rule.Slice.PartMut.{mid_of}
 use Rattle.scheduler.specs.declared.Scheduler.{Scheduler}
-use Rattle.scheduler.specs.declared.head.Head.{Head}
-use Rattle.scheduler.specs.Head.{earlier}
+use Rattle.scheduler.specs.Head.{Head, earlier}
 use Rattle.scheduler.specs.Heap.{updated, update_swaps}
 use Rattle.scheduler.proofs.Laws.{downshifted_stays, upshifted_stays}
 use Rattle.scheduler.proofs.Swaps.{down_swaps_stays, up_swaps_stays}

@@ -1,6 +1,6 @@
 -- Where one cell's row of events stands, and where a heap index goes first. Assumes nothing: these are definitions.
 use Rattle.std.specs.Prelude.{ℕ, ◌≤◌, ◌≡◌, Bool, cond, List, length, Float}
-use Rattle.scheduler.specs.declared.head.Head.{Head}
+use Rattle.scheduler.specs.Head.{Head}
 use Rattle.scheduler.specs.Heap.{child_in, parent_in}
 use Rattle.scheduler.specs.Inside.{head_in}
 use Rattle.tables.specs.declared.Sizes.{Sizes}

@@ -9,7 +9,7 @@ ghost use Rattle.acts.specs.Queues.{shifted_to};
 
 use layout::HEAP;
 use scheduler::Updated;
-use scheduler::head::Head;
+use scheduler::head::{Head, is_earlier};
 use tables::Sizes;
 
 // Where the cell at a heap index goes first, read in place: that index where it stays.
@@ -40,7 +40,7 @@ pub fn update(
     let after = scheduler::head_time(events, queue, z.room, cell);
     let i = HEAP + cell;
     let at = order[i] as usize;
-    let to = shifted_to(&order[0..HEAP], queue, events, z, at, before.earlier(after));
+    let to = shifted_to(&order[0..HEAP], queue, events, z, at, is_earlier(before, after));
     if to == at {
         return 0;
     }

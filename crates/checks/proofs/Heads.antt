@@ -7,9 +7,9 @@ use mathlib.Core.List.{List}
 use lib.ListN.{length, get_or, take, drop}
 use lib.Seq.{get_or-drop}
 use lib.Ieee.{Float, nan}
+use Rattle.std.specs.Prelude.{Some}
 use Rattle.layout.specs.Widths.{queue_wide, events_wide}
 use Rattle.chunks.proofs.Laws.{chunk_in}
-use Rattle.scheduler.specs.declared.head.Head.TheVariants.{At}
 use Rattle.scheduler.specs.Inside.{head_in}
 use Rattle.scheduler.proofs.Heads.{head_none, head_some}
 use Rattle.model.specs.declared.Place.{Place}
@@ -18,7 +18,7 @@ use Rattle.model.specs.State.{Row, none, heads}
 use Rattle.tables.specs.Decode.{cut_both, places_of, queue_at, queues_of}
 use Rattle.checks.proofs.Cut.{both_at}
 
-head_first : (k room : ℕ) (q : List ℕ) (e : List Float) → 0 < room → head_time (take (suc k) (places_of room q e)) ≡ At (get_or e 0 nan)
+head_first : (k room : ℕ) (q : List ℕ) (e : List Float) → 0 < room → head_time (take (suc k) (places_of room q e)) ≡ Some (get_or e 0 nan)
 unfolding cut_both
 head_first k zero q e h = absurd (not-suc-le-zero h)
 head_first k (suc room) q e h = refl
@@ -36,5 +36,5 @@ heads_in room n q e c r h l =
     by zero z = sym (head_none e q room c z)
     by (suc k) z =
         head_first k room (drop 1 (drop (c * queue_wide room) q)) (drop (c * events_wide room) e) r
-        ∙ ap At (at e (c * events_wide room) nan)
+        ∙ ap Some (at e (c * events_wide room) nan)
         ∙ sym (head_some e q room c (let i = chunk_in c n (events_wide room) h in omega arith) (λ w. suc-ne-zero k (sym z ∙ w)))

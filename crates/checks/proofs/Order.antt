@@ -6,8 +6,7 @@ use mathlib.Core.List.{List, []}
 use mathlib.Core.Bool.{Bool, true, false, not, ◌||◌}
 use lib.ListN.{get_or}
 use borrow.Author.Tests.{eq-eqb, ne_eqb}
-use Rattle.scheduler.specs.declared.head.Head.{Head}
-use Rattle.scheduler.specs.Head.{earlier}
+use Rattle.scheduler.specs.Head.{Head, earlier}
 use Rattle.scheduler.specs.Heap.{time_in, parent}
 use Rattle.scheduler.specs.Inside.{made}
 use Rattle.scheduler.proofs.Laws as laws

@@ -13,8 +13,7 @@ use Rattle.layout.specs.Widths.{grain_wide, home_room, member_room, home_wide, m
 use Rattle.halting.specs.Every.{every}
 use Rattle.halting.proofs.Tests.{true_every}
 use Rattle.halting.proofs.Bools.{and_l, and_r}
-use Rattle.scheduler.specs.declared.head.Head.{Head}
-use Rattle.scheduler.specs.Head.{earlier}
+use Rattle.scheduler.specs.Head.{Head, earlier}
 use Rattle.scheduler.specs.Heap.{time_in, parent}
 use Rattle.scheduler.specs.Inside.{head_in}
 use Rattle.model.specs.State.{Row, heads}

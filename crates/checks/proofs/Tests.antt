@@ -10,7 +10,7 @@ use lib.ListN.{length, get_or, drop}
 use lib.Ieee.{Float, fits}
 use lib.Ieee.Scale.{finite}
 use borrow.Author.Tests.{eq-eqb, ne_eqb}
-use Rattle.scheduler.specs.declared.head.Head.{Head}
+use Rattle.scheduler.specs.Head.{Head}
 use Rattle.layout.specs.Widths.{queue_wide, events_wide}
 use Rattle.halting.specs.Every.{every}
 use Rattle.chunks.proofs.Laws.{tail_is}

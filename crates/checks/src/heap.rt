@@ -42,7 +42,7 @@ fn in_order(heap: &[u8], queue: &[u64], events: &[f64], room: usize, n: usize, i
     let p = (i - 1) / 2;
     let child = scheduler::head_time(events, queue, room, heap[i] as usize);
     let parent = scheduler::head_time(events, queue, room, heap[p] as usize);
-    if child.earlier(parent) {
+    if scheduler::head::is_earlier(child, parent) {
         return false;
     }
     true

@@ -12,7 +12,7 @@ use Rattle.halting.specs.Every.{every, All}
 use Rattle.halting.proofs.Bools.{and_l, and_r}
 use Rattle.order.specs.Numbers.{f64_max}
 use Rattle.scheduler.specs.declared.Scheduler.{Scheduler}
-use Rattle.scheduler.specs.declared.head.Head.{Head}
+use Rattle.scheduler.specs.Head.{Head}
 use Rattle.scheduler.specs.Heap.{parent}
 use Rattle.scheduler.proofs.Agrees.{old_time, old_updated, was, Below, earlier_as_before, updated_as_before}
 use Rattle.model.specs.declared.Place.{Place}

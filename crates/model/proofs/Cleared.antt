@@ -9,11 +9,11 @@ use lib.Dec.{T}
 use lib.ListN.{length, get_or, replicate, length-replicate, get_or-replicate, get_or-eq_default}
 use lib.Ieee.{binary64, of_bits, le, fits}
 use lib.Ieee.Scale.{finite}
+use Rattle.std.specs.Prelude.{None}
 use Rattle.scheduler.specs.declared.Scheduler.{Scheduler}
 use Rattle.model.specs.declared.Domain.{Domain}
 use Rattle.order.specs.Numbers.{fzero}
-use Rattle.scheduler.specs.declared.head.Head.{Head}
-use Rattle.scheduler.specs.declared.head.Head.TheVariants.{Empty}
+use Rattle.scheduler.specs.Head.{Head}
 use Rattle.scheduler.specs.Heap.{time_at, start_heap}
 use Rattle.scheduler.specs.Standing.{Ordered}
 use Rattle.scheduler.proofs.Laws.{time_in_lem, time_out}
@@ -48,17 +48,17 @@ module _ (m : ℕ) {A : Type 0} (k : ℕ) (z : A) where
     | no h ↦ ap (λ (r : Row A). r.live) (get_or-replicate m i (empty k z) none (omega arith))
   ]
 
-empty_heads : (m room c : ℕ) → heads (replicate m (empty room zero_p)) c ≡ Empty
+empty_heads : (m room c : ℕ) → heads (replicate m (empty room zero_p)) c ≡ None
 unfolding heads
 empty_heads m room c = ap head_time (empty_live m room zero_p c)
 
-all_empty : (h : ℕ → Head) (s : Scheduler) → ((c : ℕ) → h c ≡ Empty) → (i : ℕ) → time_at h s i ≡ Empty
+all_empty : (h : ℕ → Head) (s : Scheduler) → ((c : ℕ) → h c ≡ None) → (i : ℕ) → time_at h s i ≡ None
 all_empty h s f i = elim (dec_le s.cells i) [
   | yes o ↦ time_out h s i o
   | no n ↦ time_in_lem h s i (omega arith) ∙ f (get_or s.heap i 0)
 ]
 
-all_ordered : (h : ℕ → Head) (s : Scheduler) → ((c : ℕ) → h c ≡ Empty) → Ordered h s
+all_ordered : (h : ℕ → Head) (s : Scheduler) → ((c : ℕ) → h c ≡ None) → Ordered h s
 unfolding Ordered
 all_ordered h s f c p q = rw (all_empty h s f c) refl
 

@@ -9,15 +9,14 @@ use lib.Dec.{T, eqb}
 use lib.ListN.{length}
 use lib.Ieee.{Float, le}
 use borrow.Author.Tests.{eq-eqb, eqb-true}
+use Rattle.std.specs.Prelude.{Some}
 use Rattle.order.proofs.Order.{le_trans}
 use Rattle.model.specs.declared.Place.{Place}
 use Rattle.model.specs.declared.Event.{Event}
 use Rattle.model.specs.declared.Event.TheVariants.{InterParticleCollision, MoveToNeighbour, MoveOutOfCell, WallReflection, Synchronisation}
 use Rattle.model.specs.Sizes.{rated}
 use Rattle.model.specs.Grid.{cells}
-use Rattle.scheduler.specs.declared.head.Head.{Head}
-use Rattle.scheduler.specs.declared.head.Head.TheVariants.{At}
-use Rattle.scheduler.specs.Head.{no_later}
+use Rattle.scheduler.specs.Head.{Head, no_later}
 use Rattle.model.specs.Events.{event_of, head_time, names}
 use Rattle.model.specs.State.{State, home, listed, queue, has}
 use Rattle.model.specs.Acts.{first, head}
@@ -105,13 +104,13 @@ at_least t [] r = tt
 at_least t (x ∷ xs) r = (r.0, all_to (λ e. T (le x.time e.time)) (λ e. T (le t e.time)) xs (λ e h. le_trans t x.time e.time r.0 h) (at_least x.time xs r.1))
 
 module _ (v : State) (st : Stands v) where
-  head_first : (c : ℕ) → c < cells v.box → T (no_later (At (head v).time) (head_time (queue v c)))
+  head_first : (c : ℕ) → c < cells v.box → T (no_later (Some (head v).time) (head_time (queue v c)))
   head_first c C = subst (λ (t : Head). T (no_later t (head_time (queue v c)))) (head_is (queue v (first v)) (first_some v st)) (root_first v st.sound (cells_some v.box) c C)
 
   rooted : EachEvent v (λ c e. T (le (head v).time e.time))
   rooted c C = from (queue v c) (head_first c C) (st.sound.queues c C).rising
     where
-      from : (l : List Place) → T (no_later (At (head v).time) (head_time l)) → Rising v.clock l → All (λ e. T (le (head v).time e.time)) l
+      from : (l : List Place) → T (no_later (Some (head v).time) (head_time l)) → Rising v.clock l → All (λ e. T (le (head v).time e.time)) l
       from [] h r = tt
       from (x ∷ xs) h r = at_least (head v).time (x ∷ xs) (h, r.1)
 

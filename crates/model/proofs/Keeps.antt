@@ -11,13 +11,12 @@ use lib.Ieee.{Float, binary64, le, is_nan, fits}
 use lib.Ieee.Scale.{finite}
 use lib.Ieee.Bits.{is_false}
 use borrow.Author.Tests.{eq-eqb, ne_eqb}
+use Rattle.std.specs.Prelude.{Some}
 use Rattle.model.specs.declared.Particle.{Particle}
 use Rattle.model.specs.declared.Place.{Place}
 use Rattle.model.specs.declared.Event.{Event}
 use Rattle.model.specs.declared.Event.TheVariants.{InterParticleCollision, MoveToNeighbour, MoveOutOfCell, WallReflection, Synchronisation}
-use Rattle.scheduler.specs.declared.head.Head.{Head}
-use Rattle.scheduler.specs.declared.head.Head.TheVariants.{At}
-use Rattle.scheduler.specs.Head.{earlier, no_later, is_nan_head}
+use Rattle.scheduler.specs.Head.{Head, earlier, no_later, is_nan_head}
 use Rattle.order.proofs.Order.{le_trans, le_refl}
 use Rattle.order.proofs.Clock.{finite_no_nan}
 use Rattle.scheduler.specs.Heap.{time_at, updated}
@@ -231,7 +230,7 @@ leave_sound s g c sound G C there free = leave_case (λ o. Sound o.st) s g c sou
     }
 
 -- ---- taking the first event of all
-rising_to : (t u : Float) (l : List Place) → T (no_later (At u) (head_time l)) → Rising t l → Rising u l
+rising_to : (t u : Float) (l : List Place) → T (no_later (Some u) (head_time l)) → Rising t l → Rising u l
 rising_to t u [] h r = tt
 rising_to t u (x ∷ xs) h r = (h, r.1)
 
@@ -243,7 +242,7 @@ pub head_held : (t : Float) (n c : ℕ) (m : List ℕ) (l : List Place) → 0 < 
 head_held t n c m [] h r a = absurd (omega arith)
 head_held t n c m (x ∷ xs) h r a = (a.0, r.0)
 
-pub head_is : (l : List Place) → 0 < length l → head_time l ≡ At (head_place l).time
+pub head_is : (l : List Place) → 0 < length l → head_time l ≡ Some (head_place l).time
 head_is [] h = absurd (omega arith)
 head_is (x ∷ xs) h = refl
 

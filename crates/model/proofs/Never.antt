@@ -10,9 +10,9 @@ use lib.Dec.{leb}
 use lib.ListN.{length, get_or, set, drop, replicate, length-set, length-replicate}
 use lib.Ieee.{Float, binary64, of_bits, add, lt}
 use borrow.Author.Tests.{leb-true}
+use Rattle.std.specs.Prelude.{Some}
 use Rattle.scheduler.specs.Heap.{numbered, start_heap}
 use Rattle.order.specs.Numbers.{fzero}
-use Rattle.scheduler.specs.declared.head.Head.TheVariants.{At}
 use Rattle.scheduler.specs.Head.{earlier}
 use Rattle.order.proofs.Compare.{lt_irrefl}
 use Rattle.model.specs.declared.Domain.{Domain}
@@ -183,10 +183,10 @@ sync_rooted n u N r = record {
     here : live_at (set u.queues 0 new) 0 ≡ sync_at fzero ∷ []
     here = live_same u.queues 0 new (omega (arith, r.long)) ∙ (rw (r.empty 0) (unfold insert_by in refl))
 
-    late : (k : ℕ) → earlier (head_time (live_at (set u.queues 0 new) k)) (At fzero) ≡ false
+    late : (k : ℕ) → earlier (head_time (live_at (set u.queues 0 new) k)) (Some fzero) ≡ false
     late k = elim (ℕ_discrete k 0) [
-      | yes z ↦ ap (λ (j : ℕ). earlier (head_time (live_at (set u.queues 0 new) j)) (At fzero)) z ∙ ap (λ (l : List Place). earlier (head_time l) (At fzero)) here ∙ lt_irrefl fzero
-      | no d ↦ ap (λ (l : List Place). earlier (head_time l) (At fzero)) (live_other u.queues 0 k new d ∙ r.empty k)
+      | yes z ↦ ap (λ (j : ℕ). earlier (head_time (live_at (set u.queues 0 new) j)) (Some fzero)) z ∙ ap (λ (l : List Place). earlier (head_time l) (Some fzero)) here ∙ lt_irrefl fzero
+      | no d ↦ ap (λ (l : List Place). earlier (head_time l) (Some fzero)) (live_other u.queues 0 k new d ∙ r.empty k)
     ]
 
     heads-late : (k : ℕ) → earlier (heads (set u.queues 0 new) k) (heads (set u.queues 0 new) 0) ≡ false

@@ -17,8 +17,7 @@ use Rattle.model.specs.declared.Event.TheVariants.{InterParticleCollision, MoveT
 use Rattle.model.specs.Check as check
 use Rattle.halting.specs.Every.{every, All}
 use Rattle.halting.proofs.Tests.{every_true, true_every}
-use Rattle.scheduler.specs.declared.head.Head.{Head}
-use Rattle.scheduler.specs.Head.{earlier}
+use Rattle.scheduler.specs.Head.{Head, earlier}
 use Rattle.scheduler.specs.Heap.{time_at, time_in, parent}
 use Rattle.scheduler.specs.Standing.{Ordered}
 use Rattle.model.specs.Grid.{cells}

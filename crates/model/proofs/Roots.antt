@@ -16,9 +16,7 @@ use Rattle.scheduler.specs.declared.Scheduler.{Scheduler}
 use Rattle.scheduler.specs.Heap.{swap, swap_at, time_at, parent, parent_in, parent_of, up, upshifted, updated}
 use Rattle.scheduler.proofs.Laws.{time_in_lem}
 use Rattle.order.specs.Numbers.{fzero}
-use Rattle.scheduler.specs.declared.head.Head.{Head}
-use Rattle.scheduler.specs.declared.head.Head.TheVariants.{At}
-use Rattle.scheduler.specs.Head.{earlier}
+use Rattle.scheduler.specs.Head.{Head, earlier}
 use Rattle.order.proofs.Order.{lt→le, lt_left, lt_not_le}
 use Rattle.order.proofs.Compare.{lt_irrefl, le_of_not_lt, fails}
 use Rattle.order.proofs.Clock.{clock_on}
@@ -28,7 +26,7 @@ use Rattle.model.specs.declared.Particle.{Particle}
 use Rattle.model.specs.declared.Place.{Place}
 use Rattle.model.specs.declared.Event.{Event}
 use Rattle.model.specs.declared.Event.TheVariants.{InterParticleCollision, MoveToNeighbour, MoveOutOfCell, WallReflection, Synchronisation}
-use Rattle.std.specs.Prelude.{Some, None, Ok, Err}
+use Rattle.std.specs.Prelude.{Some, None, Ok, Err, Some}
 use Rattle.model.specs.Plans.{Contact, Plan}
 use Rattle.halting.specs.Out.{then, each, each_of}
 use Rattle.halting.proofs.Laws.{then_sound, each_sound}
@@ -96,15 +94,15 @@ unfolding insert_by
 head_later e [] = refl
 head_later e (x ∷ xs) = by (le x.time e.time) refl
   where
-    by : (b : Bool) → le x.time e.time ≡ b → earlier (At x.time) (head_time (cond b (x ∷ insert_by e xs) (e ∷ x ∷ xs))) ≡ false
+    by : (b : Bool) → le x.time e.time ≡ b → earlier (Some x.time) (head_time (cond b (x ∷ insert_by e xs) (e ∷ x ∷ xs))) ≡ false
     by true q = lt_irrefl x.time
     by false q = fails (lt x.time e.time) (λ t. clash (sym q ∙ is_true _ (lt→le x.time e.time t)))
 
 -- what is not before 0, and the synchronisation at 0 in front of it
-head_from : (e : Place) (l : List Place) → lt e.time fzero ≡ false → earlier (head_time l) (At fzero) ≡ false → earlier (head_time (insert_by e l)) (At fzero) ≡ false
+head_from : (e : Place) (l : List Place) → lt e.time fzero ≡ false → earlier (head_time l) (Some fzero) ≡ false → earlier (head_time (insert_by e l)) (Some fzero) ≡ false
 unfolding insert_by
 head_from e [] h k = h
-head_from e (x ∷ xs) h k = on_test (λ m. earlier (head_time m) (At fzero) ≡ false) (le x.time e.time) (x ∷ insert_by e xs) (e ∷ x ∷ xs) (λ q. k) (λ q. h)
+head_from e (x ∷ xs) h k = on_test (λ m. earlier (head_time m) (Some fzero) ≡ false) (le x.time e.time) (x ∷ insert_by e xs) (e ∷ x ∷ xs) (λ q. k) (λ q. h)
 
 zero_real : is_nan fzero ≡ false
 unfolding is_nan of_bits
@@ -124,11 +122,11 @@ pub record Rooted (n : ℕ) (u : State) : Type 0 where
   pub clock : u.clock ≡ fzero
   pub root : first u ≡ 0
   pub head : head_place (queue u 0) ≡ sync_at fzero
-  pub late : (c : ℕ) → earlier (head_time (queue u c)) (At fzero) ≡ false
+  pub late : (c : ℕ) → earlier (head_time (queue u c)) (Some fzero) ≡ false
 
-headed : (l : List Place) → head_place l ≡ sync_at fzero → head_time l ≡ At fzero
+headed : (l : List Place) → head_place l ≡ sync_at fzero → head_time l ≡ Some fzero
 headed [] z = absurd (let k : ◌≡◌ {A = ℕ} 0 5 = ap (λ (p : Place). p.kind) z in omega (arith, k))
-headed (x ∷ xs) z = ap (λ (p : Place). At p.time) z
+headed (x ∷ xs) z = ap (λ (p : Place). Some p.time) z
 
 rooted_insert : (n c : ℕ) (e : Place) (u : State) → c < n → Rooted n u → fine_place e ≡ true → lt e.time fzero ≡ false → Rooted n (inserted c e u)
 unfolding requeued
@@ -152,10 +150,10 @@ rooted_insert n c e u C r f h = record {
       | no d ↦ ap head_place (live_other u.queues c 0 new d) ∙ r.head
     ]
 
-    behind : (k : ℕ) → earlier (head_time (live_at (set u.queues c new) k)) (At fzero) ≡ false
+    behind : (k : ℕ) → earlier (head_time (live_at (set u.queues c new) k)) (Some fzero) ≡ false
     behind k = elim (ℕ_discrete k c) [
-      | yes z ↦ ap (λ (j : ℕ). earlier (head_time (live_at (set u.queues c new) j)) (At fzero)) z ∙ ap (λ (l : List Place). earlier (head_time l) (At fzero)) here ∙ head_from e (queue u c) h (r.late c)
-      | no d ↦ ap (λ (l : List Place). earlier (head_time l) (At fzero)) (live_other u.queues c k new d) ∙ r.late k
+      | yes z ↦ ap (λ (j : ℕ). earlier (head_time (live_at (set u.queues c new) j)) (Some fzero)) z ∙ ap (λ (l : List Place). earlier (head_time l) (Some fzero)) here ∙ head_from e (queue u c) h (r.late c)
+      | no d ↦ ap (λ (l : List Place). earlier (head_time l) (Some fzero)) (live_other u.queues c k new d) ∙ r.late k
     ]
 
     heads-late : (k : ℕ) → earlier (heads (set u.queues c new) k) (heads (set u.queues c new) 0) ≡ false

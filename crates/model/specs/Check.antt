@@ -6,8 +6,7 @@ use Rattle.std.specs.Float.Ieee.{le, fits}
 use Rattle.std.specs.Float.Ieee.Scale.{finite}
 use Rattle.halting.specs.Every.{every, All}
 use Rattle.order.specs.Numbers.{fzero}
-use Rattle.scheduler.specs.declared.head.Head.{Head}
-use Rattle.scheduler.specs.Head.{earlier}
+use Rattle.scheduler.specs.Head.{Head, earlier}
 use Rattle.scheduler.specs.Heap.{time_in, parent}
 use Rattle.model.specs.declared.Domain.{Domain}
 use Rattle.model.specs.declared.Particle.{Particle}

@@ -1,11 +1,10 @@
 -- 01, "Doing an event": "a pending event carries its kind and the floats that its kind needs". An event, the place of the tables that holds one,
 -- and a cell's list of them in time order. Assumes nothing: these are definitions.
-use Rattle.std.specs.Prelude.{ℕ, zero, suc, Bool, false, ◌&&◌, ◌||◌, cond, List, [], ◌∷◌, eqb, Float}
+use Rattle.std.specs.Prelude.{ℕ, zero, suc, Bool, false, ◌&&◌, ◌||◌, cond, List, [], ◌∷◌, eqb, Float, Some, None}
 use Rattle.std.specs.Float.Ieee.{le, lt}
 use Rattle.std.specs.Float.Ieee.Scale.{finite}
 use Rattle.order.specs.Numbers.{fzero, f64_max}
-use Rattle.scheduler.specs.declared.head.Head.{Head}
-use Rattle.scheduler.specs.declared.head.Head.TheVariants.{Empty, At}
+use Rattle.scheduler.specs.Head.{Head}
 use Rattle.myvec.specs.declared.MyVec.{MyVec}
 use Rattle.myvec.specs.Vec.{vec}
 use Rattle.model.specs.declared.Event.{Event}
@@ -66,8 +65,8 @@ gone_by g (x ∷ xs) = cond (names (event_of x.kind x) g) (suc (gone_by g xs)) (
 
 -- the head of some events: empty where there is none, else the time of the first; and that event
 abbrev pub head_time : List Place → Head
-head_time [] = Empty
-head_time (x ∷ xs) = At x.time
+head_time [] = None
+head_time (x ∷ xs) = Some x.time
 
 abbrev pub head_place : List Place → Place
 head_place [] = zero_p

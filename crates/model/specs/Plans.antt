@@ -1,5 +1,5 @@
 -- 01, "Collision" and "Doing an event": what the scheduling of one kind finds. Assumes nothing: these are definitions.
-use Rattle.std.specs.Prelude.{Option, Result, Err, Float}
+use Rattle.std.specs.Prelude.{Option, Result, Float}
 use Rattle.model.specs.declared.Pending.{Pending}
 use Rattle.model.specs.declared.refusal.RootRefused.{RootRefused}
 

@@ -7,13 +7,12 @@ use lib.ListN.{get_or}
 use lib.Dec.{ltb, eqb}
 use lib.Ieee.{Float, of_bits, lt, le}
 use lib.Ieee.Bits.{is_true}
+use Rattle.std.specs.Prelude.{Some, None}
 use Rattle.order.specs.Numbers.{f64_max}
 use Rattle.order.proofs.Order.{lt_not_le, lt→le}
 use Rattle.order.proofs.Compare.{yes, fails, lt_asym, lt_irrefl}
 use Rattle.scheduler.specs.declared.Scheduler.{Scheduler}
-use Rattle.scheduler.specs.declared.head.Head.{Head}
-use Rattle.scheduler.specs.declared.head.Head.TheVariants.{Empty, At}
-use Rattle.scheduler.specs.Head.{earlier, no_later}
+use Rattle.scheduler.specs.Head.{Head, earlier, no_later}
 use Rattle.scheduler.specs.Heap.{time_at, time_in, swap_at, child_in, child_of, down, downshifted, parent, parent_in, parent_of, up, upshifted, updated}
 
 -- ---- 01's rule, over head times of which `f64_max` stands for an empty list
@@ -44,28 +43,28 @@ old_updated h s cell before after =
 
 -- ---- a head as that rule read it, and a head whose time is below `f64_max`
 abbrev pub was : Head → Float
-was Empty = f64_max
-was (At t) = t
+was None = f64_max
+was (Some t) = t
 
 abbrev pub Below : Head → Type 0
-Below Empty = Unit {0}
-Below (At t) = lt t f64_max ≡ true
+Below None = Unit {0}
+Below (Some t) = lt t f64_max ≡ true
 
 most : le f64_max f64_max ≡ true
 unfolding le of_bits
 most = refl
 
 pub same_earlier : (a b : Head) → Below a → Below b → earlier a b ≡ lt (was a) (was b)
-same_earlier Empty Empty p q = sym (lt_irrefl f64_max)
-same_earlier Empty (At u) p q = sym (lt_asym u f64_max q)
-same_earlier (At t) Empty p q = sym p
-same_earlier (At t) (At u) p q = refl
+same_earlier None None p q = sym (lt_irrefl f64_max)
+same_earlier None (Some u) p q = sym (lt_asym u f64_max q)
+same_earlier (Some t) None p q = sym p
+same_earlier (Some t) (Some u) p q = refl
 
 pub same_no_later : (a b : Head) → Below a → Below b → no_later a b ≡ le (was a) (was b)
-same_no_later Empty Empty p q = sym most
-same_no_later (At t) Empty p q = sym (is_true (le t f64_max) (lt→le t f64_max (yes (lt t f64_max) p)))
-same_no_later Empty (At u) p q = sym (fails (le f64_max u) (lt_not_le u f64_max (yes (lt u f64_max) q)))
-same_no_later (At t) (At u) p q = refl
+same_no_later None None p q = sym most
+same_no_later (Some t) None p q = sym (is_true (le t f64_max) (lt→le t f64_max (yes (lt t f64_max) p)))
+same_no_later None (Some u) p q = sym (fails (le f64_max u) (lt_not_le u f64_max (yes (lt u f64_max) q)))
+same_no_later (Some t) (Some u) p q = refl
 
 module _ (h : ℕ → Head) (below : (k : ℕ) → Below (h k)) where
   abbrev old : ℕ → Float
@@ -75,7 +74,7 @@ module _ (h : ℕ → Head) (below : (k : ℕ) → Below (h k)) where
   unfolding time_in
   below_time s i = by (ltb i s.cells)
     where
-      by : (b : Bool) → Below (cond b (h (get_or s.heap i 0)) Empty)
+      by : (b : Bool) → Below (cond b (h (get_or s.heap i 0)) None)
       by true = below (get_or s.heap i 0)
       by false = tt
 
@@ -83,7 +82,7 @@ module _ (h : ℕ → Head) (below : (k : ℕ) → Below (h k)) where
   unfolding time_in old_time
   same_time_lem s i = by (ltb i s.cells)
     where
-      by : (b : Bool) → was (cond b (h (get_or s.heap i 0)) Empty) ≡ cond b (old (get_or s.heap i 0)) f64_max
+      by : (b : Bool) → was (cond b (h (get_or s.heap i 0)) None) ≡ cond b (old (get_or s.heap i 0)) f64_max
       by true = refl
       by false = refl
 

@@ -10,11 +10,10 @@ use lib.ListN.{get_or}
 use lib.Dec.{eqb}
 use lib.Ieee.{Float, of_bits, is_nan}
 use borrow.Author.Tests.{eq-eqb, ne_eqb}
+use Rattle.std.specs.Prelude.{Some, None}
 use Rattle.order.specs.Numbers.{fzero}
 use Rattle.scheduler.specs.declared.Scheduler.{Scheduler}
-use Rattle.scheduler.specs.declared.head.Head.{Head}
-use Rattle.scheduler.specs.declared.head.Head.TheVariants.{Empty, At}
-use Rattle.scheduler.specs.Head.{earlier, is_nan_head}
+use Rattle.scheduler.specs.Head.{Head, earlier, is_nan_head}
 use Rattle.scheduler.specs.Heap.{time_at, swap, swap_at, swaps_of, parent, parent_of, upshift_swaps, update_swaps, start_heap}
 use Rattle.scheduler.specs.Standing.{Inverse, Ordered, Real}
 use Rattle.scheduler.specs.Log2.{Log2}
@@ -39,13 +38,13 @@ pub record Needs (n k : ℕ) : Type 0 where
 
 -- the one cell x has an event, at time t
 abbrev alone : Float → ℕ → ℕ → Head
-alone t x c = cond (eqb c x) (At t) Empty
+alone t x c = cond (eqb c x) (Some t) None
 
 module _ (t : Float) (x : ℕ) where
-  alone_there : alone t x x ≡ At t
+  alone_there : alone t x x ≡ Some t
   alone_there = simp (eq-eqb x x refl)
 
-  alone_else : (c : ℕ) → (c ≡ x → ⊥) → alone t x c ≡ Empty
+  alone_else : (c : ℕ) → (c ≡ x → ⊥) → alone t x c ≡ None
   alone_else c n = simp (ne_eqb c x n)
 
   at_root : (c m : ℕ) → c ≡ 0 → c + 1 < 2 ^ suc m
@@ -63,8 +62,8 @@ module _ (t : Float) (x : ℕ) where
         let j : p < s.cells = omega arith in
         let d : p ≡ c → ⊥ = λ w. omega arith in
         let f : get_or s.heap p 0 ≡ x → ⊥ = λ w. d (sym (inv.there p j) ∙ ap (λ (y : ℕ). get_or s.lookups y 0) (w ∙ sym e) ∙ inv.there c i) in
-        let u : time_at h s c ≡ At t = time_in_lem h s c i ∙ ap h e ∙ alone_there in
-        let v : time_at h s p ≡ Empty = time_in_lem h s p j ∙ alone_else (get_or s.heap p 0) f in
+        let u : time_at h s c ≡ Some t = time_in_lem h s c i ∙ ap h e ∙ alone_there in
+        let v : time_at h s p ≡ None = time_in_lem h s p j ∙ alone_else (get_or s.heap p 0) f in
         let w : parent_of h s c ≡ p = parent_early h s.heap s.cells c i (rw (u, v) refl) in
         let g : get_or (swap s.heap c p) p 0 ≡ x = swap_snd s.heap c p (omega (arith, inv.heap_long, inv.room)) (omega (arith, inv.heap_long, inv.room)) (λ y. d (sym y)) ∙ e in
         let m = swaps_of (parent_of h) k (swap_at s c p) p in
@@ -87,7 +86,7 @@ needs n k r l =
     let g : Log2 n m = record { no_more = omega (arith, up_worst h x s x); no_less = omega (arith, to_root fzero x x s x inv (omega arith) there (omega arith)) } in
     record {
       scheduler = s;
-      before = λ c. Empty;
+      before = λ c. None;
       after = h;
       cell = x;
       cells = refl;
@@ -102,15 +101,15 @@ needs n k r l =
     real-alone : (x c : ℕ) → is_nan_head (alone fzero x c) ≡ false
     real-alone x c = by (eqb c x)
       where
-        by : (b : Bool) → is_nan_head (cond b (At fzero) Empty) ≡ false
+        by : (b : Bool) → is_nan_head (cond b (Some fzero) None) ≡ false
         by true = refl
         by false = refl
 
-    none : (s : Scheduler) (i j : ℕ) → earlier (time_at (λ c. Empty) s i) (time_at (λ c. Empty) s j) ≡ false
+    none : (s : Scheduler) (i j : ℕ) → earlier (time_at (λ c. None) s i) (time_at (λ c. None) s j) ≡ false
     none s i j = rw (nothing s i) refl
       where
-        nothing : (s : Scheduler) (i : ℕ) → time_at (λ c. Empty) s i ≡ Empty
-        nothing s i = elim (dec_le s.cells i) [ yes o ↦ time_out (λ c. Empty) s i o | no n ↦ time_in_lem (λ c. Empty) s i (omega arith) ]
+        nothing : (s : Scheduler) (i : ℕ) → time_at (λ c. None) s i ≡ None
+        nothing s i = elim (dec_le s.cells i) [ yes o ↦ time_out (λ c. None) s i o | no n ↦ time_in_lem (λ c. None) s i (omega arith) ]
 
 -- 3 swaps for 9 cells and 8 for 256
 pub needs_9 : Needs 9 3

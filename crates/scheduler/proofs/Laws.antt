@@ -8,10 +8,9 @@ use native.Mathlib.Decide.{dec_le, ℕ_discrete}
 use lib.ListN.{get_or}
 use lib.Dec.{ltb}
 use borrow.Author.Tests.{lt-ltb, le-ltb, eq-eqb, ne_eqb}
+use Rattle.std.specs.Prelude.{None}
 use Rattle.scheduler.specs.declared.Scheduler.{Scheduler}
-use Rattle.scheduler.specs.declared.head.Head.{Head}
-use Rattle.scheduler.specs.declared.head.Head.TheVariants.{Empty}
-use Rattle.scheduler.specs.Head.{earlier, no_later}
+use Rattle.scheduler.specs.Head.{Head, earlier, no_later}
 use Rattle.scheduler.specs.Heap.{time_in, time_at, swap_at, child_in, child_of, down, downshifted, parent, parent_in, parent_of, up, upshifted}
 use Rattle.halting.proofs.Bools.{differ}
 
@@ -20,7 +19,7 @@ pub time_in_lem : (h : ℕ → Head) (s : Scheduler) (i : ℕ) → i < s.cells �
 unfolding time_in
 time_in_lem h s i lt' = simp (lt-ltb i s.cells lt')
 
-pub time_out : (h : ℕ → Head) (s : Scheduler) (i : ℕ) → s.cells ≤ i → time_at h s i ≡ Empty
+pub time_out : (h : ℕ → Head) (s : Scheduler) (i : ℕ) → s.cells ≤ i → time_at h s i ≡ None
 unfolding time_in
 time_out h s i le' = simp (le-ltb i s.cells le')
 

@@ -6,8 +6,7 @@ use native.Mathlib.Omega.{arith}
 use native.Mathlib.Decide.{dec_le, ℕ_discrete}
 use lib.ListN.{length, get_or}
 use Rattle.scheduler.specs.declared.Scheduler.{Scheduler}
-use Rattle.scheduler.specs.declared.head.Head.{Head}
-use Rattle.scheduler.specs.Head.{earlier, no_later, is_nan_head}
+use Rattle.scheduler.specs.Head.{Head, earlier, no_later, is_nan_head}
 use Rattle.scheduler.specs.Heap.{time_at, swap_at, child_of, down, downshifted, parent, parent_of, up, upshifted, updated}
 use Rattle.scheduler.specs.Standing.{Inverse, Ordered, Real}
 use Rattle.scheduler.proofs.Laws.{time_in_lem, time_out, child_in_lem, child_after, child_elim, down_stays, down_goes, up_stays, up_goes, parent_elim}

@@ -7,8 +7,7 @@ use native.Mathlib.Decide.{ℕ_discrete}
 use lib.ListN.{get_or}
 use borrow.Author.Tests.{eq-eqb, ne_eqb}
 use Rattle.scheduler.specs.declared.Scheduler.{Scheduler}
-use Rattle.scheduler.specs.declared.head.Head.{Head}
-use Rattle.scheduler.specs.Head.{earlier}
+use Rattle.scheduler.specs.Head.{Head, earlier}
 use Rattle.scheduler.specs.Heap.{swap_at, swaps_of, child_of, down, downshifted, downshift_swaps, parent_of, up, upshifted, upshift_swaps, updated, update_swaps}
 use Rattle.scheduler.proofs.Laws.{child_in_lem, child_after, further, down_stays, down_goes, parent_before, up_stays, up_goes}
 

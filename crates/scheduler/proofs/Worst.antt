@@ -10,8 +10,7 @@ use lib.ListN.{get_or}
 use lib.Pow.{pow_mono}
 use Rattle.halting.proofs.Bools.{differ}
 use Rattle.scheduler.specs.declared.Scheduler.{Scheduler}
-use Rattle.scheduler.specs.declared.head.Head.{Head}
-use Rattle.scheduler.specs.Head.{earlier}
+use Rattle.scheduler.specs.Head.{Head, earlier}
 use Rattle.scheduler.specs.Heap.{time_at, swap_at, swaps_of, child_of, downshift_swaps, parent, parent_of, upshift_swaps, update_swaps}
 use Rattle.scheduler.specs.Standing.{Ordered}
 use Rattle.scheduler.specs.Log2.{Log2}

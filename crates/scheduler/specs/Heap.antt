@@ -1,14 +1,12 @@
 -- 01, "Heap (scheduler.rs)", with the heads of 02, T-02: the heap of cell numbers with its lookups, what one shift and one update make of it, and with how many swaps.
 -- `h` gives each cell's head. Assumes nothing: these are definitions.
-use Rattle.std.specs.Prelude.{cond, ◌&&◌, List, ℕ, zero, suc, ◌+◌, ◌-◌, ◌*◌, ◌/◌, get_or, set, replicate, ltb, eqb}
+use Rattle.std.specs.Prelude.{cond, ◌&&◌, List, ℕ, zero, suc, ◌+◌, ◌-◌, ◌*◌, ◌/◌, get_or, set, replicate, ltb, eqb, None}
 use Rattle.scheduler.specs.declared.Scheduler.{Scheduler}
-use Rattle.scheduler.specs.declared.head.Head.{Head}
-use Rattle.scheduler.specs.declared.head.Head.TheVariants.{Empty}
-use Rattle.scheduler.specs.Head.{earlier, no_later}
+use Rattle.scheduler.specs.Head.{Head, earlier, no_later}
 
 -- the head at a heap index; "a heap index past the end is likewise empty"
 unfoldable pub time_in : (ℕ → Head) → List ℕ → ℕ → ℕ → Head
-time_in h heap n i = cond (ltb i n) (h (get_or heap i 0)) Empty
+time_in h heap n i = cond (ltb i n) (h (get_or heap i 0)) None
 
 abbrev pub time_at : (ℕ → Head) → Scheduler → ℕ → Head
 time_at h s i = time_in h s.heap s.cells i

@@ -1,37 +1,27 @@
-// A cell's head, as the question for it is answered: empty, or the time of the cell's first event.
+// A cell's head, as the question for it is answered: none where the cell holds no event, else the time of its first.
 ghost use Rattle.std.specs.Prelude.{◌≡◌};
 ghost use Rattle.scheduler.specs.Head.{earlier, no_later};
 
-#[derive(Clone, Copy)]
-pub enum Head {
-    Empty,
-    At(f64),
+pub type Head = Option<f64>;
+
+// Is the one head earlier than the other? Every time is earlier than none, and none is earlier than nothing.
+pub fn is_earlier(a: Head, b: Head) -> bool
+    ensures { result ≡ earlier a b }
+{
+    match (a, b) {
+        (None, _) => false,
+        (Some(_), None) => true,
+        (Some(t), Some(u)) => t < u,
+    }
 }
 
-impl Head {
-    // Is this head earlier than the other? Every time is earlier than empty, and empty is earlier than nothing.
-    pub fn earlier(self, other: Head) -> bool
-        ensures { result ≡ earlier self other }
-    {
-        let Head::At(t) = self else {
-            return false;
-        };
-        match other {
-            Head::Empty => true,
-            Head::At(u) => t < u,
-        }
-    }
-
-    // Is this head no later than the other? Nothing is later than empty.
-    pub fn no_later(self, other: Head) -> bool
-        ensures { result ≡ no_later self other }
-    {
-        let Head::At(u) = other else {
-            return true;
-        };
-        match self {
-            Head::Empty => false,
-            Head::At(t) => t <= u,
-        }
+// Is the one head no later than the other? Nothing is later than none.
+pub fn is_no_later(a: Head, b: Head) -> bool
+    ensures { result ≡ no_later a b }
+{
+    match (a, b) {
+        (_, None) => true,
+        (None, Some(_)) => false,
+        (Some(t), Some(u)) => t <= u,
     }
 }

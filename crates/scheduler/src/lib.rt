@@ -7,7 +7,7 @@ ghost use Rattle.scheduler.specs.Inside.{head_in, made};
 
 pub mod head;
 
-use crate::head::Head;
+use crate::head::{Head, is_earlier, is_no_later};
 
 #[derive(Drop)]
 pub struct Scheduler {
@@ -23,7 +23,7 @@ pub struct Updated {
     pub swaps: usize,
 }
 
-// The head of a cell: empty where it holds no event, else its first place's time.
+// The head of a cell: none where it holds no event, else its first place's time.
 pub fn head_time(times: &[f64], held: &[u64], room: usize, cell: usize) -> Head
     requires { (room ≤ 256) × (cell < 256) }
     ensures { result ≡ head_in times.now held.now room cell }
@@ -31,9 +31,9 @@ pub fn head_time(times: &[f64], held: &[u64], room: usize, cell: usize) -> Head
     let at = layout::queue_from(room, cell);
     let p = layout::events_from(room, cell);
     if times.len() <= p || held.len() <= at || held[at] == 0 {
-        return Head::Empty;
+        return None;
     }
-    Head::At(times[p])
+    Some(times[p])
 }
 
 fn head_of(times: &[f64], held: &[u64], room: usize, number: u8) -> Head
@@ -43,7 +43,7 @@ fn head_of(times: &[f64], held: &[u64], room: usize, number: u8) -> Head
     head_time(times, held, room, number as usize)
 }
 
-// The head at a heap index: empty past the cells in use. The heap is lent, and not copied.
+// The head at a heap index: none past the cells in use. The heap is lent, and not copied.
 fn time_in(heap: &[u8], cells: usize, times: &[f64], held: &[u64], room: usize, at: usize) -> Head
     requires { (cells ≤ length heap.now) × (room ≤ 256) }
     ensures { result ≡ time_in (head_in times.now held.now room) heap.now cells at }
@@ -52,7 +52,7 @@ fn time_in(heap: &[u8], cells: usize, times: &[f64], held: &[u64], room: usize, 
         let cell = heap[at];
         return head_of(times, held, room, cell);
     }
-    Head::Empty
+    None
 }
 
 // The child that p changes places with, or p where the shift ends.
@@ -72,9 +72,9 @@ pub fn child(heap: &[u8], cells: usize, times: &[f64], held: &[u64], room: usize
 fn pick_child(tp: Head, tl: Head, tr: Head, p: usize, l: usize, r: usize) -> usize
     ensures { result ≡ chosen tp tl tr p l r }
 {
-    if tl.earlier(tp) && tl.no_later(tr) {
+    if is_earlier(tl, tp) && is_no_later(tl, tr) {
         l
-    } else if tr.earlier(tp) && tr.earlier(tl) {
+    } else if is_earlier(tr, tp) && is_earlier(tr, tl) {
         r
     } else {
         p
@@ -102,7 +102,7 @@ pub fn parent(
     let p = (c - 1) / 2;
     let tc = time_in(heap, cells, times, held, room, c);
     let tp = time_in(heap, cells, times, held, room, p);
-    if tc.earlier(tp) { p } else { c }
+    if is_earlier(tc, tp) { p } else { c }
 }
 
 impl Scheduler {
@@ -143,7 +143,7 @@ impl Scheduler {
         let mut heap = self.heap;
         let mut lookups = self.lookups;
         let at = lookups[cell] as usize;
-        let swaps = if before.earlier(after) {
+        let swaps = if is_earlier(before, after) {
             downshift(&mut heap, &mut lookups, n, times, held, room, at)
         } else {
             upshift(&mut heap, &mut lookups, n, times, held, room, at)

@@ -1,8 +1,7 @@
 -- What the benchmark's call answers. Assumes nothing: these are definitions.
-use Rattle.std.specs.Prelude.{ℕ, Bool, cond, ◌&&◌, List, length, eqb, leb, ltb, Float}
+use Rattle.std.specs.Prelude.{ℕ, Bool, cond, ◌&&◌, List, length, eqb, leb, ltb, Float, Some, None}
 use Rattle.layout.specs.Widths.{order_wide}
-use Rattle.scheduler.specs.declared.head.Head.{Head}
-use Rattle.scheduler.specs.declared.head.Head.TheVariants.{Empty, At}
+use Rattle.scheduler.specs.Head.{Head}
 use Rattle.scheduler.specs.Heap.{updated, update_swaps}
 use Rattle.model.specs.Sizes.{most_room, most_cells}
 use Rattle.tables.specs.Layout.{order_bytes}
@@ -13,7 +12,7 @@ abbrev pub in_range : ℕ → ℕ → ℕ → ℕ → Bool
 in_range order cells room cell = eqb order order_wide && (leb cells most_cells && (leb room most_room && ltb cell most_cells))
 
 abbrev pub head_given : Bool → Float → Head
-head_given empty time = cond empty Empty (At time)
+head_given empty time = cond empty None (Some time)
 
 -- the table afterwards, and the swaps: 256 is told, and nothing changed, where an argument is out of range
 abbrev pub order_after : (ℕ → Head) → List ℕ → ℕ → ℕ → ℕ → Head → List ℕ

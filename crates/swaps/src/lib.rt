@@ -35,7 +35,7 @@ fn in_range(order: usize, cells: u64, room: u64, cell: u64) -> bool
 fn head_given(empty: bool, time: f64) -> Head
     ensures { result ≡ head_given empty time }
 {
-    if empty { Head::Empty } else { Head::At(time) }
+    if empty { None } else { Some(time) }
 }
 
 // The cell's head went from empty, or from a time, to what the tables have now: its update's swaps. `REFUSED`: an argument is out of range, and nothing is changed.

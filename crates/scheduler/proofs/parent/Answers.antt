@@ -18,16 +18,16 @@ returns-then-c-eq0 c =
     let h = head_in a.times.now a.held.now a.room in
     sym (parent_root h a.heap.now a.cells a.c c.if-c-eq0.true)
 
-pub returns-then-earlier : goal.returns-then-earlier
-returns-then-earlier c =
+pub returns-then-is_earlier : goal.returns-then-is_earlier
+returns-then-is_earlier c =
     let a = c.args in
     let h = head_in a.times.now a.held.now a.room in
-    let e : earlier (time_in h a.heap.now a.cells a.c) (time_in h a.heap.now a.cells (parent a.c)) ≡ true = rw (c.earlier.ensures, c.time_in-tc.ensures, c.time_in-tp.ensures) at c.if-earlier.true in
+    let e : earlier (time_in h a.heap.now a.cells a.c) (time_in h a.heap.now a.cells (parent a.c)) ≡ true = rw (c.is_earlier.ensures, c.time_in-tc.ensures, c.time_in-tp.ensures) at c.if-is_earlier.true in
     sym (parent_early h a.heap.now a.cells a.c c.if-cells-c.false e)
 
-pub returns-else-earlier : goal.returns-else-earlier
-returns-else-earlier c =
+pub returns-else-is_earlier : goal.returns-else-is_earlier
+returns-else-is_earlier c =
     let a = c.args in
     let h = head_in a.times.now a.held.now a.room in
-    let e : earlier (time_in h a.heap.now a.cells a.c) (time_in h a.heap.now a.cells (parent a.c)) ≡ false = rw (c.earlier.ensures, c.time_in-tc.ensures, c.time_in-tp.ensures) at c.if-earlier.false in
+    let e : earlier (time_in h a.heap.now a.cells a.c) (time_in h a.heap.now a.cells (parent a.c)) ≡ false = rw (c.is_earlier.ensures, c.time_in-tc.ensures, c.time_in-tp.ensures) at c.if-is_earlier.false in
     sym (parent_late h a.heap.now a.cells a.c c.if-cells-c.false e)

@@ -10,7 +10,7 @@ use Rattle.tables.specs.Layout.{order_bytes}
 use Rattle.scheduler.specs.Heap.{updated, update_swaps}
 use Rattle.scheduler.specs.Inside.{head_in}
 use Rattle.scheduler.specs.declared.Scheduler.{Scheduler}
-use Rattle.scheduler.specs.declared.head.Head.{Head}
+use Rattle.scheduler.specs.Head.{Head}
 use Prim.Native.Nat.{ℕ, ◌+◌, ◌≤◌}
 use mathlib.Core.Path.{◌≡◌, refl, sym, ap, subst, ◌∙◌}
 use native.Mathlib.Omega.{arith}
@@ -29,7 +29,7 @@ returns-then-to-at c =
     let t = a.order.now in
     let h = head_in a.events.now a.queue.now a.z.room in
     let at = get_or t (heap_wide + a.cell) 0 in
-    let to = c.shifted_to-to.ensures ∙ ap (λ (x : Bool). shifted_to h (mid_of 0 heap_wide t) a.z.cells at x) c.earlier.ensures in
+    let to = c.shifted_to-to.ensures ∙ ap (λ (x : Bool). shifted_to h (mid_of 0 heap_wide t) a.z.cells at x) c.is_earlier.ensures in
     update_same t c.requires.0 h a.z.cells a.cell a.before c.head_time-after.result c.shifted_to-to.result c.head_time-after.ensures to c.if-to-at.true
 
 pub update-swaps-requires : goal.update-swaps-requires
