@@ -33,10 +33,7 @@ pub fn flags_fine(lists: &[u64]) -> bool
     requires { lists_head_wide ≤ length lists.now }
     ensures { result ≡ flags_fine lists.now }
 {
-    if 1 < lists[4] {
-        return false;
-    }
-    lists[5] <= 1
+    lists[4] <= 1 && lists[5] <= 1
 }
 
 pub fn domain_of(lists: &[u64], grains: &[f64]) -> Domain
@@ -66,7 +63,7 @@ pub fn clock(grains: &[f64]) -> f64
 fn flag(set: bool) -> u64
     ensures { result ≡ flagged set }
 {
-    if set { 1 } else { 0 }
+    u64::from(set)
 }
 
 pub fn put_lists_head(lists: &mut [u64], mark: u64, z: Sizes, domain: Domain)

@@ -4,7 +4,7 @@ ghost use Rattle.layout.specs.Widths.{heap_wide, order_wide};
 ghost use Rattle.tables.specs.Layout.{order_bytes};
 ghost use Rattle.tables.specs.Decode.{scheduler_of};
 
-use layout::{HEAP, ORDER};
+use layout::HEAP;
 use scheduler::Scheduler;
 
 fn bytes(t: &[u8]) -> [u8; HEAP]
@@ -12,23 +12,8 @@ fn bytes(t: &[u8]) -> [u8; HEAP]
     ensures { result ≡ t.now }
 {
     let mut a = [0u8; HEAP];
-    let mut i = 0usize;
-    while i < HEAP {
-        a[i] = t[i];
-        i += 1;
-    }
+    a.copy_from_slice(t);
     a
-}
-
-fn put_bytes(t: &mut [u8], a: [u8; HEAP])
-    requires { length t.old ≡ heap_wide }
-    ensures { t.new ≡ a }
-{
-    let mut i = 0usize;
-    while i < HEAP {
-        t[i] = a[i];
-        i += 1;
-    }
 }
 
 // The scheduler that a table holds.
@@ -36,8 +21,8 @@ pub fn load(order: &[u8], cells: usize) -> Scheduler
     requires { length order.now ≡ order_wide }
     ensures { result ≡ scheduler_of cells order.now }
 {
-    let heap = bytes(&order[0..HEAP]);
-    let lookups = bytes(&order[HEAP..ORDER]);
+    let heap = bytes(&order[..HEAP]);
+    let lookups = bytes(&order[HEAP..]);
     Scheduler {
         heap,
         lookups,
@@ -49,8 +34,6 @@ pub fn store(order: &mut [u8], s: Scheduler)
     requires { length order.old ≡ order_wide }
     ensures { order.new ≡ order_bytes s }
 {
-    let heap = s.heap;
-    put_bytes(&mut order[0..HEAP], heap);
-    let lookups = s.lookups;
-    put_bytes(&mut order[HEAP..ORDER], lookups);
+    order[..HEAP].copy_from_slice(&s.heap);
+    order[HEAP..].copy_from_slice(&s.lookups);
 }

@@ -38,17 +38,9 @@ pub fn long(
     ensures { result ≡ long z lists grains queue events order }
 {
     let need = needed(z);
-    if lists < need.lists {
-        return false;
-    }
-    if grains < need.grains {
-        return false;
-    }
-    if queue < need.queue {
-        return false;
-    }
-    if events < need.events {
-        return false;
-    }
-    layout::ORDER <= order
+    need.lists <= lists
+        && need.grains <= grains
+        && need.queue <= queue
+        && need.events <= events
+        && layout::ORDER <= order
 }

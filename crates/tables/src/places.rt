@@ -166,26 +166,18 @@ pub fn event_of(s: Place) -> Event
 pub fn names_grain(s: Place, g: u64) -> bool
     ensures { result ≡ names (event_of s.kind s) g }
 {
-    if s.p != g {
-        if s.q != g {
-            return false;
-        }
-        return s.kind == 1;
+    match s.kind {
+        1 => s.p == g || s.q == g,
+        2..=4 => s.p == g,
+        _ => false,
     }
-    if s.kind == 0 {
-        return false;
-    }
-    s.kind < 5
 }
 
 // Is a place's kind one of the five?
 pub fn known_kind(s: Place) -> bool
     ensures { result ≡ kind_ok s }
 {
-    if s.kind < 1 {
-        return false;
-    }
-    s.kind <= 5
+    matches!(s.kind, 1..=5)
 }
 
 // Of the first of a run of places: its time, and 1 where it holds a synchronisation, else 0.
@@ -200,14 +192,10 @@ pub fn first_sync(nums: &[u64]) -> usize
     requires { place_nums_wide ≤ length nums.now }
     ensures { (e : List Float) → result ≡ one_if (event_of (get_or nums.now 0 0) (place_at nums.now e)) }
 {
-    let kind = nums[0];
-    if kind < 1 {
-        return 1;
+    match nums[0] {
+        1..=4 => 0,
+        _ => 1,
     }
-    if 4 < kind {
-        return 1;
-    }
-    0
 }
 
 // The first of a run of places.
@@ -292,12 +280,8 @@ fn push(nums: &mut [u64], reals: &mut [f64], n: usize, s: Place)
         → Run nums.old reals.old (live ++ x ∷ rest)
         → Run nums.new reals.new (s ∷ live ++ rest) }
 {
-    let mut i = n;
-    while 0 < i {
-        let last = get_place(nums, reals, i - 1);
-        put_place(nums, reals, i, last);
-        i -= 1;
-    }
+    nums.copy_within(..PLACE_NUMS * n, PLACE_NUMS);
+    reals.copy_within(..PLACE_REALS * n, PLACE_REALS);
     put_head(nums, reals, s);
 }
 
@@ -306,12 +290,9 @@ fn passed(nums: &[u64], reals: &[f64], n: usize, s: Place) -> usize
     requires { (n < 256) × (place_nums_wide * n ≤ length nums.now) × (place_reals_wide * n ≤ length reals.now) }
     ensures { (result ≤ n) × ((live rest : List PlaceV) → n ≡ length live → Run nums.now reals.now (live ++ rest) → Passed s live result) }
 {
-    let mut i = 0usize;
-    while i < n {
-        let first = get_place(nums, reals, i);
-        if first.time <= s.time {
-            i += 1;
-        } else {
+    for i in 0..n {
+        let next = get_place(nums, reals, i);
+        if !(next.time <= s.time) {
             return i;
         }
     }
@@ -338,12 +319,8 @@ pub fn pull(nums: &mut [u64], reals: &mut [f64], n: usize)
         → Run nums.old reals.old (x ∷ live ++ rest)
         → Run nums.new reals.new (live ++ zero_p ∷ rest) }
 {
-    let mut i = 0usize;
-    while i < n {
-        let next = get_place(nums, reals, i + 1);
-        put_place(nums, reals, i, next);
-        i += 1;
-    }
+    nums.copy_within(PLACE_NUMS..PLACE_NUMS * (n + 1), 0);
+    reals.copy_within(PLACE_REALS..PLACE_REALS * (n + 1), 0);
     put_place(nums, reals, n, zero_place());
 }
 
@@ -368,10 +345,8 @@ fn keep(nums: &mut [u64], reals: &mut [f64], n: usize, g: u64) -> usize
         → Run nums.old reals.old (live ++ rest) → Keeping g live rest n result nums.new reals.new) }
 {
     let mut kept = 0usize;
-    let mut i = 0usize;
-    while i < n {
+    for i in 0..n {
         kept = keep_one(nums, reals, i, kept, g);
-        i += 1;
     }
     kept
 }
@@ -383,10 +358,8 @@ fn clear(nums: &mut [u64], reals: &mut [f64], from: usize, n: usize)
         → Run nums.old reals.old (kept ++ (given ++ rest))
         → Run nums.new reals.new (kept ++ (replicate (n - from) zero_p ++ rest)) }
 {
-    let mut i = from;
-    while i < n {
+    for i in from..n {
         put_place(nums, reals, i, zero_place());
-        i += 1;
     }
 }
 

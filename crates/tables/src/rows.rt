@@ -25,21 +25,11 @@ pub fn live_of(row: &[u64]) -> &[u64]
     &row[PLACES..PLACES + n]
 }
 
-// Is x among the first n?
-pub fn has(nums: &[u64], n: usize, x: u64) -> bool
-    requires { n ≤ length nums.now }
-    ensures { result ≡ has x (take n nums.now) }
+// Is x among some numbers?
+pub fn has(nums: &[u64], x: u64) -> bool
+    ensures { result ≡ has x nums.now }
 {
-    let mut rest = nums;
-    let mut left = n;
-    while 0 < left {
-        if rest[0] == x {
-            return true;
-        }
-        rest = &rest[1..];
-        left -= 1;
-    }
-    false
+    nums.contains(&x)
 }
 
 // The first of n + 1 numbers goes, the others move down, and the place given up is cleared.
@@ -47,12 +37,8 @@ pub fn pull(nums: &mut [u64], n: usize)
     requires { n < length nums.old }
     ensures { (live spare : List ℕ) (x : ℕ) → n ≡ length live → nums.old ≡ x ∷ live ++ spare → nums.new ≡ live ++ 0 ∷ spare }
 {
-    if n == 0 {
-        nums[0] = 0;
-        return;
-    }
-    nums[0] = nums[1];
-    pull(&mut nums[1..], n - 1);
+    nums.copy_within(1..n + 1, 0);
+    nums[n] = 0;
 }
 
 // The first x of n numbers, where there is one, goes.
@@ -60,11 +46,10 @@ pub fn remove(nums: &mut [u64], n: usize, x: u64)
     requires { (n ≤ length nums.old) × (has x (take n nums.old) ≡ true) }
     ensures { (live spare : List ℕ) → n ≡ length live → nums.old ≡ live ++ spare → nums.new ≡ but x live ++ 0 ∷ spare }
 {
-    if nums[0] == x {
-        pull(nums, n - 1);
-        return;
+    let found = nums[..n].iter().position(|&y| y == x);
+    if let Some(i) = found {
+        pull(&mut nums[i..], n - 1 - i);
     }
-    remove(&mut nums[1..], n - 1, x);
 }
 
 // Does a row list x?
@@ -72,8 +57,7 @@ pub fn lists(row: &[u64], x: u64) -> bool
     requires { (r : Row ℕ) × (row.now ≡ row_nums r) }
     ensures { (r : Row ℕ) → row.now ≡ row_nums r → result ≡ has x r.live }
 {
-    let n = row[COUNT] as usize;
-    has(&row[PLACES..], n, x)
+    has(live_of(row), x)
 }
 
 // A row with room lists one more, at the end.
@@ -81,7 +65,7 @@ pub fn add_to(row: &mut [u64], x: u64)
     requires { InNums row.old (λ r. length r.live < length (places r)) }
     ensures { (r : Row ℕ) → row.old ≡ row_nums r → row.new ≡ row_nums (pushed x r) }
 {
-    let n = row[COUNT] as usize;
+    let n = count_of(row);
     row[n + PLACES] = x;
     row[COUNT] = (n + 1) as u64;
 }
@@ -91,7 +75,7 @@ pub fn drop_from(row: &mut [u64], x: u64)
     requires { InNums row.old (λ r. has x r.live ≡ true) }
     ensures { (r : Row ℕ) → row.old ≡ row_nums r → row.new ≡ row_nums (pulled x r) }
 {
-    let n = row[COUNT] as usize;
+    let n = count_of(row);
     remove(&mut row[PLACES..], n, x);
     row[COUNT] = (n - 1) as u64;
 }
