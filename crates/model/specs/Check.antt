@@ -1,6 +1,7 @@
 -- 01, "Standing facts, tested by each unhalted run", as the test that the code makes, in its order: each part over the rows that it reads. And the run behind its checks: 2, the
 -- halt mark, 3, 10. That the test passes exactly if the facts stand: `says_standing` (proofs, Reflect). Assumes nothing: these are definitions.
 use Rattle.std.specs.Prelude.{ℕ, ◌+◌, List, [], ◌∷◌, Bool, true, not, ◌&&◌, ◌||◌, cond, T, eqb, leb, ltb, length, get_or, Float}
+use Rattle.std.specs.List.{list_all}
 use Rattle.std.specs.Float.{binary64}
 use Rattle.std.specs.Float.Ieee.{le, fits}
 use Rattle.std.specs.Float.Ieee.Scale.{finite}
@@ -24,8 +25,7 @@ use Rattle.model.specs.Standing.{syncs}
 
 -- each of a list; and each with its number, from i on
 abbrev pub all : {A : Type 0} → (A → Bool) → List A → Bool
-all p [] = true
-all p (x ∷ xs) = p x && all p xs
+all p xs = list_all p xs
 
 unfoldable pub walk : {A : Type 0} → (ℕ → A → Bool) → ℕ → List A → Bool
 walk p i [] = true
