@@ -15,7 +15,7 @@ use Rattle.model.specs.Acts.{fine_grain, store}
 use Rattle.model.specs.Doing.{step_grain}
 use Rattle.tables.specs.declared.Sizes.{Sizes}
 use Rattle.tables.specs.Holds.{Grained}
-use Rattle.acts.specs.Tell.{At, InGrains, GrainsTold}
+use Rattle.acts.specs.Tell.{At, InGrains, Grains, GrainsTold}
 use Rattle.acts.proofs.InTurn.{Tells}
 
 pub store_refused : {z : Sizes} {t : List Float} (g : ℕ) (p : Particle) → fine_grain p ≡ false → (s : State) → InGrains z t s → GrainsTold z t 5 (store g p s)
@@ -38,6 +38,11 @@ step_told {z} {t} {r} b clock g p q s e f a told =
 -- all of them
 pub all_told : (H : State → Type 0) (act : ℕ → State → Out State) (s : State) {m n r : ℕ} → n ≡ m → Tells H r (each act (m - 0) 0 s) → Tells H r (each act n 0 s)
 all_told H act s {m} {n} {r} e t = subst (λ (k : ℕ). Tells H r (each act k 0 s)) (let z : m - 0 ≡ n = omega arith in z) t
+
+-- a loop's tables were t₀ and are t: they hold a state, and what the rest of the acts then does of it, all of them do
+abbrev pub GoesOn : (State → Out State) → (State → Out State) → Sizes → Domain → Float → List Float → List Float → Type 0
+GoesOn all rest z b clock t₀ t = Grains z t
+    × ((t' : List Float) (r : ℕ) → ((s : State) → InGrains z t s → At b clock s → GrainsTold z t' r (rest s)) → (s : State) → InGrains z t₀ s → At b clock s → GrainsTold z t' r (all s))
 
 -- a state with another box and clock, and the same grains
 abbrev pub timed : Domain → Float → State → State

@@ -73,10 +73,9 @@ impl Queues<'_> {
         ensures same { SameTables self.old self.new }
         ensures told { (s : State) → InQueues z self.old s → QueuesTold z self.new (number_of result) (putAct cell plan s) }
     {
-        match plan {
-            Plan::Nothing => Ok(()),
-            Plan::Due(e) => self.insert(z, cell, places::place_of(e)),
-            Plan::Refused => Err(Halt::NotFinite),
+        match plan? {
+            None => Ok(()),
+            Some(e) => self.insert(z, cell, places::place_of(e)),
         }
     }
 

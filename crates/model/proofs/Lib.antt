@@ -62,6 +62,8 @@ pub mod Sound
 pub mod Stands
 pub mod Reflect
 pub mod Turns
+-- Numbers of halts, after a call's `?` (HaltNumbers).
+pub mod HaltNumbers
 -- A start: from cleared places (Cleared) to the standing facts (Starts); no 8 or 9 (Fresh), the first event of all (Roots).
 pub mod Cleared
 pub mod Starts
