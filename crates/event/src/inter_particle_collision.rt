@@ -6,9 +6,8 @@ ghost use Rattle.model.specs.Collision as collision;
 ghost use Rattle.model.specs.Reports.{contact_told, plan_told};
 ghost use Rattle.cell.specs.Cell.{IsCell};
 
-use crate::util;
 use cell::Cell;
-use model::{Contact, Domain, Event, Particle, Plan};
+use model::{Contact, Domain, Event, Particle, Pending, Plan, RootRefused};
 use myvec::MyVec;
 
 // The earlier solution, from the root of the discriminant d.
@@ -16,17 +15,9 @@ fn time_of(d: f64, a: f64, b: f64) -> Contact
     ensures result_value { contact_told result ≡ contact_told (collision.time_of d a b) }
     ensures result_value_2 { (contact_told result).0 ≡ rootNumber (root_of d) }
 {
-    match root::square_root(d) {
-        Some(s) => {
-            let dt = (1.0 / a) * (-s - b);
-            if dt < 0.0 {
-                Contact::Never
-            } else {
-                Contact::After(dt)
-            }
-        }
-        None => Contact::Refused,
-    }
+    let s = root::square_root(d).ok_or(RootRefused)?;
+    let dt = (1.0 / a) * (-s - b);
+    if dt < 0.0 { Ok(None) } else { Ok(Some(dt)) }
 }
 
 // How far apart two grains are that touch.
@@ -47,21 +38,9 @@ fn contact(reach: f64, dpos: MyVec, dvel: MyVec) -> Contact
     let b = dvel.dot(dpos);
     let c = dpos.dot(dpos) - reach * reach;
     let d = b * b - a * c;
-    // their velocities are nearly equal
-    if a < LEAST_A {
-        return Contact::Never;
-    }
-    // they move apart
-    if 0.0 <= b {
-        return Contact::Never;
-    }
-    // they overlap
-    if c < 0.0 {
-        return Contact::Never;
-    }
-    // they pass each other
-    if d < 0.0 {
-        return Contact::Never;
+    // their velocities are nearly equal, they move apart, they overlap, or they pass each other
+    if a < LEAST_A || 0.0 <= b || c < 0.0 || d < 0.0 {
+        return Ok(None);
     }
     time_of(d, a, b)
 }
@@ -151,9 +130,11 @@ pub fn schedule(
 {
     let dpos = cell.apart(domain, q.pos.sub(p.pos));
     let dvel = q.vel.sub(p.vel);
-    match contact(reach(p, q), dpos, dvel) {
-        Contact::Never => Plan::Nothing,
-        Contact::After(dt) => util::due(time, dt, struck(domain, cell, i, j, p, q, dt)),
-        Contact::Refused => Plan::Refused,
-    }
+    let Some(dt) = contact(reach(p, q), dpos, dvel)? else {
+        return Ok(None);
+    };
+    Ok(Some(Pending {
+        time: time + dt,
+        event: struck(domain, cell, i, j, p, q, dt),
+    }))
 }

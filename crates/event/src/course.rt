@@ -1,12 +1,10 @@
 // A grain in one direction of a cell: what the moves and the walls ask.
 ghost use Rattle.std.specs.Prelude.{◌≡◌};
-ghost use Rattle.model.specs.Reports.{plan_told};
-ghost use Rattle.model.specs.Stepping as stepping;
 ghost use Rattle.cell.specs.Cell.{IsCell};
-ghost use Rattle.event.specs.Course.{course_of, edge_in, shut_in, gap_in, dt_in, aside_in};
+ghost use Rattle.event.specs.Course.{course_of, edge_in, shut_in, no_wall_in, gap_in, dt_in, ahead, crossing_in, reflection_in, aside_in};
 
 use cell::{Cell, CellAlong};
-use model::{CellPosition, Domain, Event, Particle, Pending, Plan};
+use model::{CellPosition, Domain, Particle};
 
 #[derive(Clone, Copy)]
 pub struct Course {
@@ -34,12 +32,10 @@ impl Course {
     }
 
     // Whether the side that it moves to is an edge of the box.
-    pub fn at_edge(self) -> bool
+    fn at_edge(self) -> bool
         ensures { result ≡ edge_in self }
     {
-        let cell = self.cell;
-        let position = cell.position;
-        match position {
+        match self.cell.position {
             CellPosition::NegativeEdge => self.vel < 0.0,
             CellPosition::Centre => false,
             CellPosition::PositiveEdge => !(self.vel < 0.0),
@@ -47,20 +43,21 @@ impl Course {
     }
 
     // Whether it moves to no other cell: it is still, or at an edge that is not periodic.
-    pub fn shut(self) -> bool
+    fn shut(self) -> bool
         ensures { result ≡ shut_in self }
     {
-        if self.vel == 0.0 {
-            return true;
-        }
-        if self.periodic {
-            return false;
-        }
-        self.at_edge()
+        self.vel == 0.0 || !self.periodic && self.at_edge()
+    }
+
+    // Whether there is no wall that it moves to: the direction is periodic, it is still, or in no edge cell on that side.
+    fn no_wall(self) -> bool
+        ensures { result ≡ no_wall_in self }
+    {
+        self.periodic || self.vel == 0.0 || !self.at_edge()
     }
 
     // How far it is to where it touches the bound that it moves to from inside; with rad negated, from outside.
-    pub fn gap(self, rad: f64) -> f64
+    fn gap(self, rad: f64) -> f64
         ensures { result ≡ gap_in self rad }
     {
         if self.vel < 0.0 {
@@ -71,12 +68,30 @@ impl Course {
     }
 
     // The time to get there, by the nearer way round.
-    pub fn dt(self, rad: f64) -> f64
+    fn dt(self, rad: f64) -> f64
         ensures { result ≡ dt_in self rad }
     {
-        let cell = self.cell;
-        let position = cell.position;
-        cell::correct_periodicity(self.gap(rad), self.length, position) / self.vel
+        cell::correct_periodicity(self.gap(rad), self.length, self.cell.position) / self.vel
+    }
+
+    // The time until it is there, if it moves to another cell and that lies ahead.
+    pub fn crossing(self, rad: f64) -> Option<f64>
+        ensures { result ≡ crossing_in self rad }
+    {
+        if self.shut() {
+            return None;
+        }
+        ahead(self.dt(rad))
+    }
+
+    // The time until it touches the wall that it moves to, if there is one and that lies ahead.
+    pub fn reflection(self) -> Option<f64>
+        ensures { result ≡ reflection_in self }
+    {
+        if self.no_wall() {
+            return None;
+        }
+        ahead(self.gap(self.rad) / self.vel)
     }
 
     // The neighbour that it moves to.
@@ -91,12 +106,9 @@ impl Course {
     }
 }
 
-// An event dt after the clock.
-pub fn due(time: f64, dt: f64, event: Event) -> Plan
-    ensures { plan_told result ≡ plan_told (stepping.due time dt event) }
+// A time that lies ahead: none that is not above 0.
+fn ahead(dt: f64) -> Option<f64>
+    ensures { result ≡ ahead dt }
 {
-    Plan::Due(Pending {
-        time: time + dt,
-        event,
-    })
+    if dt <= 0.0 { None } else { Some(dt) }
 }
