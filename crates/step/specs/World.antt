@@ -1,44 +1,52 @@
 -- What it means that the tables hold a state of this box at this clock, and what an act over them answers and leaves. Assumes nothing: these are definitions.
-use Rattle.std.specs.Prelude.{ℕ, ◌<◌, ◌≡◌, Bool, true, false, cond, List, eqb, Float}
-use Rattle.halting.specs.Out.{Out, out}
+use Rattle.std.specs.Prelude.{ℕ, ◌<◌, ◌≡◌, Bool, true, false, List, Float}
+use Rattle.halting.specs.Out.{Out}
 use Rattle.cell.specs.declared.Cell.{Cell}
-use Rattle.cell.specs.declared.Grid.{Grid}
-use Rattle.model.specs.declared.Domain.{Domain}
-use Rattle.acts.specs.Tell.{At, Pair}
-use Rattle.cell.specs.Cell.{Laid, IsCell}
+use Rattle.cell.specs.Cell.{IsCell}
 use Rattle.model.specs.declared.Event.{Event}
 use Rattle.model.specs.declared.Event.TheVariants.{InterParticleCollision, MoveToNeighbour, MoveOutOfCell, WallReflection, Synchronisation}
-use Rattle.model.specs.Grid.{cells}
 use Rattle.model.specs.State.{State}
+use Rattle.model.specs.Standing.{Standing}
+use Rattle.model.specs.Check.{Fitted}
 use Rattle.tables.specs.declared.Sizes.{Sizes}
-use Rattle.tables.specs.Holds.{Grained, Listed, Queued}
+use Rattle.tables.specs.Holds.{Grained, Listed, Holds}
+use Rattle.acts.specs.declared.queue.Queues.{Queues}
+use Rattle.acts.specs.Tell.{At, InQueues, Pair}
 use Rattle.step.specs.declared.World.{World}
 
--- the box is in range, the grid and the number of cells are the box's
-pub record Placed (z : Sizes) (b : Domain) (m : Grid) : Type 0 where
-  pub laid : Laid b m
-  pub cells_are : cells b ≡ z.cells
-
 -- a cell of the box
-pub record Celled (z : Sizes) (w : World) (c : Cell) : Type 0 where
+pub record Celled (w : World) (c : Cell) : Type 0 where
   pub is : IsCell w.domain c
-  pub inside : c.index < z.cells
+  pub inside : c.index < w.sizes.cells
 
 -- grains and queues hold the state's, and it has this box and clock
-pub record Seen (z : Sizes) (w : World) (grains : List Float) (queue : List ℕ) (events : List Float) (order : List ℕ) (s : State) : Type 0 where
+pub record Seen (w : World) (grains : List Float) (q : Queues) (s : State) : Type 0 where
   pub at : At w.domain w.clock s
-  pub grained : Grained z grains s.grains
-  pub queued : Queued z queue events order s
+  pub grained : Grained w.sizes grains s.grains
+  pub queued : InQueues w.sizes q s
 
 -- the lists too
-pub record Held (z : Sizes) (w : World) (lists : List ℕ) (grains : List Float) (queue : List ℕ) (events : List Float) (order : List ℕ) (s : State) : Type 0 where
-  pub listed : Listed z lists s.homes s.members
-  pub seen : Seen z w grains queue events order s
+pub record Held (w : World) (lists : List ℕ) (grains : List Float) (q : Queues) (s : State) : Type 0 where
+  pub listed : Listed w.sizes lists s.homes s.members
+  pub seen : Seen w grains q s
 
 -- lists and queues hold the state's
-pub record Listing (z : Sizes) (lists : List ℕ) (queue : List ℕ) (events : List Float) (order : List ℕ) (s : State) : Type 0 where
+pub record Listing (z : Sizes) (lists : List ℕ) (q : Queues) (s : State) : Type 0 where
   pub listed : Listed z lists s.homes s.members
-  pub queued : Queued z queue events order s
+  pub queued : InQueues z q s
+
+-- the tables hold the state, it has this box, and the standing facts hold in it
+pub record Steady (w : World) (lists : List ℕ) (grains : List Float) (q : Queues) (s : State) : Type 0 where
+  pub holds : Holds w.sizes lists grains q.queue.now q.events.now q.order.now s
+  pub box : s.box ≡ w.domain
+  pub standing : Standing s
+  pub fitted : Fitted s
+
+-- of two worlds: all but the clock is the same
+pub record SameBox (old new : World) : Type 0 where
+  pub sizes : new.sizes ≡ old.sizes
+  pub domain : new.domain ≡ old.domain
+  pub grid : new.grid ≡ old.grid
 
 -- some state is so
 abbrev pub Some : (State → Type 0) → Type 0
@@ -51,10 +59,6 @@ Says Q r o = (r ≡ o.num) × Q o.st
 -- whatever state was so before
 pub record Does (P Q : State → Type 0) (r : ℕ) (act : State → Out State) : Type 0 where
   pub says : (s : State) → P s → Says Q r (act s)
-
--- nothing where q is the one left out
-abbrev pub unless : ℕ → (ℕ → State → Out State) → ℕ → State → Out State
-unless p act q s = cond (eqb p q) (out 0 s) (act q s)
 
 -- what an execution asks: grains and cells in range, and in a leaving that the pair list each other
 abbrev pub Apt : Sizes → Event → State → Type 0
@@ -70,6 +74,3 @@ is_sync (MoveToNeighbour p x k) = false
 is_sync (MoveOutOfCell p x k) = false
 is_sync (WallReflection p x v k) = false
 is_sync Synchronisation = true
-
-abbrev pub world_at : Domain → Grid → Float → World
-world_at b g t = record { domain = b; grid = g; clock = t }

@@ -1,27 +1,29 @@
 // init_events: the events that a start schedules, cell by cell.
-ghost use Rattle.std.specs.Prelude.{ℕ, ◌-◌, ◌<◌, ◌≤◌};
+ghost use Rattle.std.specs.Prelude.{ℕ, ◌<◌};
 ghost use Rattle.halting.specs.Out.{each, each_of};
 ghost use Rattle.halting.specs.Every.{All};
 ghost use Rattle.model.specs.Doing.{boundaries, pairs as pairsIn, sync_in, init_cell};
-ghost use Rattle.tables.specs.Holds.{Ready, Queued};
-ghost use Rattle.step.specs.World.{Placed, Celled, Seen, Held, Some, Does};
+ghost use Rattle.model.specs.Refusals.{number_of};
+ghost use Rattle.acts.specs.Tell.{IsReady, InQueues, SameTables};
+ghost use Rattle.step.specs.World.{Celled, Seen, Held, Some, Does};
 
 use crate::{World, schedule};
+use acts::links;
+use acts::queue::Queues;
 use cell::Cell;
+use model::Halt;
 use tables::Sizes;
 
 // The first synchronisation, in cell 0.
-fn sync_in(queue: &mut [u64], events: &mut [f64], order: &mut [u8], z: Sizes, cell: usize) -> u64
-    requires { Ready z queue.old events.old order.old × (cell < z.cells) }
-    ensures { Does (Queued z queue.old events.old order.old) (Queued z queue.new events.new order.new) result (sync_in cell) }
+fn sync_in(queues: &mut Queues, z: Sizes, cell: usize) -> Result<(), Halt>
+    requires { IsReady z queues.old × (cell < z.cells) }
+    ensures same { SameTables queues.old queues.new }
+    ensures does { Does (InQueues z queues.old) (InQueues z queues.new) (number_of result) (sync_in cell) }
 {
     if cell != 0 {
-        return 0;
+        return Ok(());
     }
-    acts::queue::insert(
-        queue,
-        events,
-        order,
+    queues.insert(
         z,
         0,
         tables::places::place_of(event::synchronisation::schedule(0.0)),
@@ -32,131 +34,70 @@ fn sync_in(queue: &mut [u64], events: &mut [f64], order: &mut [u8], z: Sizes, ce
 fn pairs(
     list: &[u64],
     grains: &[f64],
-    queue: &mut [u64],
-    events: &mut [f64],
-    order: &mut [u8],
-    z: Sizes,
+    queues: &mut Queues,
     w: World,
     cell: Cell,
-) -> u64
-    requires { Some (Seen z w grains.now queue.old events.old order.old) × Celled z w cell × All (λ (q : ℕ). q < z.grains) list.now }
-    ensures { Does (Seen z w grains.now queue.old events.old order.old)
-        (Seen z w grains.now queue.new events.new order.new) result (pairsIn cell.index list.now) }
+) -> Result<(), Halt>
+    requires { Some (Seen w grains.now queues.old) × Celled w cell × All (λ (q : ℕ). q < w.sizes.grains) list.now }
+    ensures same { SameTables queues.old queues.new }
+    ensures does { Does (Seen w grains.now queues.old) (Seen w grains.now queues.new) (number_of result) (pairsIn cell.index list.now) }
 {
-    if list.len() == 0 {
-        return 0;
+    for (i, &p) in list.iter().enumerate() {
+        schedule::schedule_collisions(&list[i + 1..], grains, queues, w, cell, p as usize)?;
     }
-    let r = schedule::schedule_collisions(
-        &list[1..],
-        grains,
-        queue,
-        events,
-        order,
-        z,
-        w,
-        cell,
-        list[0] as usize,
-        z.grains,
-    );
-    if r != 0 {
-        return r;
-    }
-    pairs(&list[1..], grains, queue, events, order, z, w, cell)
+    Ok(())
 }
 
 // What each of a list does at the cell's bounds.
 fn bounds_each(
     list: &[u64],
     grains: &[f64],
-    queue: &mut [u64],
-    events: &mut [f64],
-    order: &mut [u8],
-    z: Sizes,
+    queues: &mut Queues,
     w: World,
     cell: Cell,
-) -> u64
-    requires { Some (Seen z w grains.now queue.old events.old order.old) × Celled z w cell × All (λ (q : ℕ). q < z.grains) list.now }
-    ensures { Does (Seen z w grains.now queue.old events.old order.old)
-        (Seen z w grains.now queue.new events.new order.new) result (each_of (λ p. boundaries cell.index p) list.now) }
+) -> Result<(), Halt>
+    requires { Some (Seen w grains.now queues.old) × Celled w cell × All (λ (q : ℕ). q < w.sizes.grains) list.now }
+    ensures same { SameTables queues.old queues.new }
+    ensures does { Does (Seen w grains.now queues.old) (Seen w grains.now queues.new) (number_of result) (each_of (λ p. boundaries cell.index p) list.now) }
 {
-    if list.len() == 0 {
-        return 0;
+    for &p in list {
+        schedule::schedule_bounds(grains, queues, w, cell, p as usize)?;
     }
-    let r = schedule::schedule_bounds(grains, queue, events, order, z, w, cell, list[0] as usize);
-    if r != 0 {
-        return r;
-    }
-    bounds_each(&list[1..], grains, queue, events, order, z, w, cell)
+    Ok(())
 }
 
 // In one cell.
 pub fn init_cell(
     lists: &[u64],
     grains: &[f64],
-    queue: &mut [u64],
-    events: &mut [f64],
-    order: &mut [u8],
-    z: Sizes,
+    queues: &mut Queues,
     w: World,
     cell: usize,
-) -> u64
-    requires { Some (Held z w lists.now grains.now queue.old events.old order.old) × Placed z w.domain w.grid × (cell < z.cells) }
-    ensures { Does (Held z w lists.now grains.now queue.old events.old order.old)
-        (Held z w lists.now grains.now queue.new events.new order.new) result (init_cell cell) }
+) -> Result<(), Halt>
+    requires { Some (Held w lists.now grains.now queues.old) × (cell < w.sizes.cells) }
+    ensures same { SameTables queues.old queues.new }
+    ensures does { Does (Held w lists.now grains.now queues.old) (Held w lists.now grains.now queues.new) (number_of result) (init_cell cell) }
 {
-    let r = sync_in(queue, events, order, z, cell);
-    if r != 0 {
-        return r;
-    }
-    let m = acts::links::members_of(lists, z, cell);
-    let from = m.from;
-    let to = m.to;
-    let c = Cell::new(w.domain, w.grid, cell);
-    let r = pairs(&lists[from..to], grains, queue, events, order, z, w, c);
-    if r != 0 {
-        return r;
-    }
-    bounds_each(&lists[from..to], grains, queue, events, order, z, w, c)
-}
-
-// In the cells from one on.
-fn init_from(
-    lists: &[u64],
-    grains: &[f64],
-    queue: &mut [u64],
-    events: &mut [f64],
-    order: &mut [u8],
-    z: Sizes,
-    w: World,
-    cell: usize,
-) -> u64
-    requires { Some (Held z w lists.now grains.now queue.old events.old order.old) × Placed z w.domain w.grid × (cell ≤ z.cells) }
-    ensures { Does (Held z w lists.now grains.now queue.old events.old order.old)
-        (Held z w lists.now grains.now queue.new events.new order.new) result (each init_cell (z.cells - cell) cell) }
-{
-    if cell == z.cells {
-        return 0;
-    }
-    let r = init_cell(lists, grains, queue, events, order, z, w, cell);
-    if r != 0 {
-        return r;
-    }
-    init_from(lists, grains, queue, events, order, z, w, cell + 1)
+    sync_in(queues, w.sizes, cell)?;
+    let members = links::members_of(lists, w.sizes, cell);
+    let cell = Cell::new(w.domain, w.grid, cell);
+    pairs(members, grains, queues, w, cell)?;
+    bounds_each(members, grains, queues, w, cell)
 }
 
 // In all cells.
 pub fn init_events(
     lists: &[u64],
     grains: &[f64],
-    queue: &mut [u64],
-    events: &mut [f64],
-    order: &mut [u8],
-    z: Sizes,
+    queues: &mut Queues,
     w: World,
-) -> u64
-    requires { Some (Held z w lists.now grains.now queue.old events.old order.old) × Placed z w.domain w.grid }
-    ensures { Does (Held z w lists.now grains.now queue.old events.old order.old)
-        (Held z w lists.now grains.now queue.new events.new order.new) result (each init_cell z.cells 0) }
+) -> Result<(), Halt>
+    requires { Some (Held w lists.now grains.now queues.old) }
+    ensures same { SameTables queues.old queues.new }
+    ensures does { Does (Held w lists.now grains.now queues.old) (Held w lists.now grains.now queues.new) (number_of result) (each init_cell w.sizes.cells 0) }
 {
-    init_from(lists, grains, queue, events, order, z, w, 0)
+    for cell in 0..w.sizes.cells {
+        init_cell(lists, grains, queues, w, cell)?;
+    }
+    Ok(())
 }
