@@ -6,100 +6,64 @@ ghost use Rattle.std.specs.Prelude.{◌≤◌, length};
 use std::io::{Read, Stdin, Stdout};
 use text::hex_value;
 
-// What is read: a word, something that is none, or the end.
-#[derive(Clone, Copy)]
-pub enum Word {
-    Bits(u64),
-    Bad,
-    End,
-}
+// What stands on standard input is no word: it is cut off, or one of its digits is none.
+#[derive(Clone, Copy, Debug, PartialEq, Eq)]
+pub struct BadWord;
 
 // The word that 16 digits spell.
-fn spelled(text: &[u8; 17]) -> Word {
-    let mut bits = 0u64;
-    for i in 0..16usize {
-        let d = hex_value(text[i]);
-        if d > 15 {
-            return Word::Bad;
-        }
-        bits = bits % 1152921504606846976 * 16 + d;
+fn spelled(digits: &[u8]) -> Option<u64> {
+    let mut word = 0u64;
+    for &b in digits {
+        word = word % (1 << 60) * 16 + hex_value(b)?;
     }
-    Word::Bits(bits)
-}
-
-// One read, of at most so many bytes as the buffer has; none where it fails.
-fn read_some(input: Stdin, buf: &mut [u8]) -> usize
-    ensures { result ≤ length buf.new }
-{
-    let mut from = input;
-    match from.read(buf) {
-        Ok(n) => n,
-        Err(_) => 0,
-    }
+    Some(word)
 }
 
 // Reads until the buffer is full, the input ends or a read fails; how many bytes came.
-fn read_full(input: Stdin, buf: &mut [u8; 17]) -> usize {
-    let mut done: usize = 0;
+fn read_full(mut input: Stdin, buf: &mut [u8]) -> usize
+    ensures { result ≤ length buf.new }
+{
+    let mut done = 0;
     while done < buf.len() {
-        let n = read_some(input, &mut buf[done..]);
-        if n == 0 {
-            break;
+        match input.read(&mut buf[done..]) {
+            Ok(n) if n > 0 => done += n,
+            _ => break,
         }
-        done += n;
     }
     done
 }
 
-// The next word; one that is cut off is none.
-pub fn read(input: Stdin) -> Word {
+// The next word, where the input has not ended.
+pub fn read(input: Stdin) -> Result<Option<u64>, BadWord> {
     let mut text = [0u8; 17];
-    let n = read_full(input, &mut text);
-    if n == 0 {
-        return Word::End;
-    }
-    if n < 17 {
-        return Word::Bad;
-    }
-    spelled(&text)
-}
-
-// A word that is no length, no count and no answer.
-pub const NONE: u64 = 18446744073709551615;
-
-// The next word, or NONE where it is none.
-pub fn next(input: Stdin) -> u64 {
-    let word = read(input);
-    match word {
-        Word::Bits(bits) => bits,
-        _ => NONE,
+    match read_full(input, &mut text) {
+        0 => Ok(None),
+        17 => spelled(&text[..16]).map(Some).ok_or(BadWord),
+        _ => Err(BadWord),
     }
 }
 
-// Fills a table with the next words; false at the first that is none.
-pub fn fill(input: Stdin, t: &mut [u64]) -> bool {
-    let mut i = 0;
-    while i < t.len() {
-        let word = read(input);
-        let Word::Bits(bits) = word else {
-            return false;
-        };
-        t[i] = bits;
-        i += 1;
-    }
-    true
+// The next word, where there is one and it is good.
+pub fn next(input: Stdin) -> Option<u64> {
+    read(input).ok().flatten()
 }
 
-// How much a comparison adds to those that differ.
-pub fn miss(same: bool) -> u64
-    ensures { result ≤ 1 }
-{
-    if same { 0 } else { 1 }
+// Fills a table with the next words, up to the first that is none.
+pub fn fill(input: Stdin, t: &mut [u64]) -> Option<()> {
+    for place in t {
+        *place = next(input)?;
+    }
+    Some(())
+}
+
+// The next words, up to the first that is none.
+pub fn array<const N: usize>(input: Stdin) -> Option<[u64; N]> {
+    let mut words = [0; N];
+    fill(input, &mut words)?;
+    Some(words)
 }
 
 // One line: how many were compared, of what, and how many differ.
-pub fn report(out: Stdout, compared: u64, what: &[u8], differ: u64) {
-    let _ = print!(out; "{compared} ");
-    let _ = out.write_all(what);
-    let _ = println!(out; ", {differ} differ");
+pub fn report(out: Stdout, compared: u64, what: &str, differ: u64) {
+    let _ = println!(out; "{compared} {what}, {differ} differ");
 }
