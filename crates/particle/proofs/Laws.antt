@@ -1,33 +1,19 @@
--- A position after a step, and spans of cells: the list that they stand for is the list of the rule. Assumes nothing.
+-- The list of cells that spans stand for is the list of the rule. Assumes nothing.
 use Prim.Native.Nat.{ℕ}
-use mathlib.Core.Path.{◌≡◌, refl, sym, ap, ◌∙◌}
+use mathlib.Core.Path.{◌≡◌, refl, ap, ◌∙◌}
 use mathlib.Core.Bool.{Bool, true, false, cond}
-use mathlib.Core.List.{List, [], ◌∷◌, ◌++◌, map, append-nil, append_assoc}
+use mathlib.Core.List.{◌++◌, append-nil}
 use native.Mathlib.Nat.{sub_self}
 use lib.Ieee.{Float, binary64, add, sub, lt}
 use Rattle.order.specs.Numbers.{fzero}
-use Rattle.myvec.specs.declared.MyVec.{MyVec}
-use Rattle.myvec.specs.Vec.{vec, vadd, vscale}
 use Rattle.model.specs.declared.Domain.{Domain}
 use Rattle.model.specs.declared.Particle.{Particle}
-use Rattle.model.specs.Grid.{length_of, across, cell_at}
-use Rattle.model.specs.Stepping.{wrapped, new_pos}
+use Rattle.model.specs.Grid.{length_of, across}
 use Rattle.model.specs.FromPToC.{up_from, between, reached, cells_at, cells_of_grain}
 use Rattle.particle.specs.declared.Span.{Span}
-use Rattle.particle.specs.declared.Spans.{Spans}
 use Rattle.particle.specs.Spans.{cells_in, joined, alone, spans_of}
 
--- ---- stepping, by the values on the way
-pub stepped_by : (b : Domain) (x v : MyVec) (dt : Float) (s y : MyVec) (a c : Float) (r : MyVec) → s ≡ vscale v dt → y ≡ vadd x s
-    → a ≡ wrapped (length_of 0 b) y.x → c ≡ wrapped (length_of 1 b) y.y → r ≡ vec a c → r ≡ new_pos b x v dt
-unfolding new_pos
-stepped_by b x v dt s y a c r p q t u e =
-    e ∙ (λ i. vec (t i) (u i)) ∙ ap (λ (y : MyVec). vec (wrapped (length_of 0 b) y.x) (wrapped (length_of 1 b) y.y)) (q ∙ ap (vadd x) p)
-
 -- ---- spans
-pub joined_by : (p q p' q' : Span) (r : Spans) → p ≡ p' → q ≡ q' → r ≡ joined p q → r ≡ joined p' q'
-joined_by p q p' q' r a b e = e ∙ (λ i. joined (a i) (b i))
-
 alone_list : (p : Span) → cells_in (alone p) ≡ between p.lo p.hi
 unfolding up_from
 alone_list p = ap (λ (k : ℕ). between p.lo p.hi ++ up_from p.hi k) (sub_self p.hi) ∙ append-nil (between p.lo p.hi)
@@ -50,8 +36,3 @@ pub grain_list : (b : Domain) (p : Particle)
 unfolding cells_of_grain
 grain_list b p = λ i.
     cells_at b (spans_list (length_of 0 b) (across 0 b) p.rad p.pos.x i) (spans_list (length_of 1 b) (across 1 b) p.rad p.pos.y i)
-
-pub rows_append : (b : Domain) (is js ks : List ℕ) → cells_at b is (js ++ ks) ≡ cells_at b is js ++ cells_at b is ks
-unfolding cells_at
-rows_append b is [] ks = refl
-rows_append b is (j ∷ js) ks = ap (λ (l : List ℕ). map (λ (i : ℕ). cell_at b i j) is ++ l) (rows_append b is js ks) ∙ sym (append_assoc (map (λ (i : ℕ). cell_at b i j) is) (cells_at b is js) (cells_at b is ks))

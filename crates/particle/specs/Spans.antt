@@ -9,16 +9,17 @@ use Rattle.particle.specs.declared.Spans.{Spans}
 
 -- the numbers that they stand for, one span after the other
 abbrev pub cells_in : Spans → List ℕ
-cells_in s = between s.a0 s.b0 ++ between s.a1 s.b1
+cells_in s = between s.first.lo s.first.hi ++ between s.second.lo s.second.hi
 
 abbrev pub span_of : Float → ℕ → Float → Float → Span
 span_of l n min max = record { lo = first_cell l n min; hi = end_cell l n max }
 
 abbrev pub joined : Span → Span → Spans
-joined p q = record { a0 = p.lo; b0 = p.hi; a1 = q.lo; b1 = q.hi }
+joined p q = record { first = p; second = q }
 
+-- one span, and an empty one behind it
 abbrev pub alone : Span → Spans
-alone p = record { a0 = p.lo; b0 = p.hi; a1 = p.hi; b1 = p.hi }
+alone p = joined p (record { lo = p.hi; hi = p.hi })
 
 -- by the lower and the upper end of a grain of radius rad at x: across the low edge, across the high edge, or across neither
 unfoldable pub spans_of : Float → ℕ → Float → Float → Spans

@@ -21,15 +21,16 @@ fn wrapped(length: f64, x: f64) -> f64
     ensures { result ≡ stepping.wrapped length x }
 {
     if x < 0.0 {
-        return x + length;
+        x + length
+    } else if length < x {
+        x - length
+    } else {
+        x
     }
-    if length < x {
-        return x - length;
-    }
-    x
 }
 
 // Where a grain is after dt.
+#[tactic(auto, unfolding(model::specs::Stepping::new_pos))]
 pub fn get_new_pos(domain: Domain, pos: MyVec, vel: MyVec, dt: f64) -> MyVec
     ensures { result ≡ stepping.new_pos domain pos vel dt }
 {
@@ -44,9 +45,7 @@ pub fn get_new_pos(domain: Domain, pos: MyVec, vel: MyVec, dt: f64) -> MyVec
 pub fn stepped(domain: Domain, time: f64, p: Particle) -> Particle
     ensures { result ≡ stepping.stepped domain time p }
 {
-    let pos = p.pos;
-    let vel = p.vel;
-    p.landed(get_new_pos(domain, pos, vel, time - p.time), time)
+    p.landed(get_new_pos(domain, p.pos, p.vel, time - p.time), time)
 }
 
 // ---- what may be stored
@@ -64,11 +63,11 @@ pub fn fine_vec(v: MyVec) -> bool
 }
 
 // Whether all numbers of a grain are finite: refusal 5 where not.
+#[tactic(auto, unfolding(model::specs::Acts::fine_grain))]
 pub fn fine_grain(p: Particle) -> bool
     ensures { result ≡ fine_grain p }
 {
-    fine_vec(p.pos)
-        && (fine_vec(p.vel) && (is_finite(p.time) && (is_finite(p.val) && is_finite(p.rad))))
+    fine_vec(p.pos) && fine_vec(p.vel) && is_finite(p.time) && is_finite(p.val) && is_finite(p.rad)
 }
 
 // ---- what may be started
@@ -80,9 +79,10 @@ fn place_ok(domain: Domain, dim: usize, p: Particle) -> bool
     let length = domain.lengths.along(dim);
     let x = p.pos.along(dim);
     if cell::periodic(domain, dim) {
-        return cell::within(0.0, length, x);
+        cell::within(0.0, length, x)
+    } else {
+        cell::within(p.rad, length - p.rad, x)
     }
-    cell::within(p.rad, length - p.rad, x)
 }
 
 fn pos_ok(domain: Domain, p: Particle) -> bool
@@ -110,9 +110,9 @@ pub fn grain_ok(domain: Domain, p: Particle) -> bool
     ensures { result ≡ grain_ok domain p }
 {
     pos_ok(domain, p)
-        && (vel_ok(p.vel)
-            && (cell::within(LEAST_VAL, GREATEST_VAL, p.val)
-                && cell::within(Particle::LEAST_RADIUS, Particle::GREATEST_RADIUS, p.rad)))
+        && vel_ok(p.vel)
+        && cell::within(LEAST_VAL, GREATEST_VAL, p.val)
+        && cell::within(Particle::LEAST_RADIUS, Particle::GREATEST_RADIUS, p.rad)
 }
 
 // ---- from_p_to_c
@@ -131,7 +131,7 @@ fn smaller(a: f64, b: f64) -> f64
 }
 
 // Cells of one direction, from lo to below hi.
-#[derive(Clone, Copy)]
+#[derive(Clone, Copy, Debug, PartialEq, Eq)]
 pub struct Span {
     pub lo: usize,
     pub hi: usize,
@@ -151,38 +151,29 @@ fn kernel(length: f64, n: usize, min: f64, max: f64) -> Span
 }
 
 // Two spans of cells, one after the other.
-#[derive(Clone, Copy)]
+#[derive(Clone, Copy, Debug, PartialEq, Eq)]
 pub struct Spans {
-    pub a0: usize,
-    pub b0: usize,
-    pub a1: usize,
-    pub b1: usize,
+    pub first: Span,
+    pub second: Span,
 }
 
-fn joined(p: Span, q: Span) -> Spans
-    ensures { result ≡ spans.joined p q }
-{
-    Spans {
-        a0: p.lo,
-        b0: p.hi,
-        a1: q.lo,
-        b1: q.hi,
-    }
-}
-
-// One span, and an empty one behind it.
-fn alone(p: Span) -> Spans
-    ensures { result ≡ spans.alone p }
-{
-    Spans {
-        a0: p.lo,
-        b0: p.hi,
-        a1: p.hi,
-        b1: p.hi,
+impl Spans {
+    // One span, and an empty one behind it.
+    fn alone(span: Span) -> Self
+        ensures { result ≡ spans.alone span }
+    {
+        Self {
+            first: span,
+            second: Span {
+                lo: span.hi,
+                hi: span.hi,
+            },
+        }
     }
 }
 
 // The cells of one direction that a grain of radius rad at pos touches, those at the low edge first where it lies across both.
+#[tactic(auto, unfolding(crate::specs::Spans::spans_of))]
 pub fn touched(length: f64, n: usize, rad: f64, pos: f64) -> Spans
     requires { n ≤ 256 }
     ensures { result ≡ spans_of length n rad pos }
@@ -190,16 +181,16 @@ pub fn touched(length: f64, n: usize, rad: f64, pos: f64) -> Spans
     let min = pos - rad;
     let max = pos + rad;
     if min < 0.0 {
-        return joined(
-            kernel(length, n, 0.0, max),
-            kernel(length, n, length + min, length),
-        );
+        Spans {
+            first: kernel(length, n, 0.0, max),
+            second: kernel(length, n, length + min, length),
+        }
+    } else if length < max {
+        Spans {
+            first: kernel(length, n, 0.0, max - length),
+            second: kernel(length, n, min, length),
+        }
+    } else {
+        Spans::alone(kernel(length, n, min, max))
     }
-    if length < max {
-        return joined(
-            kernel(length, n, 0.0, max - length),
-            kernel(length, n, min, length),
-        );
-    }
-    alone(kernel(length, n, min, max))
 }
