@@ -8,6 +8,10 @@ use Rattle.text.specs.Numerals.{hex_val}
 abbrev pub start_of : Reader
 start_of = record { at = 0; n = 0; seen = 0; numbers = replicate numbers_held 0 }
 
+-- a plan's last place
+abbrev pub last_of : List ℕ → ℕ
+last_of plan = length plan - 1
+
 -- the reader at another place, with another n and other numbers
 abbrev pub reader_with : Reader → ℕ → ℕ → List ℕ → Reader
 reader_with r at n numbers = record { at = at; n = n; seen = r.seen; numbers = numbers }
@@ -68,8 +72,8 @@ wanted_of last line r b want =
 unfoldable pub feed_of : List ℕ → ℕ → Reader → ℕ → Reader
 feed_of plan line r b =
     cond (leb (length plan) r.at) r
-    (cond (eqb r.at line) (cond (leb r.n r.seen) (stuck_of r) (wanted_of (length plan - 1) line r b (get_or plan r.at 0)))
-    (wanted_of (length plan - 1) line r b (get_or plan r.at 0)))
+    (cond (eqb r.at line) (cond (leb r.n r.seen) (stuck_of r) (wanted_of (last_of plan) line r b (get_or plan r.at 0)))
+    (wanted_of (last_of plan) line r b (get_or plan r.at 0)))
 
 -- bytes one after the other, whatever each makes of a state
 abbrev pub fed_by : {R : Type 0} → (R → ℕ → R) → R → List ℕ → R

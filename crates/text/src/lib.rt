@@ -6,5 +6,5 @@ mod reader;
 mod writer;
 
 pub use hex::{bits_of_float, float_of_bits, hex_value};
-pub use reader::{NUMBERS, Reader, start};
+pub use reader::{NUMBERS, Reader, TextPlan, start};
 pub use writer::{put_bytes, put_decimal, put_field};

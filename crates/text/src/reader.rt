@@ -4,12 +4,12 @@
 // + for its others and the CR after them, any other byte for itself. From `line` on it shows one of n lines.
 ghost use Rattle.std.specs.Prelude.{◌≡◌, ◌<◌};
 ghost use Rattle.text.specs.Letters.{numbers_held};
-ghost use Rattle.text.specs.Reading.{start_of, stuck_of, next_of, stepped_of, numbered_of, hexed_of, flagged_of, matched_of, counted_of, first_of, more_of, wanted_of, feed_of, fine_of};
+ghost use Rattle.text.specs.Reading.{start_of, last_of, stuck_of, stepped_of, numbered_of, hexed_of, flagged_of, matched_of, counted_of, first_of, more_of, wanted_of, feed_of, fine_of};
 
 use crate::hex::hex_value;
 
 // The place past every plan, where a reader is stuck.
-const STUCK: usize = 18446744073709551615;
+const STUCK: usize = usize::MAX;
 
 // The numbers that a plan can name, and its letters for them: from A on one for a digit of each, behind those one for a flag among them.
 pub const NUMBERS: usize = 13;
@@ -19,6 +19,22 @@ const HEX: u8 = b'A';
 const FLAG: u8 = HEX + NUMBERS as u8;
 
 const PAST: u8 = FLAG + NUMBERS as u8;
+
+// A plan: the text that it shows, and where its line begins.
+#[derive(Clone, Copy)]
+pub struct TextPlan<'a> {
+    pub shown: &'a [u8],
+    pub line: usize,
+}
+
+impl TextPlan<'_> {
+    // The last place.
+    fn last(self) -> usize
+        ensures { result ≡ last_of self.entry.shown.now }
+    {
+        self.shown.len().saturating_sub(1)
+    }
+}
 
 // What was read: the place in the plan, n, the lines ended, and the numbers that the plan names.
 #[derive(Clone, Copy)]
@@ -33,47 +49,34 @@ pub struct Reader {
 pub fn start() -> Reader
     ensures { result ≡ start_of }
 {
-    let numbers = [0u64; NUMBERS];
     Reader {
         at: 0,
         n: 0,
         seen: 0,
-        numbers,
+        numbers: [0; NUMBERS],
     }
 }
 
 impl Reader {
     // No text of the form goes on so.
-    fn stuck(mut self) -> Reader
+    fn stuck(self) -> Reader
         ensures { result ≡ stuck_of self }
     {
-        self.at = STUCK;
-        self
-    }
-
-    // On to the next line.
-    fn next(mut self, line: usize) -> Reader
-        requires { self.seen < self.n }
-        ensures { result ≡ next_of line self }
-    {
-        self.at = line;
-        self.seen = self.seen + 1;
-        self
+        Reader { at: STUCK, ..self }
     }
 
     // On to the next place; from the plan's last to the next line.
-    fn step(mut self, last: usize, line: usize) -> Reader
-        ensures { result ≡ stepped_of last line self }
+    #[tactic(auto, unfolding(crate::specs::Reading::stepped_of))]
+    fn step(self, plan: TextPlan) -> Reader
+        ensures { result ≡ stepped_of (last_of plan.entry.shown.now) plan.entry.line self }
     {
-        let at = self.at;
-        if at < last {
-            self.at = at + 1;
-            return self;
+        if self.at < plan.last() {
+            return Reader { at: self.at + 1, ..self };
         }
         if self.n <= self.seen {
             return self.stuck();
         }
-        self.next(line)
+        Reader { at: plan.line, seen: self.seen + 1, ..self }
     }
 
     // Number j is v.
@@ -86,137 +89,105 @@ impl Reader {
     }
 
     // A hexadecimal digit of number j. Sixteen push out whatever stood there.
-    fn hexed(self, last: usize, line: usize, b: u8, j: usize) -> Reader
+    #[tactic(auto, unfolding(crate::specs::Reading::hexed_of))]
+    fn hexed(self, plan: TextPlan, b: u8, j: usize) -> Reader
         requires { j < numbers_held }
-        ensures { result ≡ hexed_of last line self b j }
+        ensures { result ≡ hexed_of (last_of plan.entry.shown.now) plan.entry.line self b j }
     {
-        let Some(d) = hex_value(b) else {
-            return self.stuck();
-        };
-        let v = self.numbers[j];
-        let next = self.numbered(j, v % 1152921504606846976 * 16 + d);
-        next.step(last, line)
+        match hex_value(b) {
+            Some(d) => self.numbered(j, (self.numbers[j] << 4) + d).step(plan),
+            None => self.stuck(),
+        }
     }
 
     // Number j is 0 or 1.
-    fn flagged(self, last: usize, line: usize, b: u8, j: usize) -> Reader
+    #[tactic(auto, unfolding(crate::specs::Reading::flagged_of))]
+    fn flagged(self, plan: TextPlan, b: u8, j: usize) -> Reader
         requires { j < numbers_held }
-        ensures { result ≡ flagged_of last line self b j }
+        ensures { result ≡ flagged_of (last_of plan.entry.shown.now) plan.entry.line self b j }
     {
-        if b == 48 {
-            let next = self.numbered(j, 0);
-            return next.step(last, line);
+        match b {
+            b'0' => self.numbered(j, 0).step(plan),
+            b'1' => self.numbered(j, 1).step(plan),
+            _ => self.stuck(),
         }
-        if b == 49 {
-            let next = self.numbered(j, 1);
-            return next.step(last, line);
-        }
-        self.stuck()
     }
 
     // The byte that the plan shows.
-    fn matched(self, last: usize, line: usize, b: u8, want: u8) -> Reader
-        ensures { result ≡ matched_of last line self b want }
+    #[tactic(auto, unfolding(crate::specs::Reading::matched_of))]
+    fn matched(self, plan: TextPlan, b: u8, want: u8) -> Reader
+        ensures { result ≡ matched_of (last_of plan.entry.shown.now) plan.entry.line self b want }
     {
-        if b == want {
-            return self.step(last, line);
-        }
-        self.stuck()
+        if b == want { self.step(plan) } else { self.stuck() }
     }
 
     // n is what it was and the digit d, where that fits 64 bits.
-    fn counted(mut self, d: u64) -> Reader
+    #[tactic(auto, unfolding(crate::specs::Reading::counted_of))]
+    fn counted(self, d: u64) -> Reader
         requires { d < 10 }
         ensures { result ≡ counted_of self d }
     {
-        if (18446744073709551615 - d) / 10 < self.n {
-            return self.stuck();
+        match self.n.checked_mul(10).and_then(|n| n.checked_add(d)) {
+            Some(n) => Reader { n, ..self },
+            None => self.stuck(),
         }
-        self.n = self.n * 10 + d;
-        self
     }
 
     // The first digit of n.
-    fn first(mut self, last: usize, line: usize, b: u8) -> Reader
-        ensures { result ≡ first_of last line self b }
+    #[tactic(auto, unfolding(crate::specs::Reading::first_of))]
+    fn first(self, plan: TextPlan, b: u8) -> Reader
+        ensures { result ≡ first_of (last_of plan.entry.shown.now) plan.entry.line self b }
     {
-        if b < 48 {
-            return self.stuck();
+        match b {
+            b'0'..=b'9' => Reader { n: (b - b'0') as u64, ..self }.step(plan),
+            _ => self.stuck(),
         }
-        if 57 < b {
-            return self.stuck();
-        }
-        self.n = b as u64 - 48;
-        self.step(last, line)
     }
 
     // A further digit of n, or the CR after it. No digit follows a 0 that came first.
-    fn more(self, last: usize, line: usize, b: u8) -> Reader
-        ensures { result ≡ more_of last line self b }
+    #[tactic(auto, unfolding(crate::specs::Reading::more_of))]
+    fn more(self, plan: TextPlan, b: u8) -> Reader
+        ensures { result ≡ more_of (last_of plan.entry.shown.now) plan.entry.line self b }
     {
-        if b == 13 {
-            return self.step(last, line);
+        match b {
+            b'\r' => self.step(plan),
+            b'0'..=b'9' if self.n != 0 => self.counted((b - b'0') as u64),
+            _ => self.stuck(),
         }
-        if b < 48 {
-            return self.stuck();
-        }
-        if 57 < b {
-            return self.stuck();
-        }
-        if self.n == 0 {
-            return self.stuck();
-        }
-        self.counted(b as u64 - 48)
     }
 
     // By what the plan shows.
-    fn wanted(self, last: usize, line: usize, b: u8, want: u8) -> Reader
-        ensures { result ≡ wanted_of last line self b want }
+    #[tactic(auto, unfolding(crate::specs::Reading::wanted_of))]
+    fn wanted(self, plan: TextPlan, b: u8, want: u8) -> Reader
+        ensures { result ≡ wanted_of (last_of plan.entry.shown.now) plan.entry.line self b want }
     {
-        if want == 35 {
-            return self.first(last, line, b);
+        match want {
+            b'#' => self.first(plan, b),
+            b'+' => self.more(plan, b),
+            HEX..FLAG => self.hexed(plan, b, (want - HEX) as usize),
+            FLAG..PAST => self.flagged(plan, b, (want - FLAG) as usize),
+            _ => self.matched(plan, b, want),
         }
-        if want == 43 {
-            return self.more(last, line, b);
-        }
-        if want < HEX {
-            return self.matched(last, line, b, want);
-        }
-        if want < FLAG {
-            return self.hexed(last, line, b, (want - HEX) as usize);
-        }
-        if want < PAST {
-            return self.flagged(last, line, b, (want - FLAG) as usize);
-        }
-        self.matched(last, line, b, want)
     }
 
     // One byte more. After n lines there is none.
-    pub fn feed(self, plan: &[u8], line: usize, b: u8) -> Reader
-        ensures { result ≡ feed_of plan.now line self b }
+    #[tactic(auto, unfolding(crate::specs::Reading::feed_of))]
+    pub fn feed(self, plan: TextPlan, b: u8) -> Reader
+        ensures { result ≡ feed_of plan.entry.shown.now plan.entry.line self b }
     {
-        let at = self.at;
-        if plan.len() <= at {
+        let Some(&want) = plan.shown.get(self.at) else {
             return self;
+        };
+        if self.at == plan.line && self.n <= self.seen {
+            return self.stuck();
         }
-        let want = plan[at];
-        let last = plan.len() - 1;
-        if at == line {
-            if self.n <= self.seen {
-                return self.stuck();
-            }
-            return self.wanted(last, line, b, want);
-        }
-        self.wanted(last, line, b, want)
+        self.wanted(plan, b, want)
     }
 
     // A text of the form is over: n lines were read, and no byte more.
-    pub fn fine(self, line: usize) -> bool
-        ensures { result ≡ fine_of line self }
+    pub fn fine(self, plan: TextPlan) -> bool
+        ensures { result ≡ fine_of plan.entry.line self }
     {
-        if self.at == line {
-            return self.seen == self.n;
-        }
-        false
+        self.at == plan.line && self.seen == self.n
     }
 }
