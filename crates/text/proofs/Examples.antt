@@ -5,6 +5,7 @@ use mathlib.Core.Bool.{true, false}
 use Prim.Native.Nat.{ℕ, ◌-◌}
 use lib.Dec.{lit<}
 use lib.ListN.{replicate}
+use Rattle.std.specs.Prelude.{Some}
 use Rattle.text.specs.declared.reader.Reader.{Reader}
 use Rattle.text.specs.Letters.{numbers_held}
 use Rattle.text.specs.Bytes.{bytes}
@@ -44,7 +45,7 @@ example_spelled = refl
 read : List ℕ → Reader
 read s = closed_of plan line (feed_all plan line start_of s)
 
-example_read : read example ≡ record { at = line; n = 2; seen = 2; numbers = 7 ∷ 1 ∷ replicate (numbers_held - 2) 0 }
+example_read : read example ≡ record { at = Some line; n = 2; seen = 2; numbers = 7 ∷ 1 ∷ replicate (numbers_held - 2) 0 }
 unfolding stepped_of hexed_of flagged_of matched_of counted_of first_of more_of wanted_of feed_of read
 example_read = refl
 

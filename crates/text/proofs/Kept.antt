@@ -9,10 +9,11 @@ use native.Mathlib.Omega.{arith}
 use lib.Dec.{ltb, leb, eqb}
 use lib.ListN.{length, get_or, replicate}
 use borrow.Author.Tests.{lt-ltb, le-ltb}
+use Rattle.std.specs.Prelude.{Option, Some}
 use Rattle.text.specs.declared.reader.Reader.{Reader}
 use Rattle.text.specs.Letters.{numbers_held, hex_letter, flag_letter, letters_end}
 use Rattle.text.specs.Numerals.{hex_val}
-use Rattle.text.specs.Reading.{start_of, reader_with, stuck_of, next_of, stepped_of, hexed_of, flagged_of, matched_of, counted_of, first_of, more_of, wanted_of, feed_of, feed_all}
+use Rattle.text.specs.Reading.{place, start_of, reader_with, stuck_of, next_of, stepped_of, hexed_of, flagged_of, matched_of, counted_of, first_of, more_of, wanted_of, feed_of, feed_all}
 use Rattle.text.specs.Plan.{Values, spelled, loaded, count_read, Form, spelled_rows, spelled_text}
 use Rattle.text.proofs.Forward.{loaded_length, last_place, end_fed, row_fed, before, head_fed}
 
@@ -25,7 +26,7 @@ either true p q = p
 either false p q = q
 
 -- the same number of lines at another place, with another n and other numbers
-up_put : {k : ℕ} {r : Reader} (at n : ℕ) (g : List ℕ) → Up k r → Up k (reader_with r at n g)
+up_put : {k : ℕ} {r : Reader} (at : Option ℕ) (n : ℕ) (g : List ℕ) → Up k r → Up k (reader_with r at n g)
 up_put at n g h = record { up = h.up }
 
 up_stuck : {k : ℕ} {r : Reader} → Up k r → Up k (stuck_of r)
@@ -34,7 +35,7 @@ up_stuck h = record { up = h.up }
 module _ (last line : ℕ) {k : ℕ} {r : Reader} (h : Up k r) where
   up_step : Up k (stepped_of last line r)
   unfolding stepped_of
-  up_step = let u = h.up in either (ltb r.at last) (up_put _ _ _ h) (either (leb r.n r.seen) (up_stuck h) (record { up = omega (arith, u) }))
+  up_step = let u = h.up in either (ltb (place r) last) (up_put _ _ _ h) (either (leb r.n r.seen) (up_stuck h) (record { up = omega (arith, u) }))
 
 module _ (last line : ℕ) {k : ℕ} {r : Reader} (h : Up k r) where
   up_first : (b : ℕ) → Up k (first_of last line r b)
@@ -82,8 +83,8 @@ module _ (plan : List ℕ) (line : ℕ) where
 
       go : Up r.seen (feed_of plan line r b)
       go =
-          let w = up_wanted (length plan - 1) line h b (get_or plan r.at 0) in
-          either (leb (length plan) r.at) h (either (eqb r.at line) (either (leb r.n r.seen) (up_stuck h) w) w)
+          let w = up_wanted (length plan - 1) line h b (get_or plan (place r) 0) in
+          either (leb (length plan) (place r)) h (either (eqb (place r) line) (either (leb r.n r.seen) (up_stuck h) w) w)
 
   up_all : (s : List ℕ) (r : Reader) → r.seen ≤ (feed_all plan line r s).seen
   up_all [] r = le_refl r.seen
@@ -128,7 +129,7 @@ module _ {plan : List ℕ} {line : ℕ} (f : Form plan line) {A : Type 0} (keep 
   line_kept w n seen g rest a N o =
       let r = before f n seen g in
       let g' = loaded f.row w g in
-      let q = reader_with r (last_place f) n g' in
+      let q = reader_with r (Some (last_place f)) n g' in
       let up : seen < seen + 1 = omega arith in
       quiet_then plan line keep (spelled f.row w) (f.end ∷ rest) r q a (ap (feed_all plan line r) (sym (append-nil (spelled f.row w))) ∙ row_fed f w r n g [] N o) refl
       ∙ ap (λ (z : Reader). kept_all plan line keep z (kept_of plan line keep q z a) rest) (end_fed f r n g' o)

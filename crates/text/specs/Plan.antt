@@ -1,5 +1,5 @@
 -- What a plan shows: a text as a row of pieces, and the numbers that it spells. Assumes nothing.
-use Rattle.std.specs.Prelude.{◌≡◌, ◌⊎◌, List, [], ◌∷◌, ◌++◌, Bool, true, false, ◌&&◌, cond, ℕ, ◌+◌, T, ltb, eqb, length, set, replicate}
+use Rattle.std.specs.Prelude.{◌≡◌, ◌⊎◌, List, [], ◌∷◌, ◌++◌, Bool, true, false, ◌&&◌, cond, Some, ℕ, ◌+◌, T, ltb, eqb, length, set, replicate}
 use Rattle.text.specs.declared.reader.Reader.{Reader}
 use Rattle.text.specs.Letters.{numbers_held, hex_letter, flag_letter, letters_end}
 use Rattle.text.specs.Bytes.{bytes}
@@ -109,4 +109,4 @@ module _ {plan : List ℕ} {line : ℕ} (f : Form plan line) where
 
   -- what the reader holds after it
   abbrev pub held_of : Values f.head → List (Values f.row) → Reader
-  held_of w ws = record { at = line; n = length ws; seen = length ws; numbers = loaded_rows ws (loaded f.head w (replicate numbers_held 0)) }
+  held_of w ws = record { at = Some line; n = length ws; seen = length ws; numbers = loaded_rows ws (loaded f.head w (replicate numbers_held 0)) }

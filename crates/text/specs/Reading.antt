@@ -1,32 +1,37 @@
 -- The turns of the reader that goes by a plan: `feed_all plan line start_of s` is what it makes of the bytes s. A place is one of the plan's: the plan's last
 -- is `last`, and `line` is where one of the n lines begins. Assumes nothing.
-use Rattle.std.specs.Prelude.{List, [], ◌∷◌, Bool, false, cond, ℕ, ◌+◌, ◌-◌, ◌*◌, ◌/◌, ◌%◌, ltb, leb, eqb, length, get_or, set, replicate}
+use Rattle.std.specs.Prelude.{List, [], ◌∷◌, Bool, false, cond, Option, Some, None, unwrap_or, ℕ, ◌+◌, ◌-◌, ◌*◌, ◌/◌, ◌%◌, ltb, leb, eqb, length, get_or, set, replicate}
+use Rattle.core.specs.Option.{option_eq}
 use Rattle.text.specs.declared.reader.Reader.{Reader}
 use Rattle.text.specs.Letters.{numbers_held, hex_letter, flag_letter, letters_end}
 use Rattle.text.specs.Numerals.{hex_val}
 
 abbrev pub start_of : Reader
-start_of = record { at = 0; n = 0; seen = 0; numbers = replicate numbers_held 0 }
+start_of = record { at = Some 0; n = 0; seen = 0; numbers = replicate numbers_held 0 }
 
 -- a plan's last place
 abbrev pub last_of : List ℕ → ℕ
 last_of plan = length plan - 1
 
+-- the reader's place in the plan, past every plan where it is stuck
+abbrev pub place : Reader → ℕ
+place r = unwrap_or r.at 18446744073709551615
+
 -- the reader at another place, with another n and other numbers
-abbrev pub reader_with : Reader → ℕ → ℕ → List ℕ → Reader
+abbrev pub reader_with : Reader → Option ℕ → ℕ → List ℕ → Reader
 reader_with r at n numbers = record { at = at; n = n; seen = r.seen; numbers = numbers }
 
--- past every plan: where a reader stays that met a byte that it did not want
+-- where a reader stays that met a byte that it did not want
 abbrev pub stuck_of : Reader → Reader
-stuck_of r = reader_with r 18446744073709551615 r.n r.numbers
+stuck_of r = reader_with r None r.n r.numbers
 
 -- on to the next line
 abbrev pub next_of : ℕ → Reader → Reader
-next_of line r = record { at = line; n = r.n; seen = r.seen + 1; numbers = r.numbers }
+next_of line r = record { at = Some line; n = r.n; seen = r.seen + 1; numbers = r.numbers }
 
 -- on to the next place
 unfoldable pub stepped_of : ℕ → ℕ → Reader → Reader
-stepped_of last line r = cond (ltb r.at last) (reader_with r (r.at + 1) r.n r.numbers) (cond (leb r.n r.seen) (stuck_of r) (next_of line r))
+stepped_of last line r = cond (ltb (place r) last) (reader_with r (Some (place r + 1)) r.n r.numbers) (cond (leb r.n r.seen) (stuck_of r) (next_of line r))
 
 abbrev pub numbered_of : Reader → ℕ → ℕ → Reader
 numbered_of r j v = reader_with r r.at r.n (set r.numbers j v)
@@ -71,9 +76,9 @@ wanted_of last line r b want =
 -- one byte; after n lines none is wanted
 unfoldable pub feed_of : List ℕ → ℕ → Reader → ℕ → Reader
 feed_of plan line r b =
-    cond (leb (length plan) r.at) r
-    (cond (eqb r.at line) (cond (leb r.n r.seen) (stuck_of r) (wanted_of (last_of plan) line r b (get_or plan r.at 0)))
-    (wanted_of (last_of plan) line r b (get_or plan r.at 0)))
+    cond (leb (length plan) (place r)) r
+    (cond (eqb (place r) line) (cond (leb r.n r.seen) (stuck_of r) (wanted_of (last_of plan) line r b (get_or plan (place r) 0)))
+    (wanted_of (last_of plan) line r b (get_or plan (place r) 0)))
 
 -- bytes one after the other, whatever each makes of a state
 abbrev pub fed_by : {R : Type 0} → (R → ℕ → R) → R → List ℕ → R
@@ -88,8 +93,8 @@ abbrev pub closed_by : {R : Type 0} → (R → ℕ → R) → (R → ℕ) → �
 closed_by feed at line r = cond (eqb (at (feed (feed r 13) 10)) line) (feed (feed r 13) 10) r
 
 abbrev pub closed_of : List ℕ → ℕ → Reader → Reader
-closed_of plan line r = closed_by (feed_of plan line) (λ (q : Reader). q.at) line r
+closed_of plan line r = closed_by (feed_of plan line) place line r
 
 -- n lines were read, and no byte more
 abbrev pub fine_of : ℕ → Reader → Bool
-fine_of line r = cond (eqb r.at line) (eqb r.seen r.n) false
+fine_of line r = cond (option_eq eqb r.at (Some line)) (eqb r.seen r.n) false

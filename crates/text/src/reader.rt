@@ -8,9 +8,6 @@ ghost use Rattle.text.specs.Reading.{start_of, last_of, stuck_of, stepped_of, nu
 
 use crate::hex::hex_value;
 
-// The place past every plan, where a reader is stuck.
-const STUCK: usize = usize::MAX;
-
 // The numbers that a plan can name, and its letters for them: from A on one for a digit of each, behind those one for a flag among them.
 pub const NUMBERS: usize = 13;
 
@@ -36,10 +33,10 @@ impl TextPlan<'_> {
     }
 }
 
-// What was read: the place in the plan, n, the lines ended, and the numbers that the plan names.
+// What was read: the place in the plan, none where no text of the form goes on; n, the lines ended, and the numbers that the plan names.
 #[derive(Clone, Copy)]
 pub struct Reader {
-    pub at: usize,
+    pub at: Option<usize>,
     pub n: u64,
     pub seen: u64,
     pub numbers: [u64; NUMBERS],
@@ -50,7 +47,7 @@ pub fn start() -> Reader
     ensures { result ≡ start_of }
 {
     Reader {
-        at: 0,
+        at: Some(0),
         n: 0,
         seen: 0,
         numbers: [0; NUMBERS],
@@ -62,7 +59,7 @@ impl Reader {
     fn stuck(self) -> Reader
         ensures { result ≡ stuck_of self }
     {
-        Reader { at: STUCK, ..self }
+        Reader { at: None, ..self }
     }
 
     // On to the next place; from the plan's last to the next line.
@@ -70,13 +67,18 @@ impl Reader {
     fn step(self, plan: TextPlan) -> Reader
         ensures { result ≡ stepped_of (last_of plan.entry.shown.now) plan.entry.line self }
     {
-        if self.at < plan.last() {
-            return Reader { at: self.at + 1, ..self };
+        match self.at {
+            Some(at) if at < plan.last() => Reader {
+                at: Some(at + 1),
+                ..self
+            },
+            _ if self.seen < self.n => Reader {
+                at: Some(plan.line),
+                seen: self.seen + 1,
+                ..self
+            },
+            _ => self.stuck(),
         }
-        if self.n <= self.seen {
-            return self.stuck();
-        }
-        Reader { at: plan.line, seen: self.seen + 1, ..self }
     }
 
     // Number j is v.
@@ -118,7 +120,11 @@ impl Reader {
     fn matched(self, plan: TextPlan, b: u8, want: u8) -> Reader
         ensures { result ≡ matched_of (last_of plan.entry.shown.now) plan.entry.line self b want }
     {
-        if b == want { self.step(plan) } else { self.stuck() }
+        if b == want {
+            self.step(plan)
+        } else {
+            self.stuck()
+        }
     }
 
     // n is what it was and the digit d, where that fits 64 bits.
@@ -139,7 +145,11 @@ impl Reader {
         ensures { result ≡ first_of (last_of plan.entry.shown.now) plan.entry.line self b }
     {
         match b {
-            b'0'..=b'9' => Reader { n: (b - b'0') as u64, ..self }.step(plan),
+            b'0'..=b'9' => Reader {
+                n: (b - b'0') as u64,
+                ..self
+            }
+            .step(plan),
             _ => self.stuck(),
         }
     }
@@ -175,10 +185,13 @@ impl Reader {
     pub fn feed(self, plan: TextPlan, b: u8) -> Reader
         ensures { result ≡ feed_of plan.entry.shown.now plan.entry.line self b }
     {
-        let Some(&want) = plan.shown.get(self.at) else {
+        let Some(at) = self.at else {
             return self;
         };
-        if self.at == plan.line && self.n <= self.seen {
+        let Some(&want) = plan.shown.get(at) else {
+            return self;
+        };
+        if at == plan.line && self.n <= self.seen {
             return self.stuck();
         }
         self.wanted(plan, b, want)
@@ -188,6 +201,6 @@ impl Reader {
     pub fn fine(self, plan: TextPlan) -> bool
         ensures { result ≡ fine_of plan.entry.line self }
     {
-        self.at == plan.line && self.seen == self.n
+        self.at == Some(plan.line) && self.seen == self.n
     }
 }
