@@ -3,7 +3,7 @@ use mathlib.Core.Path.{◌≡◌, refl, sym, ap, ◌∙◌, subst}
 use mathlib.Core.List.{List, [], ◌∷◌, ◌++◌, append_assoc}
 use mathlib.Core.Bool.{Bool, true, false}
 use Prim.Native.Nat.{ℕ, zero, suc, ◌+◌, ◌-◌, ◌*◌, ◌/◌, ◌%◌, ◌^◌, ◌≤◌, ◌<◌}
-use native.Mathlib.Nat.{add-zero, suc-mul, pow-suc}
+use native.Mathlib.Nat.{add-zero, mul-suc, mul_comm, pow-suc, mod-eq_of_lt}
 use native.Mathlib.Numerals.{add-one}
 use native.Mathlib.Omega.{arith}
 use lib.Dec.{ltb}
@@ -11,8 +11,9 @@ use lib.Pow.{pow-add}
 use lib.ListN.{length, get_or, take, drop, set, length-append, length-drop, take-append-drop, drop_of_length-le}
 use lib.Seq.{take_at, drop_at, drop-drop, drop-cons, length-take-le, set_split}
 use borrow.Author.Tests.{ltb-true, ltb-false}
-use Rattle.text.specs.Numerals.{glyph, spell, decimal}
-use Rattle.text.specs.Put.{Put, laid}
+use Rattle.text.specs.declared.writer.Writer.{Writer}
+use Rattle.text.specs.Numerals.{glyph, spell, hex, decimal}
+use Rattle.text.specs.Put.{Put, Puts, laid}
 use Rattle.text.proofs.DecimalDigits.{decimal_one, decimal_more}
 
 length_laid : (at : ℕ) (t s : List ℕ) → at + length t ≤ length s → length (laid at t s) ≡ length s
@@ -75,62 +76,68 @@ put_length {at} {m} {t} {s} {u} p = ap length p.written ∙ length_laid at t s p
 pub put_as : {at m : ℕ} {t v s u : List ℕ} → t ≡ v → Put at t s u m → Put at v s u m
 put_as {at} {m} {t} {v} {s} {u} e p = subst (λ (z : List ℕ). Put at z s u m) e p
 
+-- ---- a writer's texts
+pub puts_then : {t v : List ℕ} {w x u : Writer} → Puts t w x → Puts v x u → Puts (t ++ v) w u
+puts_then p q = record { same_buffer = q.same_buffer ∙ p.same_buffer; put = put_then p.put q.put }
+
+pub puts_as : {t v : List ℕ} {w u : Writer} → t ≡ v → Puts t w u → Puts v w u
+puts_as {t} {v} {w} {u} e p = subst (λ (z : List ℕ). Puts z w u) e p
+
+puts_none : (w : Writer) → w.at ≤ length w.out.now → Puts [] w w
+puts_none w h = record { same_buffer = refl; put = put_none w.at w.out.now h }
+
+-- the room that is left behind a text
+pub puts_room : (k : ℕ) {t : List ℕ} {w u : Writer} → Puts t w u → w.at + (length t + k) ≤ length w.out.now → u.at + k ≤ length u.out.now
+puts_room k {t} {w} {u} p h = let l = put_length p.put in let q = p.put.place in omega arith
+
 -- ---- hexadecimal digits
-pow_sixteen : (k : ℕ) → 2 ^ (k * 4) ≡ 16 ^ k
+pow_sixteen : (k : ℕ) → 2 ^ (4 * k) ≡ 16 ^ k
 pow_sixteen zero = refl
-pow_sixteen (suc k) = ap (λ (z : ℕ). 2 ^ z) (suc-mul k 4) ∙ pow-add 2 (k * 4) 4 ∙ ap (λ (z : ℕ). z * 16) (pow_sixteen k) ∙ sym (pow-suc 16 k)
+pow_sixteen (suc k) = ap (λ (z : ℕ). 2 ^ z) (mul-suc 4 k) ∙ pow-add 2 (4 * k) 4 ∙ ap (λ (z : ℕ). z * 16) (pow_sixteen k) ∙ sym (pow-suc 16 k)
 
-pub digits_none : (at left v : ℕ) (s : List ℕ) → left ≡ 0 → at + left ≤ length s → Put at (spell left v) s s at
-digits_none at zero v s e h = put_none at s (omega arith)
-digits_none at (suc k) v s e h = absurd (omega arith)
+-- the digit behind the first k of n, before m others
+digit_more : (n k m v : ℕ) → k + suc m ≡ n → take k (spell n v) ++ (glyph (v / 16 ^ m % 16) ∷ []) ≡ take (suc k) (spell n v)
+digit_more zero k m v e = absurd (omega arith)
+digit_more (suc n) zero m v e = let h : m ≡ n = omega arith in ap (λ (z : ℕ). glyph (v / 16 ^ z % 16) ∷ []) h
+digit_more (suc n) (suc k) m v e = ap (λ (l : List ℕ). glyph (v / 16 ^ n % 16) ∷ l) (digit_more n k m v (omega arith))
 
-pub digits_more : (at left v g r : ℕ) (s u : List ℕ) → (left ≡ 0 → ⊥) → at + left ≤ length s → g ≡ glyph (v / 2 ^ ((left - 1) * 4) % 16) → Put (at + 1) (spell (left - 1) v) (set s at g) u r → Put at (spell left v) s u r
-digits_more at zero v g r s u n h e p = absurd (n refl)
-digits_more at (suc k) v g r s u n h e p =
-    let m : suc k - 1 ≡ k = omega arith in
-    put_as (ap (λ (z : ℕ). g ∷ spell z v) m ∙ ap (λ (z : ℕ). z ∷ spell k v) (e ∙ ap (λ (z : ℕ). glyph (v / 2 ^ (z * 4) % 16)) m ∙ ap (λ (z : ℕ). glyph (v / z % 16)) (pow_sixteen k)))
-    (put_then (put_one at g s (omega arith)) p)
-
--- ---- bytes
-pub bytes_none : (at i : ℕ) (s out : List ℕ) → length s ≤ i → at + (length s - i) ≤ length out → Put at (drop i s) out out at
-bytes_none at i s out h r = put_as (sym (drop_of_length-le s h)) (put_none at out (omega arith))
-
-pub bytes_more : (at i r : ℕ) (s out u : List ℕ) → i < length s → at + (length s - i) ≤ length out → Put (at + 1) (drop (i + 1) s) (set out at (get_or s i 0)) u r → Put at (drop i s) out u r
-bytes_more at i r s out u h k p = put_as (ap (λ (z : ℕ). get_or s i 0 ∷ drop z s) (add-one i) ∙ sym (drop-cons s i 0 h)) (put_then (put_one at (get_or s i 0) out (omega arith)) p)
+pub hex_more : (k v g : ℕ) → k < 16 → g ≡ glyph (v / 2 ^ (4 * (15 - k)) % 16) → take k (hex v) ++ (g ∷ []) ≡ take (k + 1) (hex v)
+hex_more k v g h e =
+    ap (λ (z : ℕ). take k (hex v) ++ (z ∷ [])) (e ∙ ap (λ (z : ℕ). glyph (v / z % 16)) (pow_sixteen (15 - k)))
+    ∙ digit_more 16 k (15 - k) v (omega arith)
+    ∙ ap (λ (j : ℕ). take j (hex v)) (sym (add-one k))
 
 -- ---- decimal digits
-pub decimal_short : (v : ℕ) → v < 10 → length (decimal v) ≡ 1
-decimal_short v h = ap length (decimal_one v h)
+pub decimal_short : (v : ℕ) → v < 10 → decimal v ≡ (48 + v % 10) ∷ []
+decimal_short v h = decimal_one v h ∙ ap (λ (z : ℕ). (48 + z) ∷ []) (sym (mod-eq_of_lt h))
 
-decimal_split : (v : ℕ) → 10 ≤ v → decimal v ≡ decimal (v / 10) ++ ((48 + v % 10) ∷ [])
+pub decimal_split : (v : ℕ) → 10 ≤ v → decimal v ≡ decimal (v / 10) ++ ((48 + v % 10) ∷ [])
 decimal_split v h = let e : v / 10 * 10 + v % 10 ≡ v = omega arith in ap decimal (sym e) ∙ decimal_more (v / 10) (v % 10) (omega arith) (omega arith)
 
 pub decimal_longer : (v : ℕ) → 10 ≤ v → length (decimal v) ≡ length (decimal (v / 10)) + 1
 decimal_longer v h = ap length (decimal_split v h) ∙ length-append (decimal (v / 10)) ((48 + v % 10) ∷ [])
 
-pub decimal_first : (at v : ℕ) (s : List ℕ) → v < 10 → at + length (decimal v) ≤ length s → Put at (decimal v) s (set s at (48 + v)) (at + 1)
-decimal_first at v s h r = put_as (sym (decimal_one v h)) (put_one at (48 + v) s (omega (arith, decimal_short v h)))
+-- all digits of v but the last are written
+pub record ButLast (v : ℕ) (w u : Writer) : Type 0 where
+  pub text : List ℕ
+  pub puts : Puts text w u
+  pub split : decimal v ≡ text ++ ((48 + v % 10) ∷ [])
 
-pub decimal_last : (at m v : ℕ) (s u : List ℕ) → 10 ≤ v → at + length (decimal v) ≤ length s → Put at (decimal (v / 10)) s u m → Put at (decimal v) s (set u m (48 + v % 10)) (m + 1)
-decimal_last at m v s u h r p =
-    let l = put_length p in
-    let e = decimal_longer v h in
-    let q = p.place in
-    put_as (sym (decimal_split v h)) (put_then p (put_one m (48 + v % 10) u (omega arith)))
+pub but_last_none : (v : ℕ) {w u : Writer} → v < 10 → w.at + length (decimal v) ≤ length w.out.now → u ≡ w → ButLast v w u
+but_last_none v {w} {u} h r e = record { text = []; puts = rw e (puts_none w (omega arith)); split = decimal_short v h }
 
-pub decimal_room : (at m v : ℕ) (s u : List ℕ) → 10 ≤ v → at + length (decimal v) ≤ length s → Put at (decimal (v / 10)) s u m → m < length u
-decimal_room at m v s u h r p =
-    let l = put_length p in
-    let e = decimal_longer v h in
-    let q = p.place in
-    omega arith
+pub but_last_more : (v : ℕ) {w x u : Writer} → 10 ≤ v → Puts (decimal (v / 10)) w x → u ≡ x → ButLast v w u
+but_last_more v {w} {x} {u} h p e = record { text = decimal (v / 10); puts = rw e p; split = decimal_split v h }
+
+pub last_room : {v : ℕ} {w u : Writer} → ButLast v w u → w.at + length (decimal v) ≤ length w.out.now → u.at + 1 ≤ length u.out.now
+last_room {v} {w} {u} b r = puts_room 1 b.puts (omega (arith, ap length b.split, length-append b.text ((48 + v % 10) ∷ [])))
 
 pub decimal_most : (k v : ℕ) → v < 10 ^ suc k → length (decimal v) ≤ suc k
-decimal_most zero v h = omega (arith, decimal_short v h)
+decimal_most zero v h = omega (arith, ap length (decimal_short v h))
 decimal_most (suc k) v h = go (ltb v 10) refl (decimal_most k (v / 10))
   where
     go : (b : Bool) → ltb v 10 ≡ b → (v / 10 < 10 ^ suc k → length (decimal (v / 10)) ≤ suc k) → length (decimal v) ≤ suc (suc k)
-    go true e again = omega (arith, decimal_short v (ltb-true v 10 e))
+    go true e again = omega (arith, ap length (decimal_short v (ltb-true v 10 e)))
     go false e again = omega (arith, decimal_longer v (ltb-false v 10 e), again (let p = pow-suc 10 (suc k) in omega (arith, h, p)))
 
 -- ONLY ONE OUTCOME FITS what a writer promises: the list afterwards, and the place behind the text

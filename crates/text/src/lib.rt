@@ -7,4 +7,4 @@ mod writer;
 
 pub use hex::{bits_of_float, float_of_bits, hex_value};
 pub use reader::{NUMBERS, Reader, TextPlan, start};
-pub use writer::{put_bytes, put_decimal, put_field};
+pub use writer::Writer;

@@ -1,56 +1,66 @@
 // Digits, fields and bytes, put into a buffer.
-ghost use Rattle.std.specs.Prelude.{[], ◌∷◌, ◌++◌, ◌+◌, ◌-◌, ◌≤◌, length, drop};
-ghost use Rattle.text.specs.Numerals.{spell, hex, decimal};
+ghost use Rattle.std.specs.Prelude.{◌≡◌, [], ◌∷◌, ◌++◌, ◌+◌, ◌≤◌, length};
+ghost use Rattle.text.specs.Numerals.{hex, decimal};
 ghost use Rattle.text.specs.Lines.{field_wide};
-ghost use Rattle.text.specs.Put.{Put};
 
 use crate::hex::hex_glyph;
 
-// The last `left` hexadecimal digits of v.
-fn put_digits(out: &mut [u8], at: usize, left: usize, v: u64) -> usize
-    requires { (at + left ≤ length out.old) × (left ≤ 16) }
-    ensures { Put at (spell left v) out.old out.new result }
-{
-    if left == 0 {
-        return at;
-    }
-    let k = left - 1;
-    out[at] = hex_glyph((v >> (k * 4)) % 16);
-    put_digits(out, at + 1, k, v)
+// A buffer, and how far it is written.
+pub struct Writer<'a> {
+    pub out: &'a mut [u8],
+    pub at: usize,
 }
 
-// The decimal digits of v.
-pub fn put_decimal(out: &mut [u8], at: usize, v: u64) -> usize
-    requires { at + length (decimal v) ≤ length out.old }
-    ensures { Put at (decimal v) out.old out.new result }
-{
-    if v < 10 {
-        out[at] = 48 + v as u8;
-        return at + 1;
-    }
-    let next = put_decimal(out, at, v / 10);
-    out[next] = 48 + (v % 10) as u8;
-    next + 1
-}
+impl<'a> Writer<'a> {
+    ghost use Rattle.text.specs.Put.{Puts};
 
-// The bytes of s from i on.
-pub fn put_bytes(out: &mut [u8], at: usize, s: &[u8], i: usize) -> usize
-    requires { (at + (length s.now - i) ≤ length out.old) × (i ≤ length s.now) }
-    ensures { Put at (drop i s.now) out.old out.new result }
-{
-    if s.len() <= i {
-        return at;
+    // Nothing is written.
+    pub fn new(out: &'a mut [u8]) -> Writer<'a>
+        ensures same_buffer { result.out.ghost_name ≡ out.entry.ghost_name }
+        ensures unwritten { result.out.now ≡ out.old }
+        ensures at_start { result.at ≡ 0 }
+    {
+        Writer { out, at: 0 }
     }
-    out[at] = s[i];
-    put_bytes(out, at + 1, s, i + 1)
-}
 
-// The sixteen digits of v, and a byte after them.
-pub fn put_field(out: &mut [u8], at: usize, v: u64, end: u8) -> usize
-    requires { at + field_wide ≤ length out.old }
-    ensures { Put at (hex v ++ (end ∷ [])) out.old out.new result }
-{
-    let next = put_digits(out, at, 16, v);
-    out[next] = end;
-    next + 1
+    // A byte.
+    pub fn byte(&mut self, b: u8)
+        requires { self.old.at + 1 ≤ length self.old.out.now }
+        ensures { Puts (b ∷ []) self.old self.new }
+    {
+        self.out[self.at] = b;
+        self.at += 1;
+    }
+
+    // Bytes.
+    pub fn bytes(&mut self, s: &[u8])
+        requires { self.old.at + length s.now ≤ length self.old.out.now }
+        ensures { Puts s.now self.old self.new }
+    {
+        let end = self.at + s.len();
+        self.out[self.at..end].copy_from_slice(s);
+        self.at = end;
+    }
+
+    // The sixteen digits of v, and a byte after them.
+    pub fn field(&mut self, v: u64, end: u8)
+        requires { self.old.at + field_wide ≤ length self.old.out.now }
+        ensures { Puts (hex v ++ end ∷ []) self.old self.new }
+    {
+        for k in 0..16usize {
+            self.byte(hex_glyph((v >> (4 * (15 - k))) % 16));
+        }
+        self.byte(end);
+    }
+
+    // The decimal digits of v.
+    pub fn decimal(&mut self, v: u64)
+        requires { self.old.at + length (decimal v) ≤ length self.old.out.now }
+        ensures { Puts (decimal v) self.old self.new }
+    {
+        if v >= 10 {
+            self.decimal(v / 10);
+        }
+        self.byte(b'0' + (v % 10) as u8);
+    }
 }
