@@ -12,7 +12,7 @@ use Rattle.text.specs.Plan.{Values, count_read, Spells}
 use Rattle.text.proofs.Backward as text-laws
 use Rattle.listing_text.specs.declared.reader.Reader.{Reader}
 use Rattle.listing_text.specs.Grammar.{Input, Words, Text}
-use Rattle.listing_text.specs.Reading.{head_pieces, line_pieces, plan, line_at, start_of, feed_of, feed_all, closed_of, fine_of}
+use Rattle.listing_text.specs.Reading.{head_pieces, line_pieces, plan, line_at, plan_place, start_of, feed_of, feed_all, closed_of, fine_of}
 use Rattle.listing_text.specs.Held.{reader_of}
 use Rattle.listing_text.proofs.Form.{form, grain_of, input_of, words_of, text_is}
 use Rattle.listing_text.proofs.Forward.{spelled_read}
@@ -23,7 +23,7 @@ feed_text [] r = refl
 feed_text (b ∷ s) r = feed_text s (feed_of r b)
 
 closed_text : (r : Reader) → (closed_of r).text ≡ text.closed_of plan line_at r.text
-closed_text r = go (eqb (feed_of (feed_of r 13) 10).text.at line_at) (feed_of (feed_of r 13) 10)
+closed_text r = go (eqb (plan_place (feed_of (feed_of r 13) 10)) line_at) (feed_of (feed_of r 13) 10)
   where
     go : (b : Bool) (q : Reader) → (cond b q r).text ≡ cond b q.text r.text
     go true q = refl

@@ -15,6 +15,7 @@ use Rattle.text.specs.Plan.{Values, count_read, loaded_rows, spelled_text, Spell
 use Rattle.text.proofs.Turns.{feed_parts, closed_ended, closed_same}
 use Rattle.text.proofs.Forward as text-laws
 use Rattle.text.proofs.Kept.{kept_all, kept_rows, text_kept}
+use Rattle.std.specs.Prelude.{Some}
 use Rattle.listing_text.specs.declared.reader.Reader.{Reader}
 use Rattle.listing_text.specs.Columns.{most_kept, kept}
 use Rattle.listing_text.specs.Grammar.{Grain, Input, Words, text_of, Text}
@@ -62,7 +63,7 @@ held w ws = record { text = held_of form w ws; grains = grain_rows most_kept (ma
 held_is : (w : Values head_pieces) (ws : List (Values line_pieces)) → held w ws ≡ reader_of (input_of w ws)
 held_is w ws =
     let n : length ws ≡ length (map grain_of ws) = sym (length-map ws grain_of) in
-    λ t. record { text = record { at = line_at; n = n t; seen = n t; numbers = numbers_last ws (input_of w ws) no_grain t }; grains = grain_rows most_kept (map grain_of ws) }
+    λ t. record { text = record { at = Some line_at; n = n t; seen = n t; numbers = numbers_last ws (input_of w ws) no_grain t }; grains = grain_rows most_kept (map grain_of ws) }
 
 spelled_held : (w : Values head_pieces) (ws : List (Values line_pieces)) → count_read head_pieces w 0 ≡ length ws → feed_all start_of (spelled_text form w ws) ≡ held w ws
 spelled_held w ws e =

@@ -2,20 +2,16 @@
 use mathlib.Core.Path.{◌≡◌, refl, sym, ap, ◌∙◌}
 use mathlib.Core.List.{List, [], ◌∷◌, ◌++◌, append_assoc}
 use Prim.Native.Nat.{ℕ, zero, suc, ◌+◌, ◌-◌, ◌*◌, ◌≤◌, ◌<◌}
-use native.Mathlib.Nat.{add-zero, le_of_suc-le-suc}
-use native.Mathlib.Numerals.{add-one}
+use native.Mathlib.Nat.{le_of_suc-le-suc}
 use native.Mathlib.Omega.{arith}
-use lib.ListN.{length, get_or, take, drop, set, replicate, length-drop, replicate-append-replicate}
-use lib.Seq.{take-suc, take-append-add, drop-append-add, get_or-drop}
+use lib.ListN.{length, take, drop, replicate, length-drop, replicate-append-replicate}
+use lib.Seq.{take-append-add, drop-append-add}
 use borrow.Rule.Slice.PartMut.{mid_of}
 use Rattle.chunks.proofs.Laws.{take_tab}
-use Rattle.text.specs.Put.{Put, laid}
-use Rattle.text.proofs.Putting.{put_none, put_one, put_then, put_as, put_length}
-use Rattle.listing_text.specs.declared.reader.Reader.{Reader}
-use Rattle.listing_text.specs.Columns.{columns, box_numbers}
+use Rattle.text.specs.Put.{laid}
+use Rattle.listing_text.specs.Columns.{columns}
 use Rattle.listing_text.specs.Grammar.{Grain, columns_of}
 use Rattle.listing_text.specs.Rows.{first_grain, no_grain, grain_rows, row_grain, grains_from}
-use Rattle.listing_text.specs.Reading.{kept_of}
 use Rattle.listing_text.specs.Held.{last_grain}
 
 -- ---- one more grain
@@ -86,25 +82,6 @@ rows_back zero (g ∷ gs) h = absurd (omega arith)
 rows_back (suc k) (g ∷ gs) h = ap (λ (l : List Grain). g ∷ l) (grains_past (length gs) 0 g (grain_rows k gs) ∙ rows_back k gs (le_of_suc-le-suc h))
 
 -- ---- a row's numbers
-pub row_numbers : (l : List ℕ) (i : ℕ) → i * columns + columns ≤ length l → mid_of (i * columns) (i * columns + columns - i * columns) l ≡ columns_of (row_grain l i)
-row_numbers l i h =
-    let e : i * columns + columns - i * columns ≡ columns = omega arith in
+pub row_numbers : (l : List ℕ) (i k : ℕ) → k ≡ columns → i * columns + columns ≤ length l → mid_of (i * columns) k l ≡ columns_of (row_grain l i)
+row_numbers l i k e h =
     ap (λ (k : ℕ). mid_of (i * columns) k l) e ∙ take_tab (drop (i * columns) l) 0 columns 0 (omega (arith, length-drop (i * columns) l))
-
--- ---- a line's numbers put into the rows one by one: none, one more, all of them
-pub none_kept : (at : ℕ) (s : List ℕ) → at ≤ length s → Put at [] s s (at + 0)
-none_kept at s h = rw add-zero (put_none at s h)
-
-pub one_kept : (at k : ℕ) {s u : List ℕ} (t : List ℕ) (j : ℕ) → j + k < length t → at + k < length s
-    → Put at (take k (drop j t)) s u (at + k) → Put at (take (k + 1) (drop j t)) s (set u (at + k) (get_or t (j + k) 0)) (at + (k + 1))
-one_kept at k {u = u} t j h r p =
-    let e : at + k + 1 ≡ at + (k + 1) = omega arith in
-    let n = put_length p in
-    let m : k < length (drop j t) = omega (arith, length-drop j t) in
-    let q = put_as (ap (λ (v : ℕ). take k (drop j t) ++ (v ∷ [])) (sym (get_or-drop j t k 0)) ∙ sym (take-suc (drop j t) k 0 m) ∙ ap (λ (n : ℕ). take n (drop j t)) (sym (add-one k))) (put_then p (put_one (at + k) (get_or t (j + k) 0) u (omega arith))) in
-    rw e at q
-
-pub whole_kept : (r : Reader) (at k : ℕ) {g : List ℕ} → k ≤ columns → columns ≤ k → Put at (take k (drop box_numbers r.text.numbers)) r.grains g (at + k) → record { text = r.text; grains = g } ≡ kept_of r at
-whole_kept r at k h l p =
-    let e : k ≡ columns = omega arith in
-    ap (λ (g : List ℕ). record { text = r.text; grains = g }) (p.written ∙ ap (λ (n : ℕ). laid at (take n (drop box_numbers r.text.numbers)) r.grains) e)

@@ -1,5 +1,5 @@
 -- What the reader holds after a text: the box's numbers, the last grain's, and the rows of those that are kept. Assumes nothing.
-use Rattle.std.specs.Prelude.{List, [], ◌∷◌, ◌++◌, ℕ, ◌+◌, ◌-◌, length, replicate}
+use Rattle.std.specs.Prelude.{List, [], ◌∷◌, ◌++◌, Some, ℕ, ◌+◌, ◌-◌, length, replicate}
 use Rattle.text.specs.Letters.{numbers_held}
 use Rattle.text.specs.Lines.{bit_of}
 use Rattle.listing_text.specs.declared.reader.Reader.{Reader}
@@ -18,4 +18,4 @@ abbrev pub numbers_of : Input → Grain → List ℕ
 numbers_of i g = i.l0 ∷ i.l1 ∷ bit_of i.p0 ∷ bit_of i.p1 ∷ i.rate ∷ (columns_of g ++ replicate (numbers_held - (box_numbers + columns)) 0)
 
 abbrev pub reader_of : Input → Reader
-reader_of i = record { text = record { at = line_at; n = length i.grains; seen = length i.grains; numbers = numbers_of i (last_grain no_grain i.grains) }; grains = grain_rows most_kept i.grains }
+reader_of i = record { text = record { at = Some line_at; n = length i.grains; seen = length i.grains; numbers = numbers_of i (last_grain no_grain i.grains) }; grains = grain_rows most_kept i.grains }

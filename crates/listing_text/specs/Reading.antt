@@ -33,7 +33,7 @@ line_at = length (shown head_pieces)
 
 -- the place in the plan
 abbrev pub plan_place : Reader → ℕ
-plan_place r = r.text.at
+plan_place r = text.place r.text
 
 abbrev pub start_of : Reader
 start_of = record { text = text.start_of; grains = replicate kept 0 }

@@ -4,9 +4,13 @@ ghost use Rattle.listing_text.specs.Columns.{columns, kept};
 ghost use Rattle.listing_text.specs.Reading.{start_of, kept_of, took_of, feed_of, feed_all, closed_of, fine_of};
 
 use crate::columns::{BOX, COLUMNS, KEPT, MOST};
+use text::TextPlan;
 
-// The plan's place where a grain's line begins.
-const LINE: usize = 97;
+// The plan of the text (`text::Reader`). Its line is a grain's.
+const PLAN: TextPlan<'static> = TextPlan {
+    shown: b"l0,l1,p0,p1,rate,n\r\nAAAAAAAAAAAAAAAA,BBBBBBBBBBBBBBBB,P,Q,EEEEEEEEEEEEEEEE,#+\nx,y,vx,vy,val,rad\r\nFFFFFFFFFFFFFFFF,GGGGGGGGGGGGGGGG,HHHHHHHHHHHHHHHH,IIIIIIIIIIIIIIII,JJJJJJJJJJJJJJJJ,KKKKKKKKKKKKKKKK\r\n",
+    line: 97,
+};
 
 // What was read by the plan, and the numbers of the first grains.
 #[derive(Clone, Copy)]
@@ -19,9 +23,10 @@ pub struct Reader {
 pub fn start() -> Reader
     ensures { result ≡ start_of }
 {
-    let text = text::start();
-    let grains = [0u64; KEPT];
-    Reader { text, grains }
+    Reader {
+        text: text::start(),
+        grains: [0; KEPT],
+    }
 }
 
 impl Reader {
@@ -30,15 +35,8 @@ impl Reader {
         requires { i + columns ≤ kept }
         ensures { result ≡ kept_of self i }
     {
-        let read = self.text;
-        let numbers = read.numbers;
-        let mut grains = self.grains;
-        let mut k = 0;
-        while k < COLUMNS {
-            grains[i + k] = numbers[BOX + k];
-            k += 1;
-        }
-        self.grains = grains;
+        let numbers = self.text.numbers;
+        self.grains[i..i + COLUMNS].copy_from_slice(&numbers[BOX..BOX + COLUMNS]);
         self
     }
 
@@ -48,42 +46,37 @@ impl Reader {
     {
         let seen = self.text.seen;
         self.text = text;
-        if text.seen <= seen {
-            return self;
+        if seen < text.seen && seen < MOST as u64 {
+            return self.keep(seen as usize * COLUMNS);
         }
-        if MOST as u64 <= seen {
-            return self;
-        }
-        self.keep(seen as usize * COLUMNS)
+        self
     }
 
-    // One byte more, by the plan of the text (`text::Reader`). The last line of the plan is a grain's.
+    // One byte more.
+    #[tactic(auto, unfolding(crate::specs::Reading::plan))]
     pub fn feed(self, b: u8) -> Reader
         ensures { result ≡ feed_of self b }
     {
-        let plan =
-            b"l0,l1,p0,p1,rate,n\r\nAAAAAAAAAAAAAAAA,BBBBBBBBBBBBBBBB,P,Q,EEEEEEEEEEEEEEEE,#+\nx,y,vx,vy,val,rad\r\nFFFFFFFFFFFFFFFF,GGGGGGGGGGGGGGGG,HHHHHHHHHHHHHHHH,IIIIIIIIIIIIIIII,JJJJJJJJJJJJJJJJ,KKKKKKKKKKKKKKKK\r\n";
-        let text = self.text;
-        self.took(text.feed(plan, LINE, b))
+        self.took(self.text.feed(PLAN, b))
     }
 
     // The text is over: a last line that lacks its CR LF is ended.
     pub fn closed(self) -> Reader
         ensures { result ≡ closed_of self }
     {
-        let half = self.feed(13);
-        let ended = half.feed(10);
-        if ended.text.at == LINE {
-            return ended;
+        let ended = self.feed(b'\r').feed(b'\n');
+        if ended.text.at == Some(PLAN.line) {
+            ended
+        } else {
+            self
         }
-        self
     }
 
     // A text of the form is over: n lines of grains were read, and no byte more.
     pub fn fine(self) -> bool
         ensures { result ≡ fine_of self }
     {
-        self.text.fine(LINE)
+        self.text.fine(PLAN)
     }
 }
 
@@ -92,10 +85,8 @@ pub fn feed_all(r: Reader, s: &[u8]) -> Reader
     ensures { result ≡ feed_all r s.now }
 {
     let mut state = r;
-    let mut i = 0;
-    while i < s.len() {
-        state = state.feed(s[i]);
-        i += 1;
+    for &b in s {
+        state = state.feed(b);
     }
     state
 }

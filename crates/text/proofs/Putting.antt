@@ -86,6 +86,10 @@ puts_as {t} {v} {w} {u} e p = subst (λ (z : List ℕ). Puts z w u) e p
 puts_none : (w : Writer) → w.at ≤ length w.out.now → Puts [] w w
 puts_none w h = record { same_buffer = refl; put = put_none w.at w.out.now h }
 
+-- what a new writer put into its buffer
+pub puts_from : {t s : List ℕ} {w u : Writer} → w.at ≡ 0 → w.out.now ≡ s → Puts t w u → Put 0 t s u.out.now u.at
+puts_from {t} {s} {w} {u} a o p = subst (λ (z : ℕ). Put z t s u.out.now u.at) a (subst (λ (z : List ℕ). Put w.at t z u.out.now u.at) o p.put)
+
 -- the room that is left behind a text
 pub puts_room : (k : ℕ) {t : List ℕ} {w u : Writer} → Puts t w u → w.at + (length t + k) ≤ length w.out.now → u.at + k ≤ length u.out.now
 puts_room k {t} {w} {u} p h = let l = put_length p.put in let q = p.put.place in omega arith

@@ -6,6 +6,7 @@ ghost use Rattle.text.specs.Lines.{field_wide};
 use crate::hex::hex_glyph;
 
 // A buffer, and how far it is written.
+#[derive(Drop)]
 pub struct Writer<'a> {
     pub out: &'a mut [u8],
     pub at: usize,

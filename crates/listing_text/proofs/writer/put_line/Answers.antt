@@ -1,30 +1,16 @@
 use native.Mathlib.Omega.{arith}
-use lib.ListN.{length-set}
-use Rattle.listing_text.specs.Rows.{row_grain}
-use Rattle.text.proofs.Putting.{put_length, decimal_most}
-use Rattle.listing_text.proofs.Putting.{line_put}
+use Rattle.text.proofs.Putting.{puts_as, puts_then, puts_room, decimal_most}
+use Rattle.listing_text.proofs.Putting.{line_is}
 use Rattle.listing_text.proofs.writer.put_line.Goals as goal
 
-pub put_decimal-comma-requires : goal.put_decimal-comma-requires
-put_decimal-comma-requires c =
-    let f = c.put_field-index.ensures in
-    omega (arith, put_length f, f.place, decimal_most 2 c.args.i c.requires.2)
+pub decimal-requires : goal.decimal-requires
+decimal-requires c = puts_room _ c.field.ensures (omega (arith, decimal_most 2 c.args.i c.requires.index))
 
-pub bounds-out-comma : goal.bounds-out-comma
-bounds-out-comma c =
-    let f = c.put_field-index.ensures in
-    let d = c.put_decimal-comma.ensures in
-    omega (arith, put_length f, f.place, put_length d, d.place, decimal_most 2 c.args.i c.requires.2)
+pub byte-requires : goal.byte-requires
+byte-requires c = puts_room 1 c.decimal.ensures (puts_room _ c.field.ensures (omega (arith, decimal_most 2 c.args.i c.requires.index)))
 
-pub put_grain-requires : goal.put_grain-requires
-put_grain-requires c =
-    let f = c.put_field-index.ensures in
-    let d = c.put_decimal-comma.ensures in
-    (simp length-set (omega (arith, put_length f, f.place, put_length d, d.place, decimal_most 2 c.args.i c.requires.2)), c.requires.1)
+pub put_numbers-requires-clause-room : goal.put_numbers-requires-clause-room
+put_numbers-requires-clause-room c = puts_room _ c.byte.ensures (puts_room _ c.decimal.ensures (puts_room _ c.field.ensures (omega (arith, decimal_most 2 c.args.i c.requires.index))))
 
 pub returns : goal.returns
-returns c =
-    let a = c.args in
-    let f = c.put_field-index.ensures in
-    let d = c.put_decimal-comma.ensures in
-    line_put a.time a.i (row_grain a.numbers.now a.i) f d (omega (arith, put_length f, f.place, put_length d, d.place, decimal_most 2 a.i c.requires.2)) c.put_grain.ensures
+returns c = puts_as (line_is c.args.time c.args.i c.args.row.now c.requires.whole) (puts_then (puts_then (puts_then c.field.ensures c.decimal.ensures) c.byte.ensures) c.put_numbers.ensures)

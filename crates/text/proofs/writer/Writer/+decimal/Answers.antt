@@ -10,15 +10,15 @@ decimal-requires t c = (omega arith, omega (arith, decimal_longer c.args.v c.if-
 pub byte-requires : goal.byte-requires
 byte-requires t c =
     let b : ButLast c.args.v c.args.self.now c.if-v-ge10.self = elim c.if-v-ge10.branch [
-      then-v-ge10 w ↦ but_last_more _ w.if-v-ge10.true w.decimal.ensures w.self-is
-    | else-v-ge10 w ↦ but_last_none _ w.if-v-ge10.false c.requires w.self-is
+      | then-v-ge10 w ↦ but_last_more _ w.if-v-ge10.true w.decimal.ensures w.self-is
+      | else-v-ge10 w ↦ but_last_none _ w.if-v-ge10.false c.requires w.self-is
     ] in
     last_room b c.requires
 
 pub returns : goal.returns
 returns t c =
     let b : ButLast c.args.v c.args.self.now c.if-v-ge10.self = elim c.if-v-ge10.branch [
-      then-v-ge10 w ↦ but_last_more _ w.if-v-ge10.true w.decimal.ensures w.self-is
-    | else-v-ge10 w ↦ but_last_none _ w.if-v-ge10.false c.requires w.self-is
+      | then-v-ge10 w ↦ but_last_more _ w.if-v-ge10.true w.decimal.ensures w.self-is
+      | else-v-ge10 w ↦ but_last_none _ w.if-v-ge10.false c.requires w.self-is
     ] in
     puts_as (sym b.split) (puts_then b.puts c.byte.ensures)
