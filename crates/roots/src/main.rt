@@ -2,11 +2,9 @@
 // a NaN's for a root that is refused. Writes how many were compared, and how many differ.
 #![tactic(auto)]
 
-ghost use Rattle.std.specs.Prelude.{◌≤◌};
-
 use std::io::Stdin;
 use text::{bits_of_float, float_of_bits};
-use words::Word;
+use words::BadWord;
 
 // Whether the square root of x's float has the bits y; it is refused where they are a NaN's.
 fn agrees(x: u64, y: u64) -> bool {
@@ -16,45 +14,12 @@ fn agrees(x: u64, y: u64) -> bool {
     }
 }
 
-#[derive(Clone, Copy)]
-enum Answer {
-    Same,
-    Differs,
-    End,
-}
-
-// Whether x's root is as the next word says.
-fn compared_with_next(input: Stdin, x: u64) -> Answer {
-    let word = words::read(input);
-    match word {
-        Word::Bits(y) => {
-            if agrees(x, y) {
-                Answer::Same
-            } else {
-                Answer::Differs
-            }
-        }
-        _ => Answer::Differs,
-    }
-}
-
-// The next line; one that is cut off differs.
-fn next(input: Stdin) -> Answer {
-    let word = words::read(input);
-    match word {
-        Word::Bits(x) => compared_with_next(input, x),
-        Word::Bad => Answer::Differs,
-        Word::End => Answer::End,
-    }
-}
-
-// How much an answer adds to those that differ.
-fn misses(a: Answer) -> u64
-    ensures { result ≤ 1 }
-{
-    match a {
-        Answer::Differs => 1,
-        _ => 0,
+// Whether the next line has a float's root, where the input has not ended; one that is cut off has not.
+fn next(input: Stdin) -> Option<bool> {
+    match words::read(input) {
+        Ok(Some(x)) => Some(words::next(input).is_some_and(|y| agrees(x, y))),
+        Ok(None) => None,
+        Err(BadWord) => Some(false),
     }
 }
 
@@ -62,13 +27,14 @@ fn main(rt: HostRuntime) {
     let input = rt.stdin();
     let mut compared = 0u64;
     let mut differ = 0u64;
-    while compared < 1000000 {
-        let a = next(input);
-        if let Answer::End = a {
+    for _ in 0..1000000u64 {
+        let Some(same) = next(input) else {
             break;
-        }
-        differ += misses(a);
+        };
         compared += 1;
+        if !same {
+            differ += 1;
+        }
     }
-    words::report(rt.stdout(), compared, b"roots", differ);
+    words::report(rt.stdout(), compared, "roots", differ);
 }

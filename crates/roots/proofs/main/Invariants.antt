@@ -1,8 +1,5 @@
-use Prim.Native.Nat.{◌-◌, ◌≤◌}
+use Rattle.std.proofs.Common.{◌≤◌}
 use Rattle.roots.proofs.main.Given as goal
 
-abbrev pub invariant-loop-compared : goal.invariant-loop-compared
-invariant-loop-compared l = (l.compared ≤ 1000000) × (l.differ ≤ l.compared)
-
-abbrev pub decreases-loop-compared : goal.decreases-loop-compared
-decreases-loop-compared l = 1000000 - l.compared
+abbrev pub invariant-loop : goal.invariant-loop
+invariant-loop l = (l.compared ≤ l.counter) × (l.differ ≤ l.compared)
