@@ -1,17 +1,19 @@
 -- Laws of the definitions of `specs/Heap.antt` that the functions' proofs cite. Assumes nothing.
 use mathlib.Core.Path.{◌≡◌, refl, sym, ap, ◌∙◌}
 use mathlib.Core.Bool.{Bool, true, false, cond, ◌&&◌}
-use mathlib.Core.List.{List}
+use mathlib.Core.List.{List, [], ◌∷◌}
 use Prim.Native.Nat.{ℕ, zero, suc, ◌+◌, ◌-◌, ◌*◌, ◌≤◌, ◌<◌}
 use native.Mathlib.Omega.{arith}
 use native.Mathlib.Decide.{dec_le, ℕ_discrete}
-use lib.ListN.{get_or}
+use lib.ListN.{length, get_or, take}
 use lib.Dec.{ltb}
 use borrow.Author.Tests.{lt-ltb, le-ltb, eq-eqb, ne_eqb}
 use Rattle.std.specs.Prelude.{None}
+use Rattle.std.specs.List.{swap as std_swap}
+use Rattle.std.proofs.lemmas.List.{get_or-take, get_or_default, length-take-le}
 use Rattle.scheduler.specs.declared.Scheduler.{Scheduler}
 use Rattle.scheduler.specs.Head.{Head, earlier, no_later}
-use Rattle.scheduler.specs.Heap.{time_in, time_at, swap_at, child_in, child_of, down, downshifted, parent, parent_in, parent_of, up, upshifted}
+use Rattle.scheduler.specs.Heap.{time_in, time_at, swap, swap_at, child_in, child_of, down, downshifted, parent, parent_in, parent_of, up, upshifted}
 use Rattle.halting.proofs.Bools.{differ}
 
 -- ---- the time at an index
@@ -200,3 +202,25 @@ upshifted_goes h s c n =
     ap (λ (k : ℕ). up h k s c) z
     ∙ up_goes h (c - 1) s c n
     ∙ up_fuel h (c - 1) q (swap_at s c q) q (omega arith) (omega arith)
+
+-- ---- a heap whose cells in use stand alone
+module _ (h : ℕ → Head) (heap : List ℕ) (n : ℕ) (N : n ≤ length heap) where
+  time_taken : (i : ℕ) → time_in h (take n heap) (length (take n heap)) i ≡ time_in h heap n i
+  unfolding time_in
+  time_taken i = simp (length-take-le n heap N) (elim (dec_le n i) [
+    | yes o ↦ simp (le-ltb i n o)
+    | no l ↦ rw (get_or-take n heap i 0 (omega arith)) refl
+  ])
+
+  pub child_taken : (p : ℕ) → child_in h (take n heap) (length (take n heap)) p ≡ child_in h heap n p
+  unfolding child_in
+  child_taken p = rw (time_taken p, time_taken (2 * p + 1), time_taken (2 * p + 2)) refl
+
+  pub parent_taken : (c : ℕ) → parent_in h (take n heap) (length (take n heap)) c ≡ parent_in h heap n c
+  unfolding parent_in
+  parent_taken c = rw (time_taken c, time_taken (parent c), length-take-le n heap N) refl
+
+-- ---- two elements in each other's place, as std's own word has it
+pub swapped : (l : List ℕ) (a b : ℕ) → a < length l → b < length l → std_swap l a b ≡ swap l a b
+swapped [] a b i j = absurd (omega arith)
+swapped (x ∷ xs) a b i j = rw (get_or_default (x ∷ xs) a x 0 i, get_or_default (x ∷ xs) b x 0 j) refl

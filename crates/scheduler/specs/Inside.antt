@@ -3,7 +3,7 @@
 use Rattle.std.specs.Prelude.{ℕ, ◌||◌, cond, List, length, get_or, eqb, leb, Float, Some, None}
 use Rattle.std.specs.Float.{nan}
 use Rattle.layout.specs.Widths.{queue_from, events_from}
-use Rattle.scheduler.specs.declared.Scheduler.{Scheduler}
+use Rattle.scheduler.specs.declared.head.Heads.{Heads}
 use Rattle.scheduler.specs.Head.{Head}
 
 -- the head of a cell, whose count and first event's time stand first in its parts of `held` and `times`
@@ -11,6 +11,5 @@ unfoldable pub head_in : List Float → List ℕ → ℕ → ℕ → Head
 head_in times held room cell =
     cond (leb (length times) (events_from room cell) || eqb (get_or held (queue_from room cell) 0) 0) None (Some (get_or times (events_from room cell) nan))
 
--- the scheduler with this heap, these lookups and so many cells
-abbrev pub made : List ℕ → List ℕ → ℕ → Scheduler
-made heap lookups n = record { heap = heap; lookups = lookups; cells = n }
+abbrev pub heads_of : Heads → ℕ → Head
+heads_of t = head_in t.times.now t.held.now t.room

@@ -1,4 +1,4 @@
-use Rattle.scheduler.proofs.+upshift.Given as goal
+use Rattle.scheduler.proofs.Scheduler.+upshift.Given as goal
 
 abbrev pub decreases-upshift : goal.decreases-upshift
 decreases-upshift l = l.c
