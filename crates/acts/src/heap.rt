@@ -1,26 +1,25 @@
 // The heap's update, in its table.
 ghost use Rattle.std.specs.Prelude.{◌≡◌, ◌<◌, ◌≤◌, length};
 ghost use Rattle.scheduler.specs.Heap.{updated, update_swaps};
-ghost use Rattle.scheduler.specs.Inside.{head_in};
+ghost use Rattle.scheduler.specs.Inside.{head_in, heads_of};
 ghost use Rattle.layout.specs.Widths.{order_wide};
 ghost use Rattle.tables.specs.Layout.{order_bytes};
 ghost use Rattle.tables.specs.Decode.{scheduler_of};
 ghost use Rattle.acts.specs.Queues.{shifted_to};
 
 use layout::HEAP;
-use scheduler::Updated;
-use scheduler::head::{Head, is_earlier};
+use scheduler::head::{Head, Heads, is_earlier};
 use tables::Sizes;
 
 // Where the cell at a heap index goes first, read in place: that index where it stays.
-fn shifted_to(heap: &[u8], queue: &[u64], events: &[f64], z: Sizes, at: usize, later: bool) -> usize
-    requires { (z.cells ≤ length heap.now) × (at < 256) × (z.room ≤ 256) }
-    ensures { result ≡ shifted_to (head_in events.now queue.now z.room) heap.now z.cells at later }
+fn shifted_to(heads: Heads, heap: &[u8], at: usize, later: bool) -> usize
+    requires { at < 256 }
+    ensures { result ≡ shifted_to (heads_of heads.entry) heap.now (length heap.now) at later }
 {
     if later {
-        scheduler::child(heap, z.cells, events, queue, z.room, at)
+        heads.child(heap, at)
     } else {
-        scheduler::parent(heap, z.cells, events, queue, z.room, at)
+        heads.parent(heap, at)
     }
 }
 
@@ -37,15 +36,19 @@ pub fn update(
     ensures { (order.new ≡ order_bytes (updated (head_in events.now queue.now z.room) (scheduler_of z.cells order.old) cell before (head_in events.now queue.now z.room cell)))
         × (result ≡ update_swaps (head_in events.now queue.now z.room) (scheduler_of z.cells order.old) cell before (head_in events.now queue.now z.room cell)) }
 {
-    let after = scheduler::head_time(events, queue, z.room, cell);
-    let i = HEAP + cell;
-    let at = order[i] as usize;
-    let to = shifted_to(&order[0..HEAP], queue, events, z, at, is_earlier(before, after));
+    let heads = Heads {
+        times: events,
+        held: queue,
+        room: z.room,
+    };
+    let after = heads.head(cell);
+    let at = usize::from(order[HEAP + cell]);
+    let to = shifted_to(heads, &order[..z.cells], at, is_earlier(before, after));
     if to == at {
         return 0;
     }
     let s = tables::heap::load(order, z.cells);
-    let Updated { scheduler, swaps } = s.update(events, queue, z.room, cell, before, after);
+    let (scheduler, swaps) = s.update(heads, cell, before, after);
     tables::heap::store(order, scheduler);
     swaps
 }

@@ -12,7 +12,7 @@ ghost use Rattle.acts.specs.Tell.{IsReady, InQueues, QueuesTold, SameTables};
 
 use crate::heap;
 use model::{Halt, Place, Plan};
-use scheduler::head::Head;
+use scheduler::head::{Head, Heads};
 use tables::parts::Part;
 use tables::{Sizes, parts, places, queues, rows};
 
@@ -39,7 +39,12 @@ fn row_of(queue: &[u64], events: &[f64], z: Sizes, cell: usize) -> CellRow
     CellRow {
         nums: parts::queue_part(z, cell),
         reals: parts::events_part(z, cell),
-        head: scheduler::head_time(events, queue, z.room, cell),
+        head: Heads {
+            times: events,
+            held: queue,
+            room: z.room,
+        }
+        .head(cell),
     }
 }
 

@@ -8,13 +8,12 @@ use lib.ListN.{get_or}
 use borrow.Author.Tests.{eq-eqb, ne_eqb}
 use Rattle.scheduler.specs.Head.{Head, earlier}
 use Rattle.scheduler.specs.Heap.{time_in, parent}
-use Rattle.scheduler.specs.Inside.{made}
 use Rattle.scheduler.proofs.Laws as laws
 use Rattle.model.specs.Check.{in_order}
 
 module _ (h : ℕ → Head) (heap : List ℕ) (n i : ℕ) where
   pub time_in_lem : i < n → time_in h heap n i ≡ h (get_or heap i 0)
-  time_in_lem = laws.time_in_lem h (made heap [] n) i
+  time_in_lem = laws.time_in_lem h (record { heap = heap; lookups = []; cells = n }) i
 
 module _ (h : ℕ → Head) (heap : List ℕ) (n i : ℕ) where
   pub order_first : i ≡ 0 → true ≡ in_order h heap n i

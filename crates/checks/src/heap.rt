@@ -4,6 +4,8 @@ ghost use Rattle.halting.specs.Every.{every};
 ghost use Rattle.scheduler.specs.Inside.{head_in};
 ghost use Rattle.model.specs.Check.{leads_back, inverse, in_order};
 
+use scheduler::head::{Heads, is_earlier};
+
 // Is each of the first n of `a` below n, and does `b` lead back from it?
 pub fn inverse(a: &[u8], b: &[u8], n: usize) -> bool
     requires { (n ≤ length a.now) × (n ≤ length b.now) }
@@ -40,9 +42,14 @@ fn in_order(heap: &[u8], queue: &[u64], events: &[f64], room: usize, n: usize, i
         return true;
     }
     let p = (i - 1) / 2;
-    let child = scheduler::head_time(events, queue, room, heap[i] as usize);
-    let parent = scheduler::head_time(events, queue, room, heap[p] as usize);
-    if scheduler::head::is_earlier(child, parent) {
+    let heads = Heads {
+        times: events,
+        held: queue,
+        room,
+    };
+    let child = heads.head(heap[i] as usize);
+    let parent = heads.head(heap[p] as usize);
+    if is_earlier(child, parent) {
         return false;
     }
     true

@@ -84,7 +84,14 @@ impl<'a> Heads<'a> {
     {
         let l = 2 * p + 1;
         let r = 2 * p + 2;
-        pick_child(self.at(heap, p), self.at(heap, l), self.at(heap, r), p, l, r)
+        pick_child(
+            self.at(heap, p),
+            self.at(heap, l),
+            self.at(heap, r),
+            p,
+            l,
+            r,
+        )
     }
 
     // The parent that c changes places with, or c where the shift ends.

@@ -54,7 +54,8 @@ impl Scheduler {
         requires { (a < 256) × (b < 256) }
         ensures { self.new ≡ swap_at self.old a b }
     {
-        self.lookups.swap(usize::from(self.heap[a]), usize::from(self.heap[b]));
+        self.lookups
+            .swap(usize::from(self.heap[a]), usize::from(self.heap[b]));
         self.heap.swap(a, b);
     }
 

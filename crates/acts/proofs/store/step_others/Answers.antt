@@ -29,7 +29,7 @@ returns-in_err-step_grain c =
     let t = c.step_grain.new.grains in
     l.invariant.1 t _
     (λ s S u. others-halt step_grain s (InGrains a.z t) a.p a.list.now l.g-index c.from_residual.result e.field-0.0 c.loop-g-test.true c.if-g-p.true c.from_residual.ensures.1
-        (e.ensures s S u))
+    (e.ensures s S u))
 
 pub loop-g-preserved : goal.loop-g-preserved
 loop-g-preserved c =
@@ -40,14 +40,14 @@ loop-g-preserved c =
     let goes_on = λ (t : List Float). GoesOn (each_of step_grain (others a.p a.list.now)) (each_of step_grain (others a.p (drop (l.g-index + 1) a.list.now))) a.z a.domain a.clock a.grains.now t in
     elim c.if-g-p.branch [
       | then-g-p+in_ok-step_grain w ↦ let d = w.in_ok-step_grain.ensures in subst goes_on (sym w.grains-is) (
-            ((step_grain g v).st, (d v l.invariant.0.1 (refl, refl)).1),
-            λ t r k. l.invariant.1 t r (λ s S u. others-next step_grain s (InGrains a.z w.step_grain.new.grains) (InGrains a.z t) a.p a.list.now l.g-index c.loop-g-test.true w.if-g-p.true (d s S u)
-                (k (step_grain g s).st (d s S u).1 (at_on a.domain a.clock s (step_grain g s).st (step_only g s) u))),
-          )
+        ((step_grain g v).st, (d v l.invariant.0.1 (refl, refl)).1),
+        λ t r k. l.invariant.1 t r (λ s S u. others-next step_grain s (InGrains a.z w.step_grain.new.grains) (InGrains a.z t) a.p a.list.now l.g-index c.loop-g-test.true w.if-g-p.true (d s S u)
+            (k (step_grain g s).st (d s S u).1 (at_on a.domain a.clock s (step_grain g s).st (step_only g s) u))),
+      )
       | else-g-p w ↦ subst goes_on (sym w.grains-is) (
-            l.invariant.0,
-            λ t r k. l.invariant.1 t r (λ s S u. others-past step_grain s (InGrains a.z t) a.p a.list.now l.g-index c.loop-g-test.true w.if-g-p.false (k s S u)),
-          )
+        l.invariant.0,
+        λ t r k. l.invariant.1 t r (λ s S u. others-past step_grain s (InGrains a.z t) a.p a.list.now l.g-index c.loop-g-test.true w.if-g-p.false (k s S u)),
+      )
     ]
 
 pub returns : goal.returns

@@ -9,7 +9,7 @@ returns-then-is_earlier c =
     let n = c.args.n in
     let hp = c.args.heap.now in
     let h = head_in c.args.events.now c.args.queue.now c.args.room in
-    order_no h hp n i c.requires.0 c.if-i-eq0.false c.head_time-child.ensures c.head_time-parent.ensures (sym c.is_earlier.ensures ∙ c.if-is_earlier.true)
+    order_no h hp n i c.requires.0 c.if-i-eq0.false c.head-child.ensures c.head-parent.ensures (sym c.is_earlier.ensures ∙ c.if-is_earlier.true)
 
 pub returns : goal.returns
 returns c =
@@ -17,4 +17,4 @@ returns c =
     let n = c.args.n in
     let hp = c.args.heap.now in
     let h = head_in c.args.events.now c.args.queue.now c.args.room in
-    order_yes h hp n i c.requires.0 c.if-i-eq0.false c.head_time-child.ensures c.head_time-parent.ensures (sym c.is_earlier.ensures ∙ c.if-is_earlier.false)
+    order_yes h hp n i c.requires.0 c.if-i-eq0.false c.head-child.ensures c.head-parent.ensures (sym c.is_earlier.ensures ∙ c.if-is_earlier.false)
