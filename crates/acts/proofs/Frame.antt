@@ -8,8 +8,8 @@ use lib.ListN.{length, get_or}
 use lib.Ieee.{Float}
 use Rattle.halting.specs.Out.{out, each_of}
 use Rattle.model.specs.declared.Place.{Place}
-use Rattle.model.specs.declared.Plan.{Plan}
-use Rattle.model.specs.declared.Plan.TheVariants.{Nothing, Due, Refused}
+use Rattle.std.specs.Prelude.{Ok, Err, Some, None}
+use Rattle.model.specs.Plans.{Plan}
 use Rattle.model.specs.Events.{place_of, fine_place}
 use Rattle.model.specs.State.{Row, none, State, queue, with_queues, requeued}
 use Rattle.model.specs.Acts.{insert, inserted, put, cancel, cancelled, taken}
@@ -43,9 +43,9 @@ insert_only c e s = go (fine_place e) (ltb (length (queue s c)) s.room)
     go false b = refl
 
 pub put_only : (c : ℕ) (p : Plan) (s : State) → OnlyQueues s (put c p s).st
-put_only c Nothing s = refl
-put_only c (Due e) s = insert_only c (place_of e) s
-put_only c Refused s = refl
+put_only c (Ok None) s = refl
+put_only c (Ok (Some e)) s = insert_only c (place_of e) s
+put_only c (Err _) s = refl
 
 pub cancelled_only : (g c : ℕ) (s : State) → OnlyQueues s (cancelled g c s)
 unfolding cancelled

@@ -160,6 +160,12 @@ module _ {S : Type 0} where
     pub each_on : (H H' : S → Type 0) (m c : ℕ) {r r' : ℕ} → c < m → Tells H r (act c s) → r ≡ 0 → Tells H' r' (each act (m - (c + 1)) (c + 1) (act c s).st) → Tells H' r' (each act (m - c) c s)
     each_on H H' m c {r' = r'} h t u v = subst (λ (o : Out S). Tells H' r' o) (sym (each_turn m c h)) (told_on H H' (act c s) (each act (m - (c + 1)) (c + 1)) u t v)
 
+    pub each-halt : {A : Type 0} (H : S → Type 0) (m c : ℕ) (r : Result A Halt) (h : Halt) → c < m → IsErrAnd r (λ (x : Halt). x ≡ h) → Tells H (halt_number h) (act c s) → Tells H (number_of r) (each act (m - c) c s)
+    each-halt H m c r h b e t = subst (λ (o : Out S). Tells H (number_of r) o) (sym (each_turn m c b)) (told_halt H (act c s) (each act (m - (c + 1)) (c + 1)) r h e t)
+
+    pub each-next : (H H' : S → Type 0) (m c : ℕ) {r' : ℕ} → c < m → Tells H 0 (act c s) → Tells H' r' (each act (m - (c + 1)) (c + 1) (act c s).st) → Tells H' r' (each act (m - c) c s)
+    each-next H H' m c {r' = r'} b t v = subst (λ (o : Out S). Tells H' r' o) (sym (each_turn m c b)) (told_next H H' (act c s) (each act (m - (c + 1)) (c + 1)) t v)
+
 -- what a list's first number and its rest, lent on, have of the whole
 pub all_tail : (P : ℕ → Type 0) (l : List ℕ) → All P l → (length l ≡ 0 → ⊥) → P (get_or l 0 0) × All P (mid_of 1 (length l - 1) l)
 all_tail P [] v z = absurd (z refl)

@@ -40,7 +40,7 @@ use Rattle.tables.proofs.Runs.{rows_nums_wide, rows_reals_wide}
 use Rattle.tables.proofs.RowLaws.{live_most}
 use Rattle.tables.proofs.HeapLaws.{heaped_is, heaped_long}
 use Rattle.acts.specs.declared.queue.CellRow.{CellRow}
-use Rattle.acts.specs.Queues.{nums_part, reals_part, RowOf}
+use Rattle.acts.specs.Queues.{RowOf}
 use Rattle.acts.proofs.Rows.{full_placed, full_without, full_headless}
 use Rattle.acts.proofs.Updates.{heaped_new}
 
@@ -120,39 +120,39 @@ module _ {z : Sizes} {nums : List ℕ} {reals : List Float} {qs : List (Row Plac
   abbrev old : Row Place
   old = get_or qs c none
 
-  nums_from : k.a ≡ queue_from z.room c
+  nums_from : k.nums.from ≡ queue_from z.room c
   nums_from = ap (λ (p : Part). p.from) K.nums_are
 
-  nums_wide : k.b - k.a ≡ queue_wide z.room
+  nums_wide : k.nums.to - k.nums.from ≡ queue_wide z.room
   nums_wide = let a = nums_from in let b = ap (λ (p : Part). p.to) K.nums_are in omega arith
 
-  reals_from : k.p ≡ events_from z.room c
+  reals_from : k.reals.from ≡ events_from z.room c
   reals_from = ap (λ (p : Part). p.from) K.reals_are
 
-  reals_wide : k.q - k.p ≡ events_wide z.room
+  reals_wide : k.reals.to - k.reals.from ≡ events_wide z.room
   reals_wide = let a = reals_from in let b = ap (λ (p : Part). p.to) K.reals_are in omega arith
 
   -- the parts hold it
-  pub row_at : RowIn (lent (nums_part k) nums) (lent (reals_part k) reals) old
+  pub row_at : RowIn (lent k.nums nums) (lent k.reals reals) old
   row_at = record {
-    nums_is = chunk_mid queue_nums (queue_wide z.room) qs c none k.a (k.b - k.a) (rows_nums_wide z.room qs t.full) (inside t c h) t.queue_is nums_from nums_wide;
-    reals_is = chunk_mid queue_reals (events_wide z.room) qs c none k.p (k.q - k.p) (rows_reals_wide z.room qs t.full) (inside t c h) t.events_is reals_from reals_wide;
+    nums_is = chunk_mid queue_nums (queue_wide z.room) qs c none k.nums.from (k.nums.to - k.nums.from) (rows_nums_wide z.room qs t.full) (inside t c h) t.queue_is nums_from nums_wide;
+    reals_is = chunk_mid queue_reals (events_wide z.room) qs c none k.reals.from (k.reals.to - k.reals.from) (rows_reals_wide z.room qs t.full) (inside t c h) t.events_is reals_from reals_wide;
   }
 
-  pub row_count : count_in (lent (nums_part k) nums) ≡ length old.live
+  pub row_count : count_in (lent k.nums nums) ≡ length old.live
   row_count = ap count_in row_at.nums_is
 
-  pub count_there : 0 < length (lent (nums_part k) nums)
+  pub count_there : 0 < length (lent k.nums nums)
   count_there = let e = ap length row_at.nums_is in omega arith
 
   pub row_few : z.room ≤ 256 → length (places old) ≤ 256
   row_few m = let f = full_at t c h in omega arith
 
   -- with another row put there the tables hold that one
-  pub put_row : (r : Row Place) {ns : List ℕ} {rs : List Float} → Full z.room r → RowIn ns rs r → Tabled z (back (nums_part k) nums ns) (back (reals_part k) reals rs) (set qs c r)
+  pub put_row : (r : Row Place) {ns : List ℕ} {rs : List Float} → Full z.room r → RowIn ns rs r → Tabled z (back k.nums nums ns) (back k.reals reals rs) (set qs c r)
   put_row r g u = record {
-    queue_is = chunk_put queue_nums (queue_wide z.room) qs c none r k.a (k.b - k.a) (rows_nums_wide z.room qs t.full) (inside t c h) t.queue_is nums_from nums_wide u.nums_is;
-    events_is = chunk_put queue_reals (events_wide z.room) qs c none r k.p (k.q - k.p) (rows_reals_wide z.room qs t.full) (inside t c h) t.events_is reals_from reals_wide u.reals_is;
+    queue_is = chunk_put queue_nums (queue_wide z.room) qs c none r k.nums.from (k.nums.to - k.nums.from) (rows_nums_wide z.room qs t.full) (inside t c h) t.queue_is nums_from nums_wide u.nums_is;
+    events_is = chunk_put queue_reals (events_wide z.room) qs c none r k.reals.from (k.reals.to - k.reals.from) (rows_reals_wide z.room qs t.full) (inside t c h) t.events_is reals_from reals_wide u.reals_is;
     many = length-set qs c r ∙ t.many;
     full = all_set (Full z.room) qs c r t.full g;
   }
@@ -213,7 +213,7 @@ module _ {z : Sizes} {nums : List ℕ} {reals : List Float} {order : List ℕ} (
   insert_five f = on_no (Told z nums reals order 5) (fine_place e) full (out 5 s) f (refl, q)
 
   module _ {k : CellRow} (K : RowOf z nums reals c k) (h : c < z.cells) (f : fine_place e ≡ true) where
-    pub insert-six : z.room ≤ count_in (lent (nums_part k) nums) → Told z nums reals order 6 (insert c e s)
+    pub insert-six : z.room ≤ count_in (lent k.nums nums) → Told z nums reals order 6 (insert c e s)
     unfolding insert
     insert-six l =
         on_yes (Told z nums reals order 6) (fine_place e) full (out 5 s) f
@@ -221,7 +221,7 @@ module _ {z : Sizes} {nums : List ℕ} {reals : List Float} {order : List ℕ} (
         (le-ltb (length (queue s c)) s.room (let n = row_count q.tables K h in let m = q.room_is in omega arith)) (refl, q))
 
     -- what the leaf asks, and what the tables hold once the row is in
-    pub insert-asks : count_in (lent (nums_part k) nums) < z.room → InParts (lent (nums_part k) nums) (lent (reals_part k) reals) (λ r. length r.live < length (places r))
+    pub insert-asks : count_in (lent k.nums nums) < z.room → InParts (lent k.nums nums) (lent k.reals reals) (λ r. length r.live < length (places r))
     insert-asks l = (
       get_or s.queues c none,
       row_at q.tables K h,
@@ -229,15 +229,15 @@ module _ {z : Sizes} {nums : List ℕ} {reals : List Float} {order : List ℕ} (
       let n = row_count q.tables K h in let m = full_at q.tables c h in omega arith,
     )
 
-    pub insert-tables : {ns : List ℕ} {rs : List Float} → count_in (lent (nums_part k) nums) < z.room
-        → Makes (placed e) (lent (nums_part k) nums) (lent (reals_part k) reals) ns rs
-        → Tabled z (back (nums_part k) nums ns) (back (reals_part k) reals rs) (set s.queues c (placed e (get_or s.queues c none)))
+    pub insert-tables : {ns : List ℕ} {rs : List Float} → count_in (lent k.nums nums) < z.room
+        → Makes (placed e) (lent k.nums nums) (lent k.reals reals) ns rs
+        → Tabled z (back k.nums nums ns) (back k.reals reals rs) (set s.queues c (placed e (get_or s.queues c none)))
     insert-tables l done =
         let r : Row Place = get_or s.queues c none in
         let n = row_count q.tables K h in
         put_row q.tables K h (placed e r) (full_placed e r.live r.spare (full_at q.tables c h) (omega arith)) (done r (row_at q.tables K h))
 
-    pub insert-done : {ns : List ℕ} {rs : List Float} {order₁ : List ℕ} → count_in (lent (nums_part k) nums) < z.room
+    pub insert-done : {ns : List ℕ} {rs : List Float} {order₁ : List ℕ} → count_in (lent k.nums nums) < z.room
         → Tabled z ns rs (set s.queues c (placed e (get_or s.queues c none)))
         → order₁ ≡ order_bytes (updated (head_in rs ns z.room) (scheduler_of z.cells order) c k.head (head_in rs ns z.room c))
         → Told z ns rs order₁ 0 (insert c e s)
@@ -251,11 +251,11 @@ module _ {z : Sizes} {nums : List ℕ} {reals : List Float} {order : List ℕ} (
 -- ---- cancelling
 
 module _ {z : Sizes} {nums : List ℕ} {reals : List Float} {order : List ℕ} (c g : ℕ) (s : State) (q : Queued z nums reals order s) {k : CellRow} (K : RowOf z nums reals c k) (h : c < z.cells) where
-  pub cancel_asks : InParts (lent (nums_part k) nums) (lent (reals_part k) reals) (λ r. length r.live ≤ length (places r))
+  pub cancel_asks : InParts (lent k.nums nums) (lent k.reals reals) (λ r. length r.live ≤ length (places r))
   cancel_asks = (get_or s.queues c none, row_at q.tables K h, row_few q.tables K h q.ranged.room_most, live_most (get_or s.queues c none))
 
-  pub cancel_tables : {ns : List ℕ} {rs : List Float} → Makes (without g) (lent (nums_part k) nums) (lent (reals_part k) reals) ns rs
-      → Tabled z (back (nums_part k) nums ns) (back (reals_part k) reals rs) (set s.queues c (without g (get_or s.queues c none)))
+  pub cancel_tables : {ns : List ℕ} {rs : List Float} → Makes (without g) (lent k.nums nums) (lent k.reals reals) ns rs
+      → Tabled z (back k.nums nums ns) (back k.reals reals rs) (set s.queues c (without g (get_or s.queues c none)))
   cancel_tables done =
       let r : Row Place = get_or s.queues c none in
       put_row q.tables K h (without g r) (full_without g r (full_at q.tables c h)) (done r (row_at q.tables K h))
@@ -277,16 +277,16 @@ module _ {z : Sizes} {nums : List ℕ} {reals : List Float} {order : List ℕ} (
   some_there : 0 < length (queue s c)
   some_there = omega (arith, count_at q.tables c)
 
-  pub take_asks : InParts (lent (nums_part k) nums) (lent (reals_part k) reals) (λ r. 0 < length r.live)
+  pub take_asks : InParts (lent k.nums nums) (lent k.reals reals) (λ r. 0 < length r.live)
   take_asks = (get_or s.queues c none, row_at q.tables K h, row_few q.tables K h q.ranged.room_most, some_there)
 
-  pub take_tables : {ns : List ℕ} {rs : List Float} {x : Place} → Takes x (lent (nums_part k) nums) (lent (reals_part k) reals) ns rs
-      → Tabled z (back (nums_part k) nums ns) (back (reals_part k) reals rs) (set s.queues c (headless (get_or s.queues c none)))
+  pub take_tables : {ns : List ℕ} {rs : List Float} {x : Place} → Takes x (lent k.nums nums) (lent k.reals reals) ns rs
+      → Tabled z (back k.nums nums ns) (back k.reals reals rs) (set s.queues c (headless (get_or s.queues c none)))
   take_tables got =
       let r : Row Place = get_or s.queues c none in
       put_row q.tables K h (headless r) (full_headless r.live r.spare some_there (full_at q.tables c h)) (got r (row_at q.tables K h)).1
 
-  pub take_done : {ns ns₁ : List ℕ} {rs rs₁ : List Float} {order₁ : List ℕ} {x : Place} → Takes x (lent (nums_part k) nums) (lent (reals_part k) reals) ns₁ rs₁
+  pub take_done : {ns ns₁ : List ℕ} {rs rs₁ : List Float} {order₁ : List ℕ} {x : Place} → Takes x (lent k.nums nums) (lent k.reals reals) ns₁ rs₁
       → Tabled z ns rs (set s.queues c (headless (get_or s.queues c none)))
       → order₁ ≡ order_bytes (updated (head_in rs ns z.room) (scheduler_of z.cells order) c k.head (head_in rs ns z.room c))
       → c ≡ first s → (x ≡ head s) × Queued z ns rs order₁ (taken s)

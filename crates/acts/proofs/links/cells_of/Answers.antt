@@ -4,9 +4,7 @@ use Rattle.tables.proofs.ListLaws.{home-in, home-part}
 use Rattle.acts.proofs.links.cells_of.Goals as goal
 
 pub live_of-requires : goal.live_of-requires
-live_of-requires c =
-    ((get_or c.requires.0.0.homes c.args.grain none, home-part c.requires.0.1 c.args.grain c.requires.2 c.home_part.ensures), (home-in c.requires.0.1 c.args.grain c.requires.2 c.home_part.ensures c.requires.1).1)
+live_of-requires c = (get_or c.requires.0.0.homes c.args.grain none, home-part c.requires.0.1 c.args.grain c.requires.2 c.home_part.ensures)
 
 pub returns : goal.returns
-returns c =
-    (c.live_of.ensures.0, c.live_of.ensures.1, λ s S. c.live_of.ensures.2 (get_or s.homes c.args.grain none) (home-part S c.args.grain c.requires.2 c.home_part.ensures))
+returns c = λ s S. c.live_of.ensures (get_or s.homes c.args.grain none) (home-part S c.args.grain c.requires.2 c.home_part.ensures)

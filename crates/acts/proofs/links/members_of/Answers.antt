@@ -4,9 +4,7 @@ use Rattle.tables.proofs.ListLaws.{member-in, member-part}
 use Rattle.acts.proofs.links.members_of.Goals as goal
 
 pub live_of-requires : goal.live_of-requires
-live_of-requires c =
-    ((get_or c.requires.0.0.members c.args.cell none, member-part c.requires.0.1 c.args.cell c.requires.2 c.member_part.ensures), (member-in c.requires.0.1 c.args.cell c.requires.2 c.member_part.ensures c.requires.1).1)
+live_of-requires c = (get_or c.requires.0.0.members c.args.cell none, member-part c.requires.0.1 c.args.cell c.requires.2 c.member_part.ensures)
 
 pub returns : goal.returns
-returns c =
-    (c.live_of.ensures.0, c.live_of.ensures.1, λ s S. c.live_of.ensures.2 (get_or s.members c.args.cell none) (member-part S c.args.cell c.requires.2 c.member_part.ensures))
+returns c = λ s S. c.live_of.ensures (get_or s.members c.args.cell none) (member-part S c.args.cell c.requires.2 c.member_part.ensures)

@@ -4,11 +4,11 @@ use Rattle.acts.proofs.queue.row_of.Goals as goal
 
 pub returns : goal.returns
 returns c =
-    let nums = part_in c.args.cell c.args.z.cells (queue_wide c.args.z.room) c.queue_part-a.ensures c.requires.1 c.requires.2 in
-    let reals = part_in c.args.cell c.args.z.cells (events_wide c.args.z.room) c.events_part-p.ensures c.requires.1 c.requires.3 in
+    let nums = part_in c.args.cell c.args.z.cells (queue_wide c.args.z.room) c.queue_part.ensures c.requires.1 c.requires.2 in
+    let reals = part_in c.args.cell c.args.z.cells (events_wide c.args.z.room) c.events_part.ensures c.requires.1 c.requires.3 in
     record {
-      nums_are = c.queue_part-a.ensures;
-      reals_are = c.events_part-p.ensures;
+      nums_are = c.queue_part.ensures;
+      reals_are = c.events_part.ensures;
       head_is = c.head_time.ensures;
       nums_on = nums.0;
       nums_in = nums.1;
