@@ -1,5 +1,5 @@
 -- Entering and leaving, from what the leaves on rows say of the parts of the table. Assumes nothing.
-use mathlib.Core.Path.{◌≡◌, refl, sym, ◌∙◌, subst}
+use mathlib.Core.Path.{◌≡◌, refl, sym, ap, ◌∙◌, subst}
 use Prim.Native.Nat.{ℕ, ◌≤◌, ◌<◌}
 use native.Mathlib.Omega.{arith}
 use mathlib.Core.List.{List}
@@ -16,19 +16,20 @@ use Rattle.tables.specs.declared.parts.Part.{Part}
 use Rattle.tables.specs.Layout.{places, row_nums}
 use Rattle.tables.specs.Holds.{Listed}
 use Rattle.tables.specs.Parts.{home_part, member_part, lent, back}
-use Rattle.tables.specs.Rows.{InNums, count_in}
-use Rattle.tables.proofs.ListLaws.{home-part, member-part, home-back, member_back, home-count, member-count, row_room, row_below, pushed_room, pushed_below, pulled_room, pulled_below}
+use Rattle.tables.specs.Rows.{InNums}
+use Rattle.tables.proofs.ListLaws.{home-part, member-part, home-back, member_back, row_room, row_below, pushed_room, pushed_below, pulled_room, pulled_below}
 use Rattle.acts.specs.Tell.{InLists, Pair, ListsTold}
 
 -- what the leaves say
-abbrev pub Asks : ℕ → List ℕ → Bool → Type 0
-Asks x l b = (r : Row ℕ) → l ≡ row_nums r → b ≡ has x r.live
-
 abbrev pub Makes : (Row ℕ → Row ℕ) → List ℕ → List ℕ → Type 0
 Makes f l l' = (r : Row ℕ) → l ≡ row_nums r → l' ≡ row_nums (f r)
 
 abbrev pub Done : Sizes → (State → Out State) → ℕ → List ℕ → List ℕ → Type 0
 Done z act r l l' = (s : State) → InLists z l s → ListsTold z l' r (act s)
+
+-- the numbers that a list of every state in the table has
+abbrev pub Reads : Sizes → List ℕ → (State → List ℕ) → List ℕ → Type 0
+Reads z l f xs = (s : State) → InLists z l s → xs ≡ f s
 
 abbrev home_row : State → ℕ → Row ℕ
 home_row s g = get_or s.homes g none
@@ -36,65 +37,66 @@ home_row s g = get_or s.homes g none
 abbrev member_row : State → ℕ → Row ℕ
 member_row s c = get_or s.members c none
 
--- the grain's row is at the part h, the cell's at m
+-- ---- entering where nothing is changed: listed already, the cell full, the grain full
+module _ {z : Sizes} (g c : ℕ) {l : List ℕ} {ms : List ℕ} (lm : Reads z l (λ s. listed s c) ms) {b : Bool} (told : b ≡ has g ms) where
+  has_told : (s : State) → InLists z l s → has g (listed s c) ≡ b
+  has_told s S = ap (has g) (sym (lm s S)) ∙ sym told
+
+  pub enter_listed : b ≡ true → Done z (enter g c) 8 l l
+  unfolding enter
+  enter_listed t s S = rw (has_told s S ∙ t) (refl, S)
+
+  pub enter_full : b ≡ false → member_room ≤ length ms → Done z (enter g c) 7 l l
+  unfolding enter
+  enter_full t k s S =
+      let v : ltb (length (listed s c)) member_room ≡ false = le-ltb _ member_room (subst (λ (n : List ℕ). member_room ≤ length n) (lm s S) k) in
+      rw (has_told s S ∙ t, v) (refl, S)
+
+  pub enter_crowded : {hs : List ℕ} → Reads z l (λ s. home s g) hs → b ≡ false → length ms < member_room → home_room ≤ length hs → Done z (enter g c) 7 l l
+  unfolding enter
+  enter_crowded lh t k j s S =
+      let v : ltb (length (listed s c)) member_room ≡ true = lt-ltb _ member_room (subst (λ (n : List ℕ). length n < member_room) (lm s S) k) in
+      let w : ltb (length (home s g)) home_room ≡ false = le-ltb _ home_room (subst (λ (n : List ℕ). home_room ≤ length n) (lh s S) j) in
+      rw (has_told s S ∙ t, v, w) (refl, S)
+
+-- ---- the grain's row is at the part h, the cell's at m
 module _ {z : Sizes} {g c : ℕ} {l : List ℕ} (hg : g < z.grains) (hc : c < z.cells) {h m : Part} (eh : h ≡ home_part g) (em : m ≡ member_part z c) where
-  -- ---- a grain goes into a cell's row, then the cell into the grain's
-  member_pushed : {ys : List ℕ} (s : State) → InLists z l s → count_in (lent m l) < member_room → Makes (pushed g) (lent m l) ys
-      → Listed z (back m l ys) s.homes (set s.members c (pushed g (member_row s c)))
-  member_pushed s S k one =
-      member_back S c hc em (pushed g (member_row s c)) (one (member_row s c) (member-part S c hc em))
-      (pushed_room g (member_row s c) (row_room S.members c hc) (let n = member-count S c hc em refl in omega arith))
-      (pushed_below z.grains g (member_row s c) (row_below S.members c hc) hg)
+  -- a grain goes into a cell's row, then the cell into the grain's
+  module _ {ms : List ℕ} (lm : Reads z l (λ s. listed s c) ms) (k : length ms < member_room) where
+    less_listed : (s : State) → InLists z l s → length (listed s c) < member_room
+    less_listed s S = subst (λ (n : List ℕ). length n < member_room) (lm s S) k
 
-  pub member_more : (s : State) → InLists z l s → count_in (lent m l) < member_room → InNums (lent m l) (λ r. length r.live < length (places r))
-  member_more s S k = (member_row s c, member-part S c hc em, let v = row_room S.members c hc in let n = member-count S c hc em refl in omega arith)
+    member_pushed : {ys : List ℕ} (s : State) → InLists z l s → Makes (pushed g) (lent m l) ys → Listed z (back m l ys) s.homes (set s.members c (pushed g (member_row s c)))
+    member_pushed s S one =
+        member_back S c hc em (pushed g (member_row s c)) (one (member_row s c) (member-part S c hc em))
+        (pushed_room g (member_row s c) (row_room S.members c hc) (less_listed s S))
+        (pushed_below z.grains g (member_row s c) (row_below S.members c hc) hg)
 
-  pub home_more : {ys : List ℕ} (s : State) → InLists z l s → count_in (lent m l) < member_room → count_in (lent h l) < home_room → Makes (pushed g) (lent m l) ys
-      → InNums (lent h (back m l ys)) (λ r. length r.live < length (places r))
-  home_more s S k j one =
-      (home_row s g, home-part (member_pushed s S k one) g hg eh, let v = row_room S.homes g hg in let n = home-count S g hg eh refl in omega arith)
+    pub member_more : (s : State) → InLists z l s → InNums (lent m l) (λ r. length r.live < length (places r))
+    member_more s S = (member_row s c, member-part S c hc em, let v = row_room S.members c hc in let n = less_listed s S in omega arith)
 
-  -- ---- entering: listed already, the cell full, the grain full, done
-  has_told : {b : Bool} (s : State) → InLists z l s → Asks g (lent m l) b → b ≡ has g (listed s c)
-  has_told s S told = told (member_row s c) (member-part S c hc em)
+    module _ {hs : List ℕ} (lh : Reads z l (λ s. home s g) hs) (j : length hs < home_room) where
+      less_home : (s : State) → InLists z l s → length (home s g) < home_room
+      less_home s S = subst (λ (n : List ℕ). length n < home_room) (lh s S) j
 
-  pub enter_listed : {b : Bool} → Asks g (lent m l) b → b ≡ true → Done z (enter g c) 8 l l
-  unfolding enter
-  enter_listed told t s S =
-      let u : has g (listed s c) ≡ true = sym (has_told s S told) ∙ t in
-      rw u (refl, S)
+      pub home_more : {ys : List ℕ} (s : State) → InLists z l s → Makes (pushed g) (lent m l) ys → InNums (lent h (back m l ys)) (λ r. length r.live < length (places r))
+      home_more s S one = (home_row s g, home-part (member_pushed s S one) g hg eh, let v = row_room S.homes g hg in let n = less_home s S in omega arith)
 
-  pub enter_full : {b : Bool} → Asks g (lent m l) b → b ≡ false → member_room ≤ count_in (lent m l) → Done z (enter g c) 7 l l
-  unfolding enter
-  enter_full told t k s S =
-      let u : has g (listed s c) ≡ false = sym (has_told s S told) ∙ t in
-      let v : ltb (length (listed s c)) member_room ≡ false = le-ltb _ member_room (subst (λ (n : ℕ). member_room ≤ n) (member-count S c hc em refl) k) in
-      rw (u, v) (refl, S)
+      pub enter_done : {b : Bool} {ys zs : List ℕ} → b ≡ has g ms → b ≡ false → Makes (pushed g) (lent m l) ys → Makes (pushed c) (lent h (back m l ys)) zs
+          → Done z (enter g c) 0 l (back h (back m l ys) zs)
+      unfolding enter
+      enter_done told t one two s S =
+          let v : ltb (length (listed s c)) member_room ≡ true = lt-ltb _ member_room (less_listed s S) in
+          let w : ltb (length (home s g)) home_room ≡ true = lt-ltb _ home_room (less_home s S) in
+          let S' = member_pushed s S one in
+          rw (has_told g c lm told s S ∙ t, v, w) (
+            refl,
+            home-back S' g hg eh (pushed c (home_row s g)) (two (home_row s g) (home-part S' g hg eh))
+                (pushed_room c (home_row s g) (row_room S.homes g hg) (less_home s S))
+                (pushed_below z.cells c (home_row s g) (row_below S.homes g hg) hc),
+          )
 
-  pub enter_crowded : {b : Bool} → Asks g (lent m l) b → b ≡ false → count_in (lent m l) < member_room → home_room ≤ count_in (lent h l) → Done z (enter g c) 7 l l
-  unfolding enter
-  enter_crowded told t k j s S =
-      let u : has g (listed s c) ≡ false = sym (has_told s S told) ∙ t in
-      let v : ltb (length (listed s c)) member_room ≡ true = lt-ltb _ member_room (subst (λ (n : ℕ). n < member_room) (member-count S c hc em refl) k) in
-      let w : ltb (length (home s g)) home_room ≡ false = le-ltb _ home_room (subst (λ (n : ℕ). home_room ≤ n) (home-count S g hg eh refl) j) in
-      rw (u, v, w) (refl, S)
-
-  pub enter_done : {b : Bool} {ys zs : List ℕ} → Asks g (lent m l) b → b ≡ false → count_in (lent m l) < member_room → count_in (lent h l) < home_room
-      → Makes (pushed g) (lent m l) ys → Makes (pushed c) (lent h (back m l ys)) zs → Done z (enter g c) 0 l (back h (back m l ys) zs)
-  unfolding enter
-  enter_done told t k j one two s S =
-      let u : has g (listed s c) ≡ false = sym (has_told s S told) ∙ t in
-      let v : ltb (length (listed s c)) member_room ≡ true = lt-ltb _ member_room (subst (λ (n : ℕ). n < member_room) (member-count S c hc em refl) k) in
-      let w : ltb (length (home s g)) home_room ≡ true = lt-ltb _ home_room (subst (λ (n : ℕ). n < home_room) (home-count S g hg eh refl) j) in
-      let S' = member_pushed s S k one in
-      rw (u, v, w) (
-        refl,
-        home-back S' g hg eh (pushed c (home_row s g)) (two (home_row s g) (home-part S' g hg eh))
-            (pushed_room c (home_row s g) (row_room S.homes g hg) (let n = home-count S g hg eh refl in omega arith))
-            (pushed_below z.cells c (home_row s g) (row_below S.homes g hg) hc),
-      )
-
-  -- ---- leaving: the only cell, done
+  -- ---- leaving: done
   member_pulled : {ys : List ℕ} (s : State) → InLists z l s → Pair g c s → Makes (pulled g) (lent m l) ys
       → Listed z (back m l ys) s.homes (set s.members c (pulled g (member_row s c)))
   member_pulled s S p one =
@@ -108,17 +110,11 @@ module _ {z : Sizes} {g c : ℕ} {l : List ℕ} (hg : g < z.grains) (hc : c < z.
   pub home_there : {ys : List ℕ} (s : State) → InLists z l s → Pair g c s → Makes (pulled g) (lent m l) ys → InNums (lent h (back m l ys)) (λ r. has c r.live ≡ true)
   home_there s S p one = (home_row s g, home-part (member_pulled s S p one) g hg eh, p.1)
 
-  pub leave_refused : count_in (lent h l) ≤ 1 → (s : State) → InLists z l s → Pair g c s → ListsTold z l 9 (leave g c s)
-  unfolding leave
-  leave_refused k s S p =
-      let w : leb (length (home s g)) 1 ≡ true = le-leb _ 1 (subst (λ (n : ℕ). n ≤ 1) (home-count S g hg eh refl) k) in
-      rw w (refl, S)
-
-  pub leave_done : {ys zs : List ℕ} → 1 < count_in (lent h l) → Makes (pulled g) (lent m l) ys → Makes (pulled c) (lent h (back m l ys)) zs
+  pub leave_done : {hs ys zs : List ℕ} → Reads z l (λ s. home s g) hs → 1 < length hs → Makes (pulled g) (lent m l) ys → Makes (pulled c) (lent h (back m l ys)) zs
       → (s : State) → InLists z l s → Pair g c s → ListsTold z (back h (back m l ys) zs) 0 (leave g c s)
   unfolding leave
-  leave_done k one two s S p =
-      let w : leb (length (home s g)) 1 ≡ false = lt-leb _ 1 (subst (λ (n : ℕ). 1 < n) (home-count S g hg eh refl) k) in
+  leave_done lh k one two s S p =
+      let w : leb (length (home s g)) 1 ≡ false = lt-leb _ 1 (subst (λ (n : List ℕ). 1 < length n) (lh s S) k) in
       let S' = member_pulled s S p one in
       rw w (
         refl,
@@ -126,3 +122,10 @@ module _ {z : Sizes} {g c : ℕ} {l : List ℕ} (hg : g < z.grains) (hc : c < z.
             (pulled_room c (home_row s g) (row_room S.homes g hg) p.1)
             (pulled_below z.cells c (home_row s g) (row_below S.homes g hg)),
       )
+
+-- the grain's only cell
+pub leave_refused : {z : Sizes} {g : ℕ} (c : ℕ) {l hs : List ℕ} → Reads z l (λ s. home s g) hs → length hs ≤ 1 → (s : State) → InLists z l s → Pair g c s → ListsTold z l 9 (leave g c s)
+unfolding leave
+leave_refused {g = g} c lh k s S p =
+    let w : leb (length (home s g)) 1 ≡ true = le-leb _ 1 (subst (λ (n : List ℕ). length n ≤ 1) (lh s S) k) in
+    rw w (refl, S)

@@ -34,16 +34,17 @@ pub fn enter(lists: &mut [u64], z: Sizes, grain: usize, cell: usize) -> Result<(
     requires { Lists z lists.old × Ranged z × (grain < z.grains) × (cell < z.cells) }
     ensures { (s : State) → InLists z lists.old s → ListsTold z lists.new (number_of result) (enterAct grain cell s) }
 {
-    let Part { from: a, to: b } = parts::home_part(grain);
-    let Part { from: p, to: q } = parts::member_part(z, cell);
-    if rows::lists(&lists[p..q], grain as u64) {
+    let members = members_of(lists, z, cell);
+    if rows::has(members, grain as u64) {
         return Err(Halt::AlreadyListed);
     }
-    if MEMBER_ROOM <= rows::count_of(&lists[p..q]) || HOME_ROOM <= rows::count_of(&lists[a..b]) {
+    if MEMBER_ROOM <= members.len() || HOME_ROOM <= cells_of(lists, z, grain).len() {
         return Err(Halt::ListFull);
     }
-    rows::add_to(&mut lists[p..q], grain as u64);
-    rows::add_to(&mut lists[a..b], cell as u64);
+    let Part { from, to } = parts::member_part(z, cell);
+    rows::add_to(&mut lists[from..to], grain as u64);
+    let Part { from, to } = parts::home_part(grain);
+    rows::add_to(&mut lists[from..to], cell as u64);
     Ok(())
 }
 
@@ -52,12 +53,12 @@ pub fn leave(lists: &mut [u64], z: Sizes, grain: usize, cell: usize) -> Result<(
     requires { ListsPair z lists.old grain cell × Ranged z × (grain < z.grains) × (cell < z.cells) }
     ensures { (s : State) → InLists z lists.old s → Pair grain cell s → ListsTold z lists.new (number_of result) (leaveAct grain cell s) }
 {
-    let Part { from: a, to: b } = parts::home_part(grain);
-    let Part { from: p, to: q } = parts::member_part(z, cell);
-    if rows::count_of(&lists[a..b]) <= 1 {
+    if cells_of(lists, z, grain).len() <= 1 {
         return Err(Halt::OnlyCell);
     }
-    rows::drop_from(&mut lists[p..q], grain as u64);
-    rows::drop_from(&mut lists[a..b], cell as u64);
+    let Part { from, to } = parts::member_part(z, cell);
+    rows::drop_from(&mut lists[from..to], grain as u64);
+    let Part { from, to } = parts::home_part(grain);
+    rows::drop_from(&mut lists[from..to], cell as u64);
     Ok(())
 }
