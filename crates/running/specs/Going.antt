@@ -2,25 +2,14 @@
 use Rattle.std.specs.Prelude.{ℕ, ◌≡◌, List, Float}
 use Rattle.model.specs.declared.Domain.{Domain}
 use Rattle.model.specs.declared.Report.{Report}
-use Rattle.model.specs.declared.Report.TheVariants as report
 use Rattle.model.specs.State.{State}
 use Rattle.model.specs.Standing.{Standing}
 use Rattle.model.specs.Check.{Fitted}
 use Rattle.model.specs.Run.{Ran}
+use Rattle.model.specs.Refusals.{check_number}
 use Rattle.model.specs.Reports.{told}
 use Rattle.tables.specs.declared.Sizes.{Sizes}
 use Rattle.tables.specs.Holds.{Holds}
-
--- the clock and the halt mark that a run with this report leaves
-abbrev pub clock_of : Report → Float
-clock_of (report.Synchronised t n) = t
-clock_of (report.Spent t n) = t
-clock_of (report.Refused r t n) = t
-
-abbrev pub mark_of : Report → ℕ
-mark_of (report.Synchronised t n) = 0
-mark_of (report.Spent t n) = 0
-mark_of (report.Refused r t n) = r
 
 -- the parts hold a state that stands, of this box, at this clock
 pub record Lent (z : Sizes) (b : Domain) (t : Float) (lists : List ℕ) (grains : List Float) (queue : List ℕ) (events : List Float) (order : List ℕ) (s : State) : Type 0 where
@@ -35,5 +24,5 @@ pub record Gone (z : Sizes) (b : Domain) (lists : List ℕ) (grains : List Float
   pub answer : told r ran.state ≡ ran
   pub holds : Holds z lists grains queue events order ran.state
   pub box : ran.state.box ≡ b
-  pub clock : ran.state.clock ≡ clock_of r
-  pub mark : ran.state.mark ≡ mark_of r
+  pub clock : ran.state.clock ≡ r.clock
+  pub mark : ran.state.mark ≡ check_number r.end

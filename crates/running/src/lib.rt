@@ -8,49 +8,13 @@ ghost use Rattle.model.specs.Run.{run_from};
 ghost use Rattle.tables.specs.Decode.{tables, decoded};
 ghost use Rattle.checks.specs.Answered.{Answered};
 ghost use Rattle.step.specs.World.{Some, Placed};
-ghost use Rattle.running.specs.Going.{clock_of, mark_of, Lent, Gone};
+ghost use Rattle.running.specs.Going.{Lent, Gone};
 ghost use Rattle.running.specs.Ran.{told_tables, ran_over};
 
 use cell::Grid;
 use layout::{GRAINS_HEAD, LISTS_HEAD, ORDER};
-use model::{Domain, Report};
+use model::{Domain, End, Report, RunError};
 use tables::{Sizes, headers};
-
-// The clock that a run with this report leaves.
-pub fn clock_of(report: Report) -> f64
-    ensures { result ≡ clock_of report }
-{
-    match report {
-        Report::Synchronised { clock, events: _ } => clock,
-        Report::Spent { clock, events: _ } => clock,
-        Report::Refused {
-            number: _,
-            clock,
-            events: _,
-        } => clock,
-    }
-}
-
-// The halt mark that it leaves.
-fn mark_of(report: Report) -> u64
-    ensures { result ≡ mark_of report }
-{
-    match report {
-        Report::Synchronised {
-            clock: _,
-            events: _,
-        } => 0,
-        Report::Spent {
-            clock: _,
-            events: _,
-        } => 0,
-        Report::Refused {
-            number,
-            clock: _,
-            events: _,
-        } => number,
-    }
-}
 
 // The steps, over the parts of the tables behind their headers.
 fn go(
@@ -71,28 +35,31 @@ fn go(
         → Gone z domain lists.new grains.new queue.new events.new order.new result (run_from rate budget 0 s) }
 {
     let mut time = clock;
-    let mut done: u32 = 0;
-    while done < budget {
+    for done in 0..budget {
         let s = step::step(lists, grains, queue, events, order, z, domain, grid, rate);
-        if s.code != 0 {
-            return Report::Refused {
-                number: s.code,
-                clock: s.clock,
-                events: done as u64,
-            };
-        }
-        done += 1;
-        if s.sync {
-            return Report::Synchronised {
-                clock: s.clock,
-                events: done as u64,
-            };
-        }
         time = s.clock;
+        match s.ended {
+            Err(halt) => {
+                return Report {
+                    end: Err(RunError::Halted(halt)),
+                    clock: time,
+                    events: done as u64,
+                };
+            }
+            Ok(true) => {
+                return Report {
+                    end: Ok(End::Synchronised),
+                    clock: time,
+                    events: done as u64 + 1,
+                };
+            }
+            Ok(false) => {}
+        }
     }
-    Report::Spent {
+    Report {
+        end: Ok(End::Spent),
         clock: time,
-        events: done as u64,
+        events: budget as u64,
     }
 }
 
@@ -133,7 +100,7 @@ pub fn work(
         rate,
         budget,
     );
-    headers::set_mark(lists, mark_of(report));
-    headers::set_clock(grains, clock_of(report));
+    headers::set_mark(lists, report.end.err().map_or(0, u64::from));
+    headers::set_clock(grains, report.clock);
     report
 }

@@ -1,19 +1,19 @@
 -- The tables that an accepted start and any runs after it reach, each run at its own rate and budget. Assumes nothing: these are definitions.
-use Rattle.std.specs.Prelude.{ℕ, ◌≡◌, List, [], ◌∷◌, Float}
+use Rattle.std.specs.Prelude.{ℕ, ◌≡◌, List, [], ◌∷◌, Float, Ok, Err}
 use Rattle.model.specs.declared.Domain.{Domain}
-use Rattle.model.specs.declared.Started.{Started}
-use Rattle.model.specs.declared.Started.TheVariants.{Accepted, Halted, Refused, BadGrain}
+use Rattle.model.specs.declared.refusal.StartError.TheVariants.{BoxOutOfRange, TooShort, BadGrain, Halted}
 use Rattle.model.specs.Reached.{Call}
 use Rattle.tables.specs.Decode.{Tables}
-use Rattle.simulator.specs.Start.{StartPromise}
+use Rattle.simulator.specs.Start.{Started, StartPromise}
 use Rattle.simulator.specs.Run.{run_tables}
 
 -- a start that was not refused, halted or not
 abbrev pub Taken : Started → Type 0
-Taken Accepted = Unit {0}
-Taken (Halted r) = Unit {0}
-Taken (Refused r) = ⊥
-Taken (BadGrain g) = ⊥
+Taken (Ok a) = Unit {0}
+Taken (Err (Halted h)) = Unit {0}
+Taken (Err BoxOutOfRange) = ⊥
+Taken (Err TooShort) = ⊥
+Taken (Err (BadGrain g)) = ⊥
 
 -- what calls, one after another, leave
 unfoldable pub after_calls : List Call → Tables → Tables

@@ -17,13 +17,12 @@ pub fn run(
     ensures { RunPromise rate budget (tables lists.old grains.old queue.old events.old order.old) result
         (tables lists.new grains.new queue.new events.new order.new) }
 {
-    let refused = checks::check(lists, grains, queue, events, order, rate);
-    if refused != 0 {
-        return Report::Refused {
-            number: refused,
+    match checks::check(lists, grains, queue, events, order, rate) {
+        Ok(()) => running::work(lists, grains, queue, events, order, rate, budget),
+        Err(e) => Report {
+            end: Err(e),
             clock: 0.0,
             events: 0,
-        };
+        },
     }
-    running::work(lists, grains, queue, events, order, rate, budget)
 }

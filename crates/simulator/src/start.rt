@@ -5,7 +5,7 @@ ghost use Rattle.simulator.specs.Start.{fits as fitsIn, StartPromise};
 
 use cell::Grid;
 use layout::INPUT;
-use model::{Domain, Started};
+use model::{Domain, StartError};
 use tables::Sizes;
 
 // Check 2: are the counts in range, and the tables as long as they need?
@@ -21,13 +21,9 @@ fn fits(
     requires { z.cells ≤ 256 }
     ensures { result ≡ fitsIn z inputs lists grains queue events order }
 {
-    if !checks::counts_ok(z.grains as u64, z.room as u64) {
-        return false;
-    }
-    if inputs < z.grains * INPUT {
-        return false;
-    }
-    tables::lengths::long(z, lists, grains, queue, events, order)
+    checks::counts_ok(z.grains as u64, z.room as u64)
+        && z.grains * INPUT <= inputs
+        && tables::lengths::long(z, lists, grains, queue, events, order)
 }
 
 // Refused by 1, 2 or 4, and nothing is changed; or accepted, halted or not.
@@ -41,13 +37,13 @@ pub fn start(
     queue: &mut [u64],
     events: &mut [f64],
     order: &mut [u8],
-) -> Started
+) -> Result<(), StartError>
     ensures { StartPromise domain count room inputs.now
         (tables lists.old grains.old queue.old events.old order.old) result
         (tables lists.new grains.new queue.new events.new order.new) }
 {
     if !cell::box_ok(domain) {
-        return Started::Refused { number: 1 };
+        return Err(StartError::BoxOutOfRange);
     }
     let grid = Grid::new(domain);
     let z = Sizes {
@@ -64,15 +60,12 @@ pub fn start(
         events.len(),
         order.len(),
     ) {
-        return Started::Refused { number: 2 };
+        return Err(StartError::TooShort);
     }
     let bad = starting::inputs::first_bad(domain, inputs, z.grains);
     if bad != z.grains {
-        return Started::BadGrain { grain: bad as u64 };
+        return Err(StartError::BadGrain(bad as u64));
     }
-    let number = starting::begin(inputs, lists, grains, queue, events, order, z, domain, grid);
-    if number == 0 {
-        return Started::Accepted;
-    }
-    Started::Halted { number }
+    starting::begin(inputs, lists, grains, queue, events, order, z, domain, grid)?;
+    Ok(())
 }
