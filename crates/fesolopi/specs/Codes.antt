@@ -3,9 +3,9 @@ use Rattle.std.specs.Prelude.{ℕ, Bool, Float}
 use Rattle.myvec.specs.Vec.{vec}
 use Rattle.model.specs.declared.Domain.{Domain}
 use Rattle.model.specs.declared.Report.{Report}
-use Rattle.model.specs.declared.Report.TheVariants as report
 use Rattle.model.specs.Grid.{box_of}
 use Rattle.model.specs.Run.{How, synchronised, spent, refused}
+use Rattle.model.specs.Reports.{how_of}
 use Rattle.tables.specs.Decode.{Tables}
 use Rattle.simulator.specs.Start.{StartedWith}
 use Rattle.running.specs.Ran.{RanTables}
@@ -51,11 +51,4 @@ ended_by r = ended (run_number r.how) r.clock r.count r.after
 
 -- the same of a report
 abbrev pub report_number : Report → ℕ
-report_number (report.Synchronised t n) = 0
-report_number (report.Spent t n) = spent_number
-report_number (report.Refused r t n) = r
-
-abbrev pub events_told : Report → ℕ
-events_told (report.Synchronised t n) = n
-events_told (report.Spent t n) = n
-events_told (report.Refused r t n) = n
+report_number r = run_number (how_of r.end)

@@ -1,9 +1,12 @@
 -- How long the lent tables of a start must be: 01's refusals 1 and 2, asked before there are tables. Assumes nothing: these are definitions.
-use Rattle.std.specs.Prelude.{ℕ, ◌*◌, cond}
+use Rattle.std.specs.Prelude.{ℕ, ◌*◌, cond, Result, Ok, Err}
 use Rattle.model.specs.declared.Domain.{Domain}
+use Rattle.model.specs.declared.refusal.StartError.{StartError}
+use Rattle.model.specs.Refusals.{start_error_number}
 use Rattle.model.specs.Sizes.{box_ok, counts_ok}
 use Rattle.tables.specs.declared.Sizes.{Sizes}
 use Rattle.layout.specs.Widths.{input_wide}
+use Rattle.tables.specs.declared.lengths.Lengths.{Lengths}
 use Rattle.tables.specs.Lengths.{lists_need, grains_need, queue_need, events_need, order_need}
 use Rattle.starting.specs.Cleared.{sizes_for}
 
@@ -27,8 +30,10 @@ abbrev pub none_needed : ℕ → Needed
 none_needed r = needed r 0 0 0 0 0 0
 
 -- 1, 2, or 0 where neither holds whatever the tables
-abbrev pub refused_by : Domain → ℕ → ℕ → ℕ
-refused_by b n room = cond (box_ok b) (cond (counts_ok room n) 0 2) 1
-
 abbrev pub needed_for : Domain → ℕ → ℕ → Needed
 needed_for b n room = cond (box_ok b) (cond (counts_ok room n) (needed_by n (sizes_for b n room)) (none_needed 2)) (none_needed 1)
+
+-- what the lengths behind them, or the refusal, stand for
+abbrev pub told_needed : ℕ → Result Lengths StartError → Needed
+told_needed n (Ok l) = needed 0 (n * input_wide) l.lists l.grains l.queue l.events order_need
+told_needed n (Err e) = none_needed (start_error_number e)

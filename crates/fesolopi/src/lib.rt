@@ -1,22 +1,23 @@
 // The calls for programs in other languages: numbers, slices and references to numbers only. None asks anything of its caller but that slices are what they say.
 #![tactic(auto)]
 
-ghost use Rattle.std.specs.Prelude.{◌≡◌, true};
+ghost use Rattle.std.specs.Prelude.{◌≡◌, true, IfOk};
 ghost use Rattle.model.specs.Check.{Fits};
-ghost use Rattle.model.specs.Reports.{start_number, grain_named};
+ghost use Rattle.model.specs.Sizes.{counts_ok};
 ghost use Rattle.root.specs.Root.{root_of};
 ghost use Rattle.root.specs.Rule.{number as rootNumber, value as rootValue, RootSays};
 ghost use Rattle.tables.specs.Decode.{tables};
 ghost use Rattle.simulator.specs.Start.{start_all};
 ghost use Rattle.simulator.specs.Run.{run_tables, Owned};
-ghost use Rattle.fesolopi.specs.Codes.{boxed, start_given, start_given_by, report_number, events_told, ended, ended_by};
-ghost use Rattle.fesolopi.specs.Needed.{refused_by, needed, needed_for};
+ghost use Rattle.fesolopi.specs.Codes.{boxed, start_given, start_given_by, ended, ended_by};
+ghost use Rattle.fesolopi.specs.Needed.{needed, needed_for, told_needed};
 
 use cell::Grid;
 use layout::{INPUT, ORDER};
-use model::{Domain, Report, Started};
+use model::{Domain, End, StartError};
 use myvec::MyVec;
 use tables::Sizes;
+use tables::lengths::Lengths;
 
 // The number of a run that spent its budget: far above those of refusals.
 const SPENT: u64 = 100;
@@ -51,31 +52,13 @@ pub extern "C" fn fesolopi_start(
     let answer = simulator::start::start(
         domain, count, room, inputs, lists, grains, queue, events, order,
     );
-    *grain = grain_named(answer);
-    start_number(answer)
-}
-
-// The number of a start's answer.
-fn start_number(answer: Started) -> u64
-    ensures { result ≡ start_number answer }
-{
+    *grain = match answer {
+        Err(StartError::BadGrain(bad)) => bad,
+        _ => 0,
+    };
     match answer {
-        Started::Accepted => 0,
-        Started::Halted { number } => number,
-        Started::Refused { number } => number,
-        Started::BadGrain { grain: _ } => 4,
-    }
-}
-
-// The grain that it names.
-fn grain_named(answer: Started) -> u64
-    ensures { result ≡ grain_named answer }
-{
-    match answer {
-        Started::Accepted => 0,
-        Started::Halted { number: _ } => 0,
-        Started::Refused { number: _ } => 0,
-        Started::BadGrain { grain } => grain,
+        Ok(()) => 0,
+        Err(e) => u64::from(e),
     }
 }
 
@@ -97,58 +80,31 @@ pub extern "C" fn fesolopi_run(
         ≡ ended_by (run_tables rate budget (tables lists.old grains.old queue.old events.old order.old)) }
 {
     let report = simulator::run::run(lists, grains, queue, events, order, rate, budget);
-    *clock = running::clock_of(report);
-    *done = events_told(report);
-    run_number(report)
-}
-
-// The number of a run's report.
-fn run_number(report: Report) -> u64
-    ensures { result ≡ report_number report }
-{
-    match report {
-        Report::Synchronised {
-            clock: _,
-            events: _,
-        } => 0,
-        Report::Spent {
-            clock: _,
-            events: _,
-        } => SPENT,
-        Report::Refused {
-            number,
-            clock: _,
-            events: _,
-        } => number,
+    *clock = report.clock;
+    *done = report.events;
+    match report.end {
+        Ok(End::Synchronised) => 0,
+        Ok(End::Spent) => SPENT,
+        Err(e) => u64::from(e),
     }
 }
 
-// The events that it says were done.
-fn events_told(report: Report) -> u64
-    ensures { result ≡ events_told report }
-{
-    match report {
-        Report::Synchronised { clock: _, events } => events,
-        Report::Spent { clock: _, events } => events,
-        Report::Refused {
-            number: _,
-            clock: _,
-            events,
-        } => events,
-    }
-}
-
-// 1 or 2, where a start of this box and these counts would be refused so whatever its tables; else 0.
-fn refusal(domain: Domain, count: u64, room: u64) -> u64
-    ensures { result ≡ refused_by domain count room }
+// How long the tables of a start must be; or why it would be refused, whatever its tables.
+fn lengths(domain: Domain, count: u64, room: u64) -> Result<Lengths, StartError>
+    ensures told { told_needed count result ≡ needed_for domain count room }
+    ensures counts { IfOk result (λ need. counts_ok room count ≡ true) }
 {
     if !cell::box_ok(domain) {
-        return 1;
+        return Err(StartError::BoxOutOfRange);
     }
     if !checks::counts_ok(count, room) {
-        return 2;
+        return Err(StartError::TooShort);
     }
-    0
+    Ok(tables::lengths::needed(Sizes {
+        grains: count as usize,
+        cells: Grid::new(domain).cells(),
+        room: room as usize,
+    }))
 }
 
 // How long the tables of a start must be. 0 and the lengths; or 1 or 2, where it would be refused so whatever its tables, and zeros.
@@ -179,24 +135,18 @@ pub extern "C" fn fesolopi_needed(
     *queue = 0;
     *events = 0;
     *order = 0;
-    let refused = refusal(domain, count, room);
-    if refused != 0 {
-        return refused;
+    match lengths(domain, count, room) {
+        Ok(need) => {
+            *inputs = count * INPUT as u64;
+            *lists = need.lists as u64;
+            *grains = need.grains as u64;
+            *queue = need.queue as u64;
+            *events = need.events as u64;
+            *order = ORDER as u64;
+            0
+        }
+        Err(e) => u64::from(e),
     }
-    let grid = Grid::new(domain);
-    let z = Sizes {
-        grains: count as usize,
-        cells: grid.cells(),
-        room: room as usize,
-    };
-    let need = tables::lengths::needed(z);
-    *inputs = count * INPUT as u64;
-    *lists = need.lists as u64;
-    *grains = need.grains as u64;
-    *queue = need.queue as u64;
-    *events = need.events as u64;
-    *order = ORDER as u64;
-    0
 }
 
 // The square root. 0 and the root; or 5 and +0, where there is none.

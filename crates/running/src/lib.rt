@@ -7,59 +7,54 @@ ghost use Rattle.model.specs.State.{State};
 ghost use Rattle.model.specs.Run.{run_from};
 ghost use Rattle.tables.specs.Decode.{tables, decoded};
 ghost use Rattle.checks.specs.Answered.{Answered};
-ghost use Rattle.step.specs.World.{Some, Placed};
+ghost use Rattle.acts.specs.Tell.{SameTables};
+ghost use Rattle.step.specs.World.{Some};
 ghost use Rattle.running.specs.Going.{Lent, Gone};
 ghost use Rattle.running.specs.Ran.{told_tables, ran_over};
 
+use acts::queue::Queues;
 use cell::Grid;
 use layout::{GRAINS_HEAD, LISTS_HEAD, ORDER};
-use model::{Domain, End, Report, RunError};
-use tables::{Sizes, headers};
+use model::{End, Report, RunError};
+use step::World;
+use tables::headers;
 
 // The steps, over the parts of the tables behind their headers.
 fn go(
     lists: &mut [u64],
     grains: &mut [f64],
-    queue: &mut [u64],
-    events: &mut [f64],
-    order: &mut [u8],
-    z: Sizes,
-    domain: Domain,
-    grid: Grid,
-    clock: f64,
+    queues: &mut Queues,
+    mut w: World,
     rate: f64,
     budget: u32,
 ) -> Report
-    requires { Some (Lent z domain clock lists.old grains.old queue.old events.old order.old) × Placed z domain grid × (rated rate ≡ true) }
-    ensures { (s : State) → Lent z domain clock lists.old grains.old queue.old events.old order.old s
-        → Gone z domain lists.new grains.new queue.new events.new order.new result (run_from rate budget 0 s) }
+    requires { Some (Lent w lists.old grains.old queues.old) × (rated rate ≡ true) }
+    ensures same { SameTables queues.old queues.new }
+    ensures gone { (s : State) → Lent w lists.old grains.old queues.old s → Gone w lists.new grains.new queues.new result (run_from rate budget 0 s) }
 {
-    let mut time = clock;
     for done in 0..budget {
-        let s = step::step(lists, grains, queue, events, order, z, domain, grid, rate);
-        time = s.clock;
-        match s.ended {
-            Err(halt) => {
-                return Report {
-                    end: Err(RunError::Halted(halt)),
-                    clock: time,
-                    events: done as u64,
-                };
-            }
+        match step::step(lists, grains, queues, &mut w, rate) {
+            Ok(false) => {}
             Ok(true) => {
                 return Report {
                     end: Ok(End::Synchronised),
-                    clock: time,
-                    events: done as u64 + 1,
+                    clock: w.clock,
+                    events: u64::from(done) + 1,
                 };
             }
-            Ok(false) => {}
+            Err(halt) => {
+                return Report {
+                    end: Err(RunError::Halted(halt)),
+                    clock: w.clock,
+                    events: u64::from(done),
+                };
+            }
         }
     }
     Report {
         end: Ok(End::Spent),
-        clock: time,
-        events: budget as u64,
+        clock: w.clock,
+        events: u64::from(budget),
     }
 }
 
@@ -78,25 +73,25 @@ pub fn work(
         ≡ ran_over (run_from rate budget 0 (decoded (tables lists.old grains.old queue.old events.old order.old)))
         (tables lists.old grains.old queue.old events.old order.old) }
 {
-    let z = headers::sizes_of(lists);
+    let sizes = headers::sizes_of(lists);
     let domain = headers::domain_of(lists, grains);
-    let grid = Grid::new(domain);
-    let clock = headers::clock(grains);
-    let need = tables::lengths::needed(z);
-    let lists_end = need.lists;
-    let grains_end = need.grains;
-    let queue_end = need.queue;
-    let events_end = need.events;
-    let report = go(
-        &mut lists[LISTS_HEAD..lists_end],
-        &mut grains[GRAINS_HEAD..grains_end],
-        &mut queue[..queue_end],
-        &mut events[..events_end],
-        &mut order[..ORDER],
-        z,
+    let w = World {
+        sizes,
         domain,
-        grid,
-        clock,
+        grid: Grid::new(domain),
+        clock: headers::clock(grains),
+    };
+    let need = tables::lengths::needed(sizes);
+    let mut queues = Queues {
+        queue: &mut queue[..need.queue],
+        events: &mut events[..need.events],
+        order: &mut order[..ORDER],
+    };
+    let report = go(
+        &mut lists[LISTS_HEAD..need.lists],
+        &mut grains[GRAINS_HEAD..need.grains],
+        &mut queues,
+        w,
         rate,
         budget,
     );
