@@ -1,7 +1,6 @@
 // A cell's head, as the question for it is answered: none where the cell holds no event, else the time of its first.
 ghost use Rattle.std.specs.Prelude.{◌≡◌, ◌≤◌, ◌<◌, length};
 ghost use Rattle.scheduler.specs.Head.{earlier, no_later};
-ghost use Rattle.scheduler.specs.Heap.{chosen};
 
 pub type Head = Option<f64>;
 
@@ -24,19 +23,6 @@ pub fn is_no_later(a: Head, b: Head) -> bool
         (_, None) => true,
         (None, Some(_)) => false,
         (Some(t), Some(u)) => t <= u,
-    }
-}
-
-// Of a parent p and its children l and r, by their heads: the child to change places with, or p.
-fn pick_child(tp: Head, tl: Head, tr: Head, p: usize, l: usize, r: usize) -> usize
-    ensures { result ≡ chosen tp tl tr p l r }
-{
-    if is_earlier(tl, tp) && is_no_later(tl, tr) {
-        l
-    } else if is_earlier(tr, tp) && is_earlier(tr, tl) {
-        r
-    } else {
-        p
     }
 }
 
@@ -76,7 +62,7 @@ impl<'a> Heads<'a> {
         self.head(usize::from(cell))
     }
 
-    // The child that p changes places with, or p where the shift ends.
+    // Of p's children the one that it changes places with, by their heads; or p, where the shift ends.
     #[tactic(auto, unfolding(crate::specs::Heap::child_in))]
     pub fn child(self, heap: &[u8], p: usize) -> usize
         requires { p < 256 }
@@ -84,14 +70,14 @@ impl<'a> Heads<'a> {
     {
         let l = 2 * p + 1;
         let r = 2 * p + 2;
-        pick_child(
-            self.at(heap, p),
-            self.at(heap, l),
-            self.at(heap, r),
-            p,
-            l,
-            r,
-        )
+        let (tp, tl, tr) = (self.at(heap, p), self.at(heap, l), self.at(heap, r));
+        if is_earlier(tl, tp) && is_no_later(tl, tr) {
+            l
+        } else if is_earlier(tr, tp) && is_earlier(tr, tl) {
+            r
+        } else {
+            p
+        }
     }
 
     // The parent that c changes places with, or c where the shift ends.

@@ -54,9 +54,9 @@ impl Scheduler {
         requires { (a < 256) × (b < 256) }
         ensures { self.new ≡ swap_at self.old a b }
     {
-        self.lookups
-            .swap(usize::from(self.heap[a]), usize::from(self.heap[b]));
+        let (x, y) = (self.heap[a], self.heap[b]);
         self.heap.swap(a, b);
+        self.lookups.swap(usize::from(x), usize::from(y));
     }
 
     // The cell at p goes down while a child's head is earlier. Gives the swaps.
