@@ -12,8 +12,9 @@ use Rattle.cell.specs.Cell.{Laid}
 use Rattle.tables.specs.declared.Sizes.{Sizes}
 use Rattle.tables.specs.Decode.{Tables}
 use Rattle.tables.specs.Lengths.{lists_need, grains_need, queue_need, events_need}
+use Rattle.acts.specs.declared.queue.Queues.{Queues}
 use Rattle.step.specs.declared.World.{World}
-use Rattle.step.specs.World.{Placed, Held}
+use Rattle.step.specs.World.{Held}
 use Rattle.tables.specs.Encode.{encoded}
 use Rattle.starting.specs.Cleared.{cleared}
 
@@ -32,10 +33,9 @@ pub record Startable (z : Sizes) (b : Domain) (g : Grid) (inputs l t q e o : ℕ
   pub order_long : order_wide ≤ o
 
 -- the parts behind the headers hold the cleared state
-pub record Filling (z : Sizes) (w : World) (inputs : ℕ) (l : List ℕ) (t : List Float) (q : List ℕ) (e : List Float) (o : List ℕ) : Type 0 where
-  pub held : Held z w l t q e o (clear w.domain z.room z.grains)
-  pub placed : Placed z w.domain w.grid
-  pub inputs_long : z.grains * input_wide ≤ inputs
+pub record Filling (w : World) (inputs : ℕ) (l : List ℕ) (t : List Float) (q : Queues) : Type 0 where
+  pub held : Held w l t q (clear w.domain w.sizes.room w.sizes.grains)
+  pub inputs_long : w.sizes.grains * input_wide ≤ inputs
 
 -- the number of the outcome, and tables that hold its state with that mark over cleared ones
 pub record Began (o : Out State) (r : ℕ) (t u : Tables) : Type 0 where

@@ -1,60 +1,48 @@
 // Grains go in one after another, each with its start numbers at time 0, and then into its cells.
-ghost use Rattle.std.specs.Prelude.{◌-◌, ◌<◌, ◌≤◌};
+ghost use Rattle.std.specs.Prelude.{◌<◌};
 ghost use Rattle.halting.specs.Out.{each};
 ghost use Rattle.model.specs.State.{State};
 ghost use Rattle.model.specs.Doing.{goes_in};
+ghost use Rattle.model.specs.Refusals.{number_of};
 ghost use Rattle.tables.specs.Inputs.{inputs_of};
 ghost use Rattle.starting.specs.Grains.{InBoth, BothTold, Going};
 
 use crate::{entries, inputs};
-use cell::Grid;
-use model::Domain;
-use tables::Sizes;
+use model::Halt;
+use step::World;
 
 // Grain i.
 fn goes_in(
     inputs: &[f64],
     lists: &mut [u64],
     grains: &mut [f64],
-    z: Sizes,
-    domain: Domain,
-    grid: Grid,
+    w: World,
     i: usize,
-) -> u64
-    requires { Going z domain grid inputs.now lists.old grains.old × (i < z.grains) }
-    ensures { (s : State) → InBoth z domain lists.old grains.old s
-        → BothTold z domain lists.new grains.new result (goes_in (inputs_of z.grains inputs.now) i s) }
+) -> Result<(), Halt>
+    requires { Going w inputs.now lists.old grains.old × (i < w.sizes.grains) }
+    ensures { (s : State) → InBoth w lists.old grains.old s
+        → BothTold w lists.new grains.new (number_of result) (goes_in (inputs_of w.sizes.grains inputs.now) i s) }
 {
-    let p = inputs::get_input(inputs, z.grains, i);
-    let stored = acts::store::store(grains, z, i, p);
-    if stored != 0 {
-        return stored;
-    }
-    let x = particle::touched(domain.lengths.x, grid.n0, p.rad, p.pos.x);
-    let y = particle::touched(domain.lengths.y, grid.n1, p.rad, p.pos.y);
-    entries::enter_all(lists, z, i, grid.n0, x, y)
+    let p = inputs::get_input(inputs, w.sizes.grains, i);
+    acts::store::store(grains, w.sizes, i, p)?;
+    let x = particle::touched(w.domain.lengths.x, w.grid.n0, p.rad, p.pos.x);
+    let y = particle::touched(w.domain.lengths.y, w.grid.n1, p.rad, p.pos.y);
+    entries::enter_all(lists, w, i, x, y)
 }
 
-// The grains from i on.
+// All of them.
 pub(crate) fn go_in(
     inputs: &[f64],
     lists: &mut [u64],
     grains: &mut [f64],
-    z: Sizes,
-    domain: Domain,
-    grid: Grid,
-    i: usize,
-) -> u64
-    requires { Going z domain grid inputs.now lists.old grains.old × (i ≤ z.grains) }
-    ensures { (s : State) → InBoth z domain lists.old grains.old s
-        → BothTold z domain lists.new grains.new result (each (goes_in (inputs_of z.grains inputs.now)) (z.grains - i) i s) }
+    w: World,
+) -> Result<(), Halt>
+    requires { Going w inputs.now lists.old grains.old }
+    ensures { (s : State) → InBoth w lists.old grains.old s
+        → BothTold w lists.new grains.new (number_of result) (each (goes_in (inputs_of w.sizes.grains inputs.now)) w.sizes.grains 0 s) }
 {
-    if i == z.grains {
-        return 0;
+    for i in 0..w.sizes.grains {
+        goes_in(inputs, lists, grains, w, i)?;
     }
-    let one = goes_in(inputs, lists, grains, z, domain, grid, i);
-    if one != 0 {
-        return one;
-    }
-    go_in(inputs, lists, grains, z, domain, grid, i + 1)
+    Ok(())
 }
