@@ -11,9 +11,6 @@ use Rattle.model.proofs.Grid.{across_max}
 use Rattle.cell.specs.declared.Grid.{Grid}
 use Rattle.cell.specs.declared.Cell.{Cell}
 use Rattle.cell.specs.Cell.{grid_of, Laid, IsCell}
-use Rattle.leaves.specs.declared.Named.{Named}
-use Rattle.leaves.specs.declared.Named.TheVariants as named
-use Rattle.leaves.specs.Tested.{OfBox}
 
 -- it did not fail
 pub in_range_lem : (b : Domain) (t : Bool) → t ≡ box_ok b → not t ≡ false → box_ok b ≡ true
@@ -25,6 +22,3 @@ narrow b t g e f h = rw h (across_max b (in_range_lem b t e f))
 -- ---- the cell that a case names
 pub in_box : (b : Domain) (t : Bool) (g : Grid) (n c : ℕ) → t ≡ box_ok b → not t ≡ false → g ≡ grid_of b → n ≡ g.n0 * g.n1 → c < n → Laid b g × (c < cells b)
 in_box b t g n c e f h m k = (record { box = in_range_lem b t e f; grid = h }, let w = m ∙ ap (λ (x : Grid). x.n0 * x.n1) h in omega (arith, w, k))
-
-pub cell_named : (b : Domain) (n : Named) (c : Cell) → OfBox b n → n ≡ named.Cell c → IsCell b c
-cell_named b n c h e = subst (OfBox b) e h

@@ -41,13 +41,9 @@ ended_not r t (over ∷ reads) e n = absurd (n r e)
 ended_not r t (gave s ∷ reads) e n = ended_not r t reads e n
 
 -- ---- turns one after another
--- a read that gave bytes
-pub turn_gave : (r : Reader) (s : List ℕ) {read : Read} → gave s ≡ read → Reading (feed_all r s) ≡ turn_of r (read ∷ [])
-turn_gave r s e = ap (λ (t : List ℕ). Reading (feed_all r t)) (sym (append-nil s)) ∙ ap (λ (a : Read). turn_of r (a ∷ [])) e
-
 -- one read into 4,096 bytes
-pub turned_once : {E : Type 0} (got : Result ℕ E) (r : Reader) (buf : List ℕ) {t : Turn} → 4096 ≡ length buf → Moved 4096 got → t ≡ turn_of r (read_by got buf ∷ []) → Turned 1 r t
-turned_once got r buf l m e = (read_by got buf ∷ [], one_read got buf l m, e)
+pub turned_once : {E : Type 0} (got : Result ℕ E) (r : Reader) (buf : List ℕ) {t : Turn} → 4096 ≡ length buf → Moved (length buf) got → t ≡ turn_of r (read_by got buf ∷ []) → Turned 1 r t
+turned_once got r buf l m e = (read_by got buf ∷ [], one_read got buf l (subst (λ (n : ℕ). Moved n got) (sym l) m), e)
 
 -- however the text is cut into reads, the reader is fed all of it
 pub turn_then : (r : Reader) (reads next : List Read) → goes_on_of reads ≡ true → turn_of (feed_all r (bytes_of reads)) next ≡ turn_of r (reads ++ next)

@@ -67,7 +67,7 @@ fn respond(input: Stdin, out: Stdout, said: Stderr) -> bool
 {
     match read_all(input, said) {
         Turn::Ended(reader) => write_answer(out, said, reader),
-        Turn::Reading(_) | Turn::Failed(_) => false,
+        _ => false,
     }
 }
 

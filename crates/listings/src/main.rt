@@ -10,7 +10,7 @@ use std::io::{Stderr, Stdout};
 // A thousand lines of a still grain.
 fn feed_lines(reader: Reader) -> Reader {
     let mut state = reader;
-    for i in 0..1000u64 {
+    for _ in 0..1000u64 {
         state = feed_all(
             state,
             b"4012000000000000,4012000000000000,0000000000000000,0000000000000000,3FE0000000000000,3FE0000000000000\r\n",
@@ -34,25 +34,22 @@ fn take(out: Stdout, said: Stderr, reader: Reader, b: u8) -> Reader {
 // A part of the input.
 fn take_all(out: Stdout, said: Stderr, reader: Reader, s: &[u8]) -> Reader {
     let mut state = reader;
-    let mut i = 0;
-    while i < s.len() {
-        state = take(out, said, state, s[i]);
-        i += 1;
+    for &b in s {
+        state = take(out, said, state, b);
     }
     state
 }
 
 fn main(rt: HostRuntime) {
+    let mut input = rt.stdin();
     let said = rt.stderr();
     let mut state = start();
-    let mut more = true;
-    let mut turns = u64::MAX;
-    while turns > 0 && more {
-        let mut buf = io::buffer();
-        let heard = hear(read_some(rt.stdin(), said, &mut buf), &buf);
-        let n = heard.count;
-        state = take_all(rt.stdout(), said, state, &buf[..n]);
-        more = heard.more;
-        turns -= 1;
+    for _ in 0..u64::MAX {
+        let mut buf = [0; 4096];
+        let got = read_some(&mut input, said, &mut buf);
+        let Ok(Some(s)) = hear(got, &buf) else {
+            break;
+        };
+        state = take_all(rt.stdout(), said, state, s);
     }
 }

@@ -12,77 +12,72 @@
 
 ghost use Rattle.std.specs.Prelude.{◌<◌, ◌≤◌};
 
-use model::{Domain, Report, Started};
+use model::{Domain, End, Report, StartError};
 use myvec::MyVec;
 use std::io::{Stdin, Stdout};
 use text::{bits_of_float, float_of_bits};
-use words::next;
 
 // ---- what is read
 
-fn next_float(input: Stdin) -> f64 {
-    float_of_bits(next(input))
+// What a place of a table holds, by its bits.
+trait Word: Copy {
+    fn of_bits(bits: u64) -> Self;
+
+    fn bits(self) -> u64;
+}
+
+impl Word for u64 {
+    fn of_bits(bits: u64) -> u64 {
+        bits
+    }
+
+    fn bits(self) -> u64 {
+        self
+    }
+}
+
+impl Word for f64 {
+    fn of_bits(bits: u64) -> f64 {
+        float_of_bits(bits)
+    }
+
+    fn bits(self) -> u64 {
+        bits_of_float(self)
+    }
+}
+
+impl Word for u8 {
+    fn of_bits(bits: u64) -> u8 {
+        (bits % 256) as u8
+    }
+
+    fn bits(self) -> u64 {
+        u64::from(self)
+    }
+}
+
+// The next word. What is none counts as the largest.
+fn next<T: Word>(input: Stdin) -> T {
+    T::of_bits(words::next(input).unwrap_or(u64::MAX))
 }
 
 // The next word as a length, at most as much as there is.
 fn next_length(input: Stdin, most: usize) -> usize
     ensures { result ≤ most }
 {
-    let n = next(input) as usize;
-    if n < most { n } else { most }
+    let n: u64 = next(input);
+    most.min(n as usize)
 }
 
 fn next_domain(input: Stdin) -> Domain {
-    let x = next_float(input);
-    let y = next_float(input);
-    let periodic0 = next(input) == 1;
-    let periodic1 = next(input) == 1;
+    let x = next(input);
+    let y = next(input);
+    let periodic0 = next(input) == 1u64;
+    let periodic1 = next(input) == 1u64;
     Domain::new(MyVec::new(x, y), periodic0, periodic1)
 }
 
-// What a start is asked for, but for its inputs.
-#[derive(Clone, Copy)]
-struct Asked {
-    domain: Domain,
-    count: u64,
-    room: u64,
-}
-
-fn next_start(input: Stdin) -> Asked {
-    let domain = next_domain(input);
-    let count = next(input);
-    let room = next(input);
-    Asked {
-        domain,
-        count,
-        room,
-    }
-}
-
-fn fill_floats(input: Stdin, t: &mut [f64]) {
-    let mut i: usize = 0;
-    while i < t.len() {
-        t[i] = next_float(input);
-        i += 1;
-    }
-}
-
 // ---- what is written
-
-fn text(out: Stdout, s: &[u8]) {
-    let _ = out.write_all(s);
-}
-
-fn number(out: Stdout, w: u64) {
-    let _ = print!(out; " {w:x}");
-}
-
-// What the places behind it are of.
-fn title(out: Stdout, show: bool, s: &[u8]) {
-    if show {
-        text(out, s);
-    }
-}
 
 // One half of a word goes into a checksum: a multiplication with carry, which is a polynomial of the halves modulo the prime 67108794·2^32 - 1.
 fn mixed(sum: u64, half: u64) -> u64
@@ -91,320 +86,194 @@ fn mixed(sum: u64, half: u64) -> u64
     sum % 4294967296 * 67108794 + sum / 4294967296 + half
 }
 
-// A place of a table goes into the checksum; it is shown if it is not zero.
-fn taken(out: Stdout, sum: u64, place: usize, w: u64, show: bool) -> u64 {
-    if show && w != 0 {
-        number(out, place as u64);
-        number(out, w);
-        text(out, b"\n");
+// The places of a table go into the checksum, one after another. If they are shown, then those that are not zero, behind the table's name.
+fn summed<T: Word>(out: Stdout, name: &str, t: &[T], show: bool, first: u64) -> u64 {
+    if show {
+        let _ = println!(out; "{name}");
     }
-    mixed(mixed(sum, w % 4294967296), w / 4294967296)
-}
-
-fn numbers(out: Stdout, t: &[u64], show: bool, first: u64) -> u64 {
     let mut sum = first;
-    let mut i: usize = 0;
-    while i < t.len() {
-        sum = taken(out, sum, i, t[i], show);
-        i += 1;
+    for (place, &x) in t.iter().enumerate() {
+        let bits = x.bits();
+        if show && bits != 0 {
+            let _ = println!(out; " {place:x} {bits:x}");
+        }
+        sum = mixed(mixed(sum, bits % 4294967296), bits / 4294967296);
     }
     sum
 }
 
-fn floats(out: Stdout, t: &[f64], show: bool, first: u64) -> u64 {
-    let mut sum = first;
-    let mut i: usize = 0;
-    while i < t.len() {
-        sum = taken(out, sum, i, bits_of_float(t[i]), show);
-        i += 1;
-    }
-    sum
-}
-
-fn wide(b: u8) -> u64 {
-    b as u64
-}
-
-fn bytes(out: Stdout, t: &[u8], show: bool, first: u64) -> u64 {
-    let mut sum = first;
-    let mut i: usize = 0;
-    while i < t.len() {
-        sum = taken(out, sum, i, wide(t[i]), show);
-        i += 1;
-    }
-    sum
-}
-
-// The checksum of the tables ends a line; where they are shown, they stand before it.
-fn close(
-    out: Stdout,
-    lists: &[u64],
-    grains: &[f64],
-    queue: &[u64],
-    events: &[f64],
-    order: &[u8],
-    show: bool,
-) {
-    title(out, show, b"lists\n");
-    let a = numbers(out, lists, show, 1);
-    title(out, show, b"grains\n");
-    let b = floats(out, grains, show, a);
-    title(out, show, b"queue\n");
-    let c = numbers(out, queue, show, b);
-    title(out, show, b"events\n");
-    let d = floats(out, events, show, c);
-    title(out, show, b"order\n");
-    let e = bytes(out, order, show, d);
-    title(out, show, b"all");
-    number(out, e);
-    text(out, b"\n");
-}
-
-// An answer's name, and what stands beside it.
-fn answer(out: Stdout, name: &[u8], n: u64) {
-    text(out, name);
-    number(out, n);
-}
-
-fn answer_start(out: Stdout, started: Started) {
-    match started {
-        Started::Accepted => text(out, b"accepted"),
-        Started::Halted { number } => answer(out, b"halted", number),
-        Started::Refused { number } => answer(out, b"refused", number),
-        Started::BadGrain { grain } => answer(out, b"grain", grain),
-    }
-}
-
-fn done(out: Stdout, clock: f64, events: u64) {
-    number(out, bits_of_float(clock));
-    number(out, events);
+fn answer_start(out: Stdout, started: Result<(), StartError>) {
+    let _ = match started {
+        Ok(()) => print!(out; "accepted"),
+        Err(StartError::BadGrain(grain)) => print!(out; "grain {grain:x}"),
+        Err(StartError::Halted(halt)) => print!(out; "halted {:x}", u64::from(halt)),
+        Err(error) => print!(out; "refused {:x}", u64::from(error)),
+    };
 }
 
 fn answer_run(out: Stdout, report: Report) {
-    match report {
-        Report::Synchronised { clock, events } => {
-            text(out, b"synchronised");
-            done(out, clock, events);
+    let _ = match report.end {
+        Ok(End::Synchronised) => print!(out; "synchronised"),
+        Ok(End::Spent) => print!(out; "spent"),
+        Err(error) => print!(out; "refused {:x}", u64::from(error)),
+    };
+    let clock = bits_of_float(report.clock);
+    let events = report.events;
+    let _ = print!(out; " {clock:x} {events:x}");
+}
+
+// ---- the tables
+
+fn put<T: Word>(t: &mut [T], place: usize, bits: u64) {
+    if let Some(x) = t.get_mut(place) {
+        *x = T::of_bits(bits);
+    }
+}
+
+#[derive(Drop)]
+struct Tables<'a> {
+    lists: &'a mut [u64],
+    grains: &'a mut [f64],
+    queue: &'a mut [u64],
+    events: &'a mut [f64],
+    order: &'a mut [u8],
+}
+
+impl Tables<'_> {
+    // The checksum ends a line; where the tables are shown, they stand before it.
+    fn close(&self, out: Stdout, show: bool) {
+        let a = summed(out, "lists", self.lists, show, 1);
+        let b = summed(out, "grains", self.grains, show, a);
+        let c = summed(out, "queue", self.queue, show, b);
+        let d = summed(out, "events", self.events, show, c);
+        let e = summed(out, "order", self.order, show, d);
+        if show {
+            let _ = print!(out; "all");
         }
-        Report::Spent { clock, events } => {
-            text(out, b"spent");
-            done(out, clock, events);
+        let _ = println!(out; " {e:x}");
+    }
+
+    // A place of one of them is overwritten, if it is there.
+    fn put(&mut self, table: u64, place: usize, bits: u64) {
+        match table {
+            0 => put(self.lists, place, bits),
+            1 => put(self.grains, place, bits),
+            2 => put(self.queue, place, bits),
+            3 => put(self.events, place, bits),
+            _ => put(self.order, place, bits),
         }
-        Report::Refused {
-            number,
-            clock,
-            events,
-        } => {
-            answer(out, b"refused", number);
-            done(out, clock, events);
-        }
+    }
+
+    fn run(&mut self, rate: f64, budget: u32) -> Report {
+        simulator::run::run(
+            self.lists,
+            self.grains,
+            self.queue,
+            self.events,
+            self.order,
+            rate,
+            budget,
+        )
+    }
+
+    fn start(
+        &mut self,
+        domain: Domain,
+        count: u64,
+        room: u64,
+        inputs: &[f64],
+    ) -> Result<(), StartError> {
+        simulator::start::start(
+            domain,
+            count,
+            room,
+            inputs,
+            self.lists,
+            self.grains,
+            self.queue,
+            self.events,
+            self.order,
+        )
     }
 }
 
 // ---- the commands
 
-fn runs(
-    input: Stdin,
-    out: Stdout,
-    lists: &mut [u64],
-    grains: &mut [f64],
-    queue: &mut [u64],
-    events: &mut [f64],
-    order: &mut [u8],
-) {
-    let rate = next_float(input);
-    let budget = (next(input) % 4294967296) as u32;
-    let times = next(input) % 65536;
-    for i in 0..times {
-        answer_run(
-            out,
-            simulator::run::run(lists, grains, queue, events, order, rate, budget),
-        );
-        close(out, lists, grains, queue, events, order, false);
+fn runs(input: Stdin, out: Stdout, tables: &mut Tables<'_>) {
+    let rate = next(input);
+    let budget = next::<u64>(input) % 4294967296;
+    let times = next::<u64>(input) % 65536;
+    for _ in 0..times {
+        answer_run(out, tables.run(rate, budget as u32));
+        tables.close(out, false);
     }
 }
 
-fn put_number(t: &mut [u64], place: usize, w: u64) {
-    if place < t.len() {
-        t[place] = w;
-    }
-}
-
-fn put_float(t: &mut [f64], place: usize, w: u64) {
-    if place < t.len() {
-        t[place] = float_of_bits(w);
-    }
-}
-
-fn put_byte(t: &mut [u8], place: usize, w: u64) {
-    if place < t.len() {
-        t[place] = (w % 256) as u8;
-    }
-}
-
-fn put(
-    input: Stdin,
-    lists: &mut [u64],
-    grains: &mut [f64],
-    queue: &mut [u64],
-    events: &mut [f64],
-    order: &mut [u8],
-) {
+fn overwrite(input: Stdin, tables: &mut Tables<'_>) {
     let table = next(input);
-    let place = next(input) as usize;
-    let w = next(input);
-    match table {
-        0 => put_number(lists, place, w),
-        1 => put_float(grains, place, w),
-        2 => put_number(queue, place, w),
-        3 => put_float(events, place, w),
-        _ => put_byte(order, place, w),
-    }
+    let place: u64 = next(input);
+    let bits = next(input);
+    tables.put(table, place as usize, bits);
 }
 
-// One command; false where there is none.
-fn command(
-    input: Stdin,
-    out: Stdout,
-    lists: &mut [u64],
-    grains: &mut [f64],
-    queue: &mut [u64],
-    events: &mut [f64],
-    order: &mut [u8],
-) -> bool {
-    let name = next(input);
-    match name {
-        1 => runs(input, out, lists, grains, queue, events, order),
-        2 => put(input, lists, grains, queue, events, order),
-        3 => close(out, lists, grains, queue, events, order, true),
-        _ => {
-            return false;
-        }
-    }
-    true
-}
-
-fn commands(
-    input: Stdin,
-    out: Stdout,
-    lists: &mut [u64],
-    grains: &mut [f64],
-    queue: &mut [u64],
-    events: &mut [f64],
-    order: &mut [u8],
-) {
-    for i in 0..100000u64 {
-        if !command(input, out, lists, grains, queue, events, order) {
-            break;
+fn commands(input: Stdin, out: Stdout, tables: &mut Tables<'_>) {
+    for _ in 0..100000u64 {
+        match next::<u64>(input) {
+            1 => runs(input, out, tables),
+            2 => overwrite(input, tables),
+            3 => tables.close(out, true),
+            _ => break,
         }
     }
 }
 
-// A start over the tables lent.
-fn start(
-    input: Stdin,
-    out: Stdout,
-    inputs: &mut [f64],
-    lists: &mut [u64],
-    grains: &mut [f64],
-    queue: &mut [u64],
-    events: &mut [f64],
-    order: &mut [u8],
-) {
-    let asked = next_start(input);
-    fill_floats(input, inputs);
-    answer_start(
-        out,
-        simulator::start::start(
-            asked.domain,
-            asked.count,
-            asked.room,
-            inputs,
-            lists,
-            grains,
-            queue,
-            events,
-            order,
-        ),
-    );
-    close(out, lists, grains, queue, events, order, false);
+fn start(input: Stdin, out: Stdout, inputs: &mut [f64], tables: &mut Tables<'_>) {
+    let domain = next_domain(input);
+    let count = next(input);
+    let room = next(input);
+    for x in inputs.iter_mut() {
+        *x = next(input);
+    }
+    answer_start(out, tables.start(domain, count, room, inputs));
+    tables.close(out, false);
 }
 
-// A start, and the commands behind it.
-fn follow(
-    input: Stdin,
-    out: Stdout,
-    inputs: &mut [f64],
-    lists: &mut [u64],
-    grains: &mut [f64],
-    queue: &mut [u64],
-    events: &mut [f64],
-    order: &mut [u8],
-) {
-    start(input, out, inputs, lists, grains, queue, events, order);
-    commands(input, out, lists, grains, queue, events, order);
-}
-
-// Lends the first places of each table.
-fn lend(
-    input: Stdin,
-    out: Stdout,
-    inputs: &mut [f64],
-    lists: &mut [u64],
-    grains: &mut [f64],
-    queue: &mut [u64],
-    events: &mut [f64],
-    order: &mut [u8],
-) {
-    let a = next_length(input, lists.len());
-    let b = next_length(input, grains.len());
-    let c = next_length(input, queue.len());
-    let d = next_length(input, events.len());
-    let e = next_length(input, order.len());
+// A start and the commands behind it, over the first places of each table.
+fn replay(input: Stdin, out: Stdout, inputs: &mut [f64], all: &mut Tables<'_>) {
+    let a = next_length(input, all.lists.len());
+    let b = next_length(input, all.grains.len());
+    let c = next_length(input, all.queue.len());
+    let d = next_length(input, all.events.len());
+    let e = next_length(input, all.order.len());
     let n = next_length(input, inputs.len());
-    follow(
-        input,
-        out,
-        &mut inputs[..n],
-        &mut lists[..a],
-        &mut grains[..b],
-        &mut queue[..c],
-        &mut events[..d],
-        &mut order[..e],
-    );
-}
-
-fn replay(
-    input: Stdin,
-    out: Stdout,
-    inputs: &mut [f64],
-    lists: &mut [u64],
-    grains: &mut [f64],
-    queue: &mut [u64],
-    events: &mut [f64],
-    order: &mut [u8],
-) {
-    let starts = next(input) % 1000;
-    for i in 0..starts {
-        lend(input, out, inputs, lists, grains, queue, events, order);
-    }
+    let mut tables = Tables {
+        lists: &mut all.lists[..a],
+        grains: &mut all.grains[..b],
+        queue: &mut all.queue[..c],
+        events: &mut all.events[..d],
+        order: &mut all.order[..e],
+    };
+    start(input, out, &mut inputs[..n], &mut tables);
+    commands(input, out, &mut tables);
 }
 
 fn main(rt: HostRuntime) {
-    let mut inputs = [0.0f64; 1560];
-    let mut lists = [0u64; 10768];
-    let mut grains = [0.0f64; 2048];
-    let mut queue = [0u64; 33040];
-    let mut events = [0.0f64; 81936];
-    let mut order = [0u8; 520];
-    replay(
-        rt.stdin(),
-        rt.stdout(),
-        &mut inputs,
-        &mut lists,
-        &mut grains,
-        &mut queue,
-        &mut events,
-        &mut order,
-    );
+    let input = rt.stdin();
+    let mut inputs = [0.0; 1560];
+    let mut lists = [0; 10768];
+    let mut grains = [0.0; 2048];
+    let mut queue = [0; 33040];
+    let mut events = [0.0; 81936];
+    let mut order = [0; 520];
+    let mut all = Tables {
+        lists: &mut lists,
+        grains: &mut grains,
+        queue: &mut queue,
+        events: &mut events,
+        order: &mut order,
+    };
+    let starts = next::<u64>(input) % 1000;
+    for _ in 0..starts {
+        replay(input, rt.stdout(), &mut inputs, &mut all);
+    }
 }
