@@ -1,10 +1,13 @@
--- A value by the direction, indices that wrap at both edges, and what a grid gives of its box. Assumes nothing.
-use Rattle.std.proofs.Common.{◌≡◌, ℕ, zero, suc, ◌+◌, ◌-◌, ◌*◌, ◌%◌, ◌<◌, ◌≤◌, true, sym, refl, ap, ◌∙◌, mod-lt, mod-eq_of_lt, mul-le-mul, arith}
-use native.Mathlib.Nat.{mod_self, add-mod_right}
+-- A range of floats, and what a grid gives of its box. Assumes nothing.
+use Rattle.std.proofs.Common.{◌≡◌, ℕ, zero, suc, ◌+◌, ◌-◌, ◌%◌, ◌<◌, ◌≤◌, Bool, true, false, cond, ◌&&◌, ◌||◌, Some, None, Less, Equal, Greater, is_le, refl, ap, ◌∙◌, mod-lt, arith}
+use lib.Ieee.{Float, lt, eq, le}
+use Rattle.core.specs.declared.iter.ranges.RangeInclusive.{RangeInclusive}
+use Rattle.core.specs.Range.{range_inclusive_start, range_inclusive_end, range_inclusive_exhausted, range_inclusive_contains}
+use Rattle.core.specs.Ordering.{is_some_and, float_partial_cmp}
 use Rattle.myvec.specs.declared.MyVec.{MyVec}
 use Rattle.myvec.specs.Vec.{vec}
 use Rattle.model.specs.declared.Domain.{Domain}
-use Rattle.model.specs.Sizes.{box_ok}
+use Rattle.model.specs.Sizes.{box_ok, within}
 use Rattle.model.specs.Grid.{across, cells, length_of, position}
 use Rattle.model.specs.Periodic.{corrected, apart}
 use Rattle.model.proofs.Grid.{across_max, cells_max}
@@ -14,26 +17,20 @@ use Rattle.cell.specs.declared.CellAlong.{CellAlong}
 use Rattle.cell.specs.declared.Cell.{Cell}
 use Rattle.cell.specs.Cell.{grid_of, Laid, cell_along, cell_of, IsCell, along_in, across_in, index_in, beside_in, edge_of, position_of}
 
--- ---- what goes by the direction, in a direction that is not 0
-pub other : {A : Type 0} (f : ℕ → A) (v : A) (d : ℕ) → (d ≡ 0 → ⊥) → ((k : ℕ) → v ≡ f (suc k)) → v ≡ f d
-other f v zero n h = absurd (n refl)
-other f v (suc d) n h = h d
+-- ---- a number in a range of floats
+le_is : (x y : Float) → is_some_and is_le (float_partial_cmp x y) ≡ le x y
+unfolding le
+le_is x y = by (lt x y) (eq x y) (lt y x)
+  where
+    by : (a e b : Bool) → is_some_and is_le (cond a (Some Less) (cond e (Some Equal) (cond b (Some Greater) None))) ≡ (a || e)
+    by true e b = refl
+    by false true b = refl
+    by false false true = refl
+    by false false false = refl
 
--- ---- the index above and below i of n
-pub above_last : (n i : ℕ) → i < n → i ≡ n - 1 → 0 ≡ (i + 1) % n
-above_last n i h e = let f : i + 1 ≡ n = omega arith in rw f (sym (mod_self n))
-
-pub above_inside : (n i : ℕ) → i < n → (i ≡ n - 1 → ⊥) → i + 1 ≡ (i + 1) % n
-above_inside n i h e = sym (mod-eq_of_lt (omega arith))
-
-pub below_first : (n i : ℕ) → i < n → i ≡ 0 → n - 1 ≡ (i + (n - 1)) % n
-below_first n i h e = let f : i + (n - 1) ≡ n - 1 = omega arith in rw f (sym (mod-eq_of_lt (omega arith)))
-
-pub below_inside : (n i : ℕ) → i < n → (i ≡ 0 → ⊥) → i - 1 ≡ (i + (n - 1)) % n
-below_inside n i h e =
-    let f : i + (n - 1) ≡ i - 1 + n = omega arith in
-    let g : i - 1 < n = omega arith in
-    rw f (sym (add-mod_right (i - 1) n ∙ mod-eq_of_lt g))
+pub within_is : (r : RangeInclusive Float) (lo hi x : Float) → range_inclusive_start r ≡ lo → range_inclusive_end r ≡ hi → range_inclusive_exhausted r ≡ false
+    → range_inclusive_contains float_partial_cmp r x ≡ within lo hi x
+within_is r lo hi x s e k = rw (s, e, k) (λ i. le_is lo x i && le_is x hi i)
 
 -- ---- the grid of a box in range, and a cell's index in it
 pub record Inside (g : Grid) (d c : ℕ) : Type 0 where
@@ -111,8 +108,5 @@ apart_cell b k v e = ap (λ (k : Cell). vec (corrected (length_of 0 b) k.x.posit
     by c = unfold cell_of cell_along apart in refl
 
 -- ---- a number in one of two cells beside another is small
-pub small_product : (n i : ℕ) → n ≤ 16 → i ≤ 256 → n * i ≤ 4096
-small_product n i h k = mul-le-mul h k
-
 pub wrapped_small : (a n r : ℕ) → 0 < n → n ≤ 16 → r ≡ a % n → r ≤ 256
 wrapped_small a n r h k e = let l : a % n < n = mod-lt a h in omega arith

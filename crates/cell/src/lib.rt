@@ -21,14 +21,7 @@ use myvec::MyVec;
 pub fn cut(x: f64) -> usize
     ensures { result ≡ Ieee.to_unsigned 64 x }
 {
-    if x > -1.0 {
-        if x < 18446744073709551616.0 {
-            let n = std::num::truncating_f64_to_u64(x);
-            return n as usize;
-        }
-        return 18446744073709551615;
-    }
-    0
+    std::num::saturating_f64_to_usize(x)
 }
 
 // A small number as a float.
@@ -43,7 +36,7 @@ pub fn count(n: usize) -> f64
 pub fn within(low: f64, high: f64, x: f64) -> bool
     ensures { result ≡ sizes.within low high x }
 {
-    low <= x && x <= high
+    (low..=high).contains(&x)
 }
 
 // The shortest and the longest box length, both accepted.
@@ -65,17 +58,6 @@ pub fn box_ok(domain: Domain) -> bool
     length_ok(domain.lengths.x) && length_ok(domain.lengths.y)
 }
 
-// Whether a box is periodic in a direction.
-pub fn periodic(domain: Domain, dim: usize) -> bool
-    ensures { result ≡ model-grid.periodic dim domain }
-{
-    if dim == 0 {
-        domain.periodic0
-    } else {
-        domain.periodic1
-    }
-}
-
 // ---- the grid
 
 // The fewest cells in a direction.
@@ -85,18 +67,18 @@ const FEWEST_ACROSS: usize = 3;
 pub fn cells(length: f64) -> usize
     ensures { result ≡ cells_of length }
 {
-    let n = cut(length / Domain::CELL_SIZE);
-    if n < FEWEST_ACROSS { FEWEST_ACROSS } else { n }
+    cut(length / Domain::CELL_SIZE).max(FEWEST_ACROSS)
 }
 
 // How many cells a box has in each direction.
-#[derive(Clone, Copy)]
+#[derive(Clone, Copy, Debug, PartialEq, Eq)]
 pub struct Grid {
     pub n0: usize,
     pub n1: usize,
 }
 
 impl Grid {
+    #[tactic(auto, unfolding(model::specs::Grid::across))]
     pub fn new(domain: Domain) -> Self
         ensures { result ≡ grid_of domain }
     {
@@ -161,12 +143,12 @@ fn nearer(dpos: f64, length: f64) -> f64
     ensures { result ≡ correction.nearer length dpos }
 {
     if dpos < -length / 2.0 {
-        return dpos + length;
+        dpos + length
+    } else if length / 2.0 < dpos {
+        dpos - length
+    } else {
+        dpos
     }
-    if length / 2.0 < dpos {
-        return dpos - length;
-    }
-    dpos
 }
 
 // The same in a cell at an edge; it ignores the periodicity flag.
@@ -174,9 +156,8 @@ pub fn correct_periodicity(dpos: f64, length: f64, position: CellPosition) -> f6
     ensures { result ≡ corrected length position dpos }
 {
     match position {
-        CellPosition::NegativeEdge => nearer(dpos, length),
         CellPosition::Centre => dpos,
-        CellPosition::PositiveEdge => nearer(dpos, length),
+        CellPosition::NegativeEdge | CellPosition::PositiveEdge => nearer(dpos, length),
     }
 }
 
@@ -196,12 +177,12 @@ pub fn position(n: usize, index: usize) -> CellPosition
     ensures { result ≡ position_of n index }
 {
     if index == 0 {
-        return CellPosition::NegativeEdge;
+        CellPosition::NegativeEdge
+    } else if index == n - 1 {
+        CellPosition::PositiveEdge
+    } else {
+        CellPosition::Centre
     }
-    if index == n - 1 {
-        return CellPosition::PositiveEdge;
-    }
-    CellPosition::Centre
 }
 
 // The indices below and above one of n, which wrap at both edges.
@@ -237,7 +218,7 @@ impl CellAlong {
         let n = grid.across(dim);
         let i = grid.index(dim, cell);
         let length = domain.lengths.along(dim);
-        CellAlong {
+        Self {
             low: edge(length, n, i),
             high: edge(length, n, i + 1),
             position: position(n, i),
@@ -256,6 +237,7 @@ pub struct Cell {
 }
 
 impl Cell {
+    #[tactic(auto, unfolding(crate::specs::Cell::cell_of))]
     pub fn new(domain: Domain, grid: Grid, index: usize) -> Self
         requires { Laid domain grid × (index < model-grid.cells domain) }
         ensures { result ≡ cell_of domain index }
@@ -279,13 +261,9 @@ impl Cell {
         requires { IsCell domain self }
         ensures { result ≡ correction.apart domain self.index dpos }
     {
-        let x = self.x;
-        let y = self.y;
-        let x_position = x.position;
-        let y_position = y.position;
         MyVec::new(
-            correct_periodicity(dpos.x, domain.lengths.x, x_position),
-            correct_periodicity(dpos.y, domain.lengths.y, y_position),
+            correct_periodicity(dpos.x, domain.lengths.x, self.x.position),
+            correct_periodicity(dpos.y, domain.lengths.y, self.y.position),
         )
     }
 }

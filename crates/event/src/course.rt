@@ -22,7 +22,7 @@ impl Course {
         ensures { result ≡ course_of dim domain cell.index p }
     {
         Self {
-            periodic: cell::periodic(domain, dim),
+            periodic: domain.periodic(dim),
             length: domain.lengths.along(dim),
             pos: p.pos.along(dim),
             vel: p.vel.along(dim),

@@ -2,7 +2,7 @@
 #![tactic(auto)]
 
 ghost use Rattle.std.specs.Prelude.{◌≡◌};
-ghost use Rattle.model.specs.Grid.{box_of};
+ghost use Rattle.model.specs.Grid.{box_of, periodic};
 ghost use Rattle.model.specs.Stepping.{grain_of, landed};
 
 mod refusal;
@@ -29,6 +29,17 @@ impl Domain {
             lengths,
             periodic0,
             periodic1,
+        }
+    }
+
+    // Whether it is periodic in a direction, 0 or 1.
+    pub fn periodic(self, dim: usize) -> bool
+        ensures { result ≡ periodic dim self }
+    {
+        if dim == 0 {
+            self.periodic0
+        } else {
+            self.periodic1
         }
     }
 }
@@ -65,19 +76,12 @@ impl Particle {
     pub fn landed(self, pos: MyVec, time: f64) -> Self
         ensures { result ≡ landed pos time self }
     {
-        let vel = self.vel;
-        Self {
-            pos,
-            vel,
-            time,
-            val: self.val,
-            rad: self.rad,
-        }
+        Self { pos, time, ..self }
     }
 }
 
 // Where a cell lies in a direction.
-#[derive(Clone, Copy)]
+#[derive(Clone, Copy, Debug, PartialEq, Eq)]
 pub enum CellPosition {
     NegativeEdge,
     Centre,
@@ -143,7 +147,7 @@ pub struct Place {
 }
 
 // What can happen to a grain at a cell's bounds.
-#[derive(Clone, Copy)]
+#[derive(Clone, Copy, Debug, PartialEq, Eq)]
 pub enum Bound {
     ToNeighbour,
     OutOfCell,

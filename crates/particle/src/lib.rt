@@ -78,7 +78,7 @@ fn place_ok(domain: Domain, dim: usize, p: Particle) -> bool
 {
     let length = domain.lengths.along(dim);
     let x = p.pos.along(dim);
-    if cell::periodic(domain, dim) {
+    if domain.periodic(dim) {
         cell::within(0.0, length, x)
     } else {
         cell::within(p.rad, length - p.rad, x)

@@ -1,6 +1,0 @@
-use Rattle.model.specs.Grid.{across}
-use Rattle.cell.proofs.Grid.new.Goals as goal
-
-pub returns : goal.returns
-unfolding across
-returns c = cc
