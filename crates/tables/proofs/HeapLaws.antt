@@ -1,11 +1,10 @@
 -- The scheduler in its table of 512 bytes: a copy from the front, its two halves, and what holds it. Assumes nothing.
 use mathlib.Core.Path.{◌≡◌, refl, sym, ap, ◌∙◌}
-use Prim.Native.Nat.{ℕ, suc, ◌+◌, ◌<◌}
-use native.Mathlib.Numerals.{add-one}
+use Prim.Native.Nat.{ℕ, ◌+◌}
 use native.Mathlib.Omega.{arith}
-use mathlib.Core.List.{List, [], ◌∷◌, ◌++◌, append-nil}
-use lib.ListN.{length, get_or, set, take, drop, length-append, length-drop, take-append-drop}
-use lib.Seq.{take-suc-set, set-get_or, take-length, length-take-le, take_at, drop_at, get_or-drop}
+use mathlib.Core.List.{List, [], ◌++◌, append-nil}
+use lib.ListN.{length, get_or, take, drop, length-append, length-drop, take-append-drop}
+use lib.Seq.{take-length, length-take-le, take_at, drop_at, get_or-drop}
 use borrow.Rule.Slice.PartMut.{put_mid}
 use Rattle.chunks.proofs.Laws.{put_at}
 use Rattle.scheduler.specs.declared.Scheduler.{Scheduler}
@@ -16,14 +15,6 @@ use Rattle.tables.specs.Decode.{scheduler_of}
 use Rattle.tables.specs.Holds.{Heaped}
 
 -- ---- a loop that copies a list from the front
-pub copied_more : (i : ℕ) (a t : List ℕ) → i < length a → i < length t → take i a ≡ take i t → take (i + 1) (set a i (get_or t i 0)) ≡ take (i + 1) t
-copied_more i a t h k e =
-    let x : ℕ = get_or t i 0 in
-    let u : take (suc i) t ≡ take i t ++ (x ∷ []) = ap (λ (l : List ℕ). take (suc i) l) (sym (set-get_or t i 0)) ∙ take-suc-set t i x k in
-    rw add-one (take-suc-set a i x h ∙ ap (λ (l : List ℕ). l ++ (x ∷ [])) e ∙ sym u)
-
-pub copied_all : (n : ℕ) (a t : List ℕ) → length a ≡ n → length t ≡ n → take n a ≡ take n t → a ≡ t
-copied_all n a t p q e = sym (take-length a) ∙ ap (λ (k : ℕ). take k a) p ∙ e ∙ ap (λ (k : ℕ). take k t) (sym q) ∙ take-length t
 
 -- ---- the halves of a table
 module _ (t : List ℕ) (l : length t ≡ order_wide) where

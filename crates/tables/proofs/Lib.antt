@@ -1,9 +1,7 @@
--- Laws of the tables: places in front of a table (Over), headers (HeadLaws), runs of places (Runs), their kinds (KindLaws) and rows of them (QueueLaws), rows of numbers (RowLaws), at parts (PartLaws) and in the
 -- table of lists (ListLaws), grains (GrainLaws), the scheduler (HeapLaws).
 pub mod Over
 pub mod HeadLaws
 pub mod Runs
-pub mod KindLaws
 pub mod QueueLaws
 pub mod RowLaws
 pub mod PartLaws

@@ -1,16 +1,17 @@
 -- Rows of numbers: what one step of each loop and recursion shows, said of lists alone. Assumes nothing.
-use mathlib.Core.Path.{◌≡◌, refl, sym, ap, ◌∙◌}
+use mathlib.Core.Path.{◌≡◌, refl, sym, ap, ◌∙◌, subst}
 use Prim.Native.Nat.{ℕ, zero, suc, ◌+◌, ◌-◌, ◌≤◌, ◌<◌}
-use native.Mathlib.Nat.{suc-ne-zero}
 use native.Mathlib.Numerals.{add-one}
 use native.Mathlib.Omega.{arith}
 use mathlib.Core.List.{List, [], ◌∷◌, ◌++◌, append_assoc, append-nil}
 use mathlib.Core.Bool.{true, false}
-use lib.ListN.{length, get_or, set, take, length-append}
+use lib.ListN.{length, get_or, set, take, drop, length-append}
+use lib.Dec.{eqb}
+use Rattle.std.specs.List.{list_any, copy_within, AllWithin, HoldsAt}
 use lib.Seq.{take_at, set-append_seam}
 use borrow.Author.Tests.{eq-eqb, ne_eqb}
 use borrow.Rule.Slice.PartMut.{mid_of, put_mid}
-use Rattle.chunks.proofs.Laws.{mid_tail, put_tail, take_none, take_step, some}
+use Rattle.chunks.proofs.Laws.{mid_tail, put_tail}
 use Rattle.halting.proofs.Bools.{differ}
 use Rattle.model.specs.State.{Row, row, has, but, pushed, pulled}
 use Rattle.model.proofs.Lists.{length_snoc, length_but}
@@ -37,34 +38,38 @@ pub but_later : (x y : ℕ) (l : List ℕ) → (y ≡ x → ⊥) → but x (y �
 unfolding but
 but_later x y l e = rw (ne_eqb x y (λ q. e (sym q)))
 
--- ---- has
 abbrev first : List ℕ → ℕ
 first l = get_or l 0 0
 
-module _ (x n : ℕ) (l : List ℕ) where
-  pub has_none : n ≡ 0 → false ≡ has x (take n l)
-  has_none z = sym (ap (has x) (take_none n l z) ∙ has_nil x)
+-- ---- has: the library's search for a number is the definition's
+eqb_flip : (x y : ℕ) → eqb y x ≡ eqb x y
+eqb_flip x y = grind arith
 
-  pub has_here : (n ≡ 0 → ⊥) → n ≤ length l → first l ≡ x → true ≡ has x (take n l)
-  has_here z h t = sym (ap (has x) (take_step n l 0 z h) ∙ has_first x (first l) _ t)
+pub any_is_has : (x : ℕ) (l : List ℕ) → list_any (λ y. eqb y x) l ≡ has x l
+unfolding has
+any_is_has x [] = refl
+any_is_has x (y ∷ l) = rw (eqb_flip x y) rw (any_is_has x l) refl
 
-  pub has_more : (n ≡ 0 → ⊥) → n ≤ length l → (first l ≡ x → ⊥) → has x (take (n - 1) (mid_of 1 (length l - 1) l)) ≡ has x (take n l)
-  has_more z h t = sym (ap (has x) (take_step n l 0 z h) ∙ has_later x (first l) _ t)
+none_has : (x : ℕ) (l : List ℕ) → AllWithin (λ y. y ≡ x → ⊥) l 0 (length l) → has x l ≡ false
+none_has x [] n = has_nil x
+none_has x (y ∷ l) n =
+    has_later x y l (n 0 0 (omega arith) (omega arith)) ∙ none_has x l (λ k d a b. n (suc k) d (omega arith) (omega arith))
 
 -- ---- pull
 abbrev pub Pulled : ℕ → List ℕ → List ℕ → Type 0
 Pulled n l l' = (live spare : List ℕ) (x : ℕ) → n ≡ length live → l ≡ x ∷ live ++ spare → l' ≡ live ++ 0 ∷ spare
 
-pub pull_none : {n : ℕ} {l : List ℕ} → n ≡ 0 → Pulled n l (set l 0 0)
-pull_none z [] spare x e h = ap (λ (l : List ℕ). set l 0 0) h
-pull_none z (y ∷ live) spare x e h = absurd (suc-ne-zero (length live) (sym e ∙ z))
+-- behind all but the last of a list that is not empty, the last stands before the rest
+last_left : (live spare : List ℕ) (x : ℕ) → (y : ℕ) × (drop (length live) (x ∷ live ++ spare) ≡ y ∷ spare)
+last_left [] spare x = (x, refl)
+last_left (y ∷ live) spare x = last_left live spare y
 
-pub pull_more : {n : ℕ} {l ys : List ℕ} → (n ≡ 0 → ⊥) → Pulled (n - 1) (mid_of 1 (length (set l 0 (get_or l 1 0)) - 1) (set l 0 (get_or l 1 0))) ys
-    → Pulled n l (put_mid 1 (length (set l 0 (get_or l 1 0)) - 1) (set l 0 (get_or l 1 0)) ys)
-pull_more z again [] spare x e h = absurd (z e)
-pull_more {ys = ys} z again (y ∷ live) spare x e h =
-    let s = ap (λ (l : List ℕ). set l 0 (get_or l 1 0)) h in
-    put_tail (y ∷ []) (y ∷ live ++ spare) 1 ys s refl ∙ ap (λ (l : List ℕ). y ∷ l) (again live spare y (omega arith) (mid_tail (y ∷ []) (y ∷ live ++ spare) 1 s refl))
+pub pulled_down : {n : ℕ} {l k : List ℕ} → k ≡ copy_within l 1 (n + 1) 0 → Pulled n l (set k n 0)
+pulled_down {n} {l} {k} c live spare x e h =
+    let d = last_left live spare x in
+    let from : copy_within l 1 (n + 1) 0 ≡ take n (live ++ spare) ++ drop n (x ∷ live ++ spare) = let p : n + 1 - 1 ≡ n = omega arith in let q : 0 + (n + 1 - 1) ≡ n = omega arith in rw h rw q rw p refl in
+    let moved : k ≡ live ++ d.0 ∷ spare = c ∙ from ∙ (rw (take_at live spare n (sym e)) rw e rw d.1 refl) in
+    ap (λ (t : List ℕ). set t n 0) moved ∙ ap (λ (i : ℕ). set (live ++ d.0 ∷ spare) i 0) e ∙ set-append_seam live d.0 spare 0
 
 -- ---- remove
 abbrev pub Removed : ℕ → ℕ → List ℕ → List ℕ → Type 0
@@ -76,20 +81,42 @@ has_some x zero l h = differ h (has_nil x)
 has_some x (suc n) [] h = differ h (has_nil x)
 has_some x (suc n) (y ∷ l) h = (omega arith, omega arith)
 
-pub has_rest : (x n : ℕ) (l : List ℕ) → n ≤ length l → has x (take n l) ≡ true → (first l ≡ x → ⊥) → has x (take (n - 1) (mid_of 1 (length l - 1) l)) ≡ true
-has_rest x n l k h t = has_more x n l (some (has_some x n l h).0) k t ∙ h
+-- a list in which x comes first at i
+record First (x i : ℕ) (l : List ℕ) : Type 0 where
+  front : List ℕ
+  back : List ℕ
+  is : l ≡ front ++ x ∷ back
+  long : length front ≡ i
+  gone : but x l ≡ front ++ back
 
-module _ (x : ℕ) {n : ℕ} {l : List ℕ} where
-  pub remove_here : {l' : List ℕ} → has x (take n l) ≡ true → first l ≡ x → Pulled (n - 1) l l' → Removed x n l l'
-  remove_here b t pulled [] spare e h = let k = (has_some x n l b).0 in absurd (omega arith)
-  remove_here {l'} b t pulled (y ∷ live) spare e h =
-      pulled live spare y (omega arith) h ∙ ap (λ (k : List ℕ). k ++ 0 ∷ spare) (sym (but_first x y live (sym (ap first h) ∙ t)))
+first_at : (x i : ℕ) (l : List ℕ) → i < length l → HoldsAt (λ y. y ≡ x) l i → AllWithin (λ y. y ≡ x → ⊥) l 0 i → First x i l
+first_at x i [] m h n = absurd (omega arith)
+first_at x zero (y ∷ l) m h n =
+    record { front = []; back = l; is = ap (λ (z : ℕ). z ∷ l) (h 0); long = refl; gone = but_first x y l (h 0) }
+first_at x (suc i) (y ∷ l) m h n =
+    let r = first_at x i l (omega arith) h (λ k d a b. n (suc k) d (omega arith) (omega arith)) in
+    record {
+      front = y ∷ r.front;
+      back = r.back;
+      is = ap (λ (t : List ℕ). y ∷ t) r.is;
+      long = ap suc r.long;
+      gone = but_later x y l (n 0 0 (omega arith) (omega arith)) ∙ ap (λ (t : List ℕ). y ∷ t) r.gone;
+    }
 
-  pub remove_more : {ys : List ℕ} → has x (take n l) ≡ true → (first l ≡ x → ⊥) → Removed x (n - 1) (mid_of 1 (length l - 1) l) ys → Removed x n l (put_mid 1 (length l - 1) l ys)
-  remove_more b t again [] spare e h = let k = (has_some x n l b).0 in absurd (omega arith)
-  remove_more {ys} b t again (y ∷ live) spare e h =
-      put_tail (y ∷ []) (live ++ spare) 1 ys h refl ∙ ap (λ (k : List ℕ). y ∷ k) (again live spare (omega arith) (mid_tail (y ∷ []) (live ++ spare) 1 h refl))
-      ∙ ap (λ (k : List ℕ). k ++ 0 ∷ spare) (sym (but_later x y live (λ q. t (ap first h ∙ q))))
+pub removed : (x : ℕ) {n i : ℕ} {l ys : List ℕ} → i < length (take n l) → HoldsAt (λ y. y ≡ x) (take n l) i → AllWithin (λ y. y ≡ x → ⊥) (take n l) 0 i
+    → Pulled (n - 1 - i) (mid_of i (length l - i) l) ys → Removed x n l (put_mid i (length l - i) l ys)
+removed x {n} {i} {l} {ys} m h w pulled live spare e g =
+    let t : take n l ≡ live = ap (take n) g ∙ take_at live spare n (sym e) in
+    let r = first_at x i live (subst (λ (k : List ℕ). i < length k) t m) (subst (λ (k : List ℕ). HoldsAt (λ y. y ≡ x) k i) t h) (subst (λ (k : List ℕ). AllWithin (λ y. y ≡ x → ⊥) k 0 i) t w) in
+    let all : l ≡ r.front ++ (x ∷ r.back ++ spare) = g ∙ ap (λ (k : List ℕ). k ++ spare) r.is ∙ append_assoc r.front (x ∷ r.back) spare in
+    let long : length live ≡ length r.front + suc (length r.back) = ap length r.is ∙ length-append r.front (x ∷ r.back) in
+    let a = r.long in
+    put_tail r.front (x ∷ r.back ++ spare) i ys all r.long
+    ∙ ap (λ (k : List ℕ). r.front ++ k) (pulled r.back spare x (omega arith) (mid_tail r.front (x ∷ r.back ++ spare) i all r.long))
+    ∙ sym (append_assoc r.front r.back (0 ∷ spare)) ∙ ap (λ (k : List ℕ). k ++ 0 ∷ spare) (sym r.gone)
+
+pub not_there : (x : ℕ) (l : List ℕ) → has x l ≡ true → AllWithin (λ y. y ≡ x → ⊥) l 0 (length l) → ⊥
+not_there x l h n = differ h (none_has x l n)
 
 -- ---- rows
 pub live_most : {A : Type 0} (r : Row A) → length r.live ≤ length (places r)

@@ -1,16 +1,16 @@
 -- Runs of places: one place read and written, and what each step of a loop over them keeps, said of lists of places. Assumes nothing.
 use mathlib.Core.Path.{◌≡◌, refl, sym, ap, ◌∙◌, subst}
-use Prim.Native.Nat.{ℕ, zero, suc, ◌+◌, ◌-◌, ◌*◌, ◌≤◌, ◌<◌}
+use Prim.Native.Nat.{ℕ, suc, ◌+◌, ◌-◌, ◌*◌, ◌≤◌, ◌<◌}
 use native.Mathlib.Nat.{suc-ne-zero}
 use native.Mathlib.Omega.{arith}
 use mathlib.Core.List.{List, [], ◌∷◌, ◌++◌, append_assoc, append-nil}
-use lib.ListN.{length, replicate, get_or, set, length-append, length-replicate, replicate-append-replicate}
-use lib.Seq.{set_at, get_or_at}
+use lib.ListN.{length, replicate, get_or, set, take, drop, length-append, length-replicate, replicate-append-replicate}
+use lib.Seq.{set_at, get_or_at, take_at, drop_at}
+use Rattle.std.specs.List.{copy_within}
 use lib.Ieee.{Float, le, lt}
 use lib.Ieee.Scale.{finite}
 use mathlib.Core.Bool.{Bool, true, false, ◌&&◌, and_assoc, cond}
-use lib.Dec.{eqb, ltb, lit<}
-use borrow.Author.Tests.{eq-eqb, ne_eqb, le-ltb}
+use lib.Dec.{lit<}
 use borrow.Rule.Slice.PartMut.{mid_of, put_mid}
 use Rattle.halting.specs.Every.{All}
 use Rattle.halting.proofs.All.{all_to}
@@ -108,17 +108,17 @@ over_to : (front : List Place) (y : Place) (back : List Place) → front ++ y �
 over_to front y back = sym (append_assoc front (y ∷ []) back)
 
 -- a list that is not empty ends in an element
-record Ended (l : List Place) : Type 0 where
-  front : List Place
-  end : Place
-  is : l ≡ front ++ end ∷ []
+pub record Ended {A : Type 0} (l : List A) : Type 0 where
+  pub front : List A
+  pub end : A
+  pub is : l ≡ front ++ end ∷ []
 
-ended : (l : List Place) → 0 < length l → Ended l
+ended : {A : Type 0} (l : List A) → 0 < length l → Ended l
 ended [] p = absurd (omega arith)
 ended (x ∷ []) p = record { front = []; end = x; is = refl }
-ended (x ∷ y ∷ l) p =
+ended {A} (x ∷ y ∷ l) p =
     let r = ended (y ∷ l) (omega arith) in
-    record { front = x ∷ r.front; end = r.end; is = ap (λ (t : List Place). x ∷ t) r.is }
+    record { front = x ∷ r.front; end = r.end; is = ap (λ (t : List A). x ∷ t) r.is }
 
 -- a list that is not empty starts with one
 record Started (l : List Place) : Type 0 where
@@ -161,130 +161,63 @@ keep_in g y l u = rw u (refl, refl)
 
 -- ---- whether an event names g, by the two numbers of its place and its kind
 
-pub names_neither : (k : ℕ) (s : Place) (g : ℕ) → (s.p ≡ g → ⊥) → (s.q ≡ g → ⊥) → names (event_of k s) g ≡ false
-names_neither zero s g a b = refl
-names_neither (suc zero) s g a b = rw (ne_eqb s.p g a) (ne_eqb s.q g b)
-names_neither (suc (suc zero)) s g a b = ne_eqb s.p g a
-names_neither (suc (suc (suc zero))) s g a b = ne_eqb s.p g a
-names_neither (suc (suc (suc (suc zero)))) s g a b = ne_eqb s.p g a
-names_neither (suc (suc (suc (suc (suc k))))) s g a b = refl
+-- ---- push and pull: all in use move by one place
 
-pub names_second : (k : ℕ) (s : Place) (g : ℕ) → (s.p ≡ g → ⊥) → s.q ≡ g → names (event_of k s) g ≡ eqb k 1
-names_second zero s g a b = refl
-names_second (suc zero) s g a b = rw (ne_eqb s.p g a) (eq-eqb s.q g b)
-names_second (suc (suc zero)) s g a b = ne_eqb s.p g a
-names_second (suc (suc (suc zero))) s g a b = ne_eqb s.p g a
-names_second (suc (suc (suc (suc zero)))) s g a b = ne_eqb s.p g a
-names_second (suc (suc (suc (suc (suc k))))) s g a b = sym (ne_eqb (suc (suc (suc (suc (suc k))))) 1 (λ e. omega (arith, e)))
+-- a row of chunks of w elements each, copied within itself by one chunk
+module _ {A B : Type 0} (enc : A → List B) (w : ℕ) (wide : (x : A) → length (enc x) ≡ w) (live rest : List A) (x : A) where
+  flat_wide : (l : List A) → length (flat enc l) ≡ w * length l
+  flat_wide [] = omega arith
+  flat_wide (y ∷ l) = let a = length-append (enc y) (flat enc l) in let b = wide y in let c = flat_wide l in omega arith
 
-pub names_first : (k : ℕ) (s : Place) (g : ℕ) → s.p ≡ g → (k ≡ 0 → ⊥) → names (event_of k s) g ≡ ltb k 5
-names_first zero s g a z = absurd (z refl)
-names_first (suc zero) s g a z = rw (eq-eqb s.p g a) refl
-names_first (suc (suc zero)) s g a z = eq-eqb s.p g a
-names_first (suc (suc (suc zero))) s g a z = eq-eqb s.p g a
-names_first (suc (suc (suc (suc zero)))) s g a z = eq-eqb s.p g a
-names_first (suc (suc (suc (suc (suc k))))) s g a z = sym (le-ltb (suc (suc (suc (suc (suc k))))) 5 (omega arith))
+  flat_at : (i n : ℕ) (l : List A) → n ≡ length l → i ≡ w * n → length (flat enc l) ≡ i
+  flat_at i n l e f = flat_wide l ∙ ap (λ (k : ℕ). w * k) (sym e) ∙ sym f
 
--- ---- push and pull: a place that is free for the next to move over lies among those in use
+  -- up, over the free chunk behind them: the first of all stays before them
+  pub chunks_up : {h : A} {t : List A} {l : List B} (n : ℕ) → n ≡ length live → l ≡ flat enc (live ++ x ∷ rest) → live ++ x ∷ rest ≡ h ∷ t → copy_within l 0 (w * n) w ≡ flat enc (h ∷ live ++ rest)
+  chunks_up {h} {t} {l} n e f g =
+      let m : w * n - 0 ≡ w * n = omega arith in
+      let more : n + 1 ≡ length (live ++ x ∷ []) = let k = length-append live (x ∷ []) in omega arith in
+      let one : take w l ≡ enc h = ap (take w) (f ∙ ap (flat enc) g) ∙ take_at (enc h) (flat enc t) w (wide h) in
+      let two : take (w * n) l ≡ flat enc live = ap (take (w * n)) (f ∙ flat_append enc live (x ∷ rest)) ∙ take_at (flat enc live) (flat enc (x ∷ rest)) (w * n) (flat_at (w * n) n live e refl) in
+      let three : drop (w + w * n) l ≡ flat enc rest =
+      ap (drop (w + w * n)) (f ∙ ap (flat enc) (sym (append_assoc live (x ∷ []) rest)) ∙ flat_append enc (live ++ x ∷ []) rest)
+      ∙ drop_at (flat enc (live ++ x ∷ [])) (flat enc rest) (w + w * n) (flat_at (w + w * n) (n + 1) (live ++ x ∷ []) more (omega arith))
+      in
+      rw m rw one rw two rw three (append_assoc (enc h) (flat enc live) (flat enc rest) ∙ ap (λ (k : List B). enc h ++ k) (sym (flat_append enc live rest)))
 
-pub record Moved (live rest : List Place) (i : ℕ) (ns : List ℕ) (rs : List Float) : Type 0 where
-  pub front : List Place
-  pub back : List Place
-  pub over : Place
-  pub is : live ≡ front ++ back
-  pub many : length front ≡ i
-  pub holds : Run ns rs (front ++ over ∷ (back ++ rest))
+  -- down, over the first: the last of all stays behind them
+  pub chunks_down : {l : List B} (n : ℕ) → n ≡ length live → l ≡ flat enc (x ∷ live ++ rest) → (z : Ended (x ∷ live)) → copy_within l w (w * (n + 1)) 0 ≡ flat enc (live ++ z.end ∷ rest)
+  chunks_down {l} n e f z =
+      let q : 0 + w * n ≡ w * n = omega arith in
+      let m : w * (n + 1) - w ≡ w * n = omega arith in
+      let d : drop w l ≡ flat enc live ++ flat enc rest = ap (drop w) f ∙ drop_at (enc x) (flat enc (live ++ rest)) w (wide x) ∙ flat_append enc live rest in
+      let two : take (w * n) (drop w l) ≡ flat enc live = ap (take (w * n)) d ∙ take_at (flat enc live) (flat enc rest) (w * n) (flat_at (w * n) n live e refl) in
+      let long : n ≡ length z.front = let k = ap length z.is in let j = length-append z.front (z.end ∷ []) in omega arith in
+      let three : drop (w * n) l ≡ enc z.end ++ flat enc rest =
+      ap (drop (w * n)) (f ∙ ap (λ (k : List A). flat enc (k ++ rest)) z.is ∙ ap (flat enc) (append_assoc z.front (z.end ∷ []) rest) ∙ flat_append enc z.front (z.end ∷ rest))
+      ∙ drop_at (flat enc z.front) (flat enc (z.end ∷ rest)) (w * n) (flat_at (w * n) n z.front long refl)
+      in
+      rw m rw two rw q rw three (sym (flat_append enc live (z.end ∷ rest)))
 
--- it starts behind them, or before them
-pub free_last : (live rest : List Place) (x : Place) {n : ℕ} {ns : List ℕ} {rs : List Float} → n ≡ length live → Run ns rs (live ++ x ∷ rest) → Moved live rest n ns rs
-free_last live rest x e h = record { front = live; back = []; over = x; is = sym (append-nil live); many = sym e; holds = h }
+module _ {s : Place} {n : ℕ} {ns ns' ns'' : List ℕ} {rs rs' rs'' : List Float} (live rest : List Place) (x : Place) (e : n ≡ length live) where
+  pub pushed_up : Run ns rs (live ++ x ∷ rest) → ns' ≡ copy_within ns 0 (place_nums_wide * n) place_nums_wide → rs' ≡ copy_within rs 0 (place_reals_wide * n) place_reals_wide
+      → ((x : Place) (ps : List Place) → Run ns' rs' (x ∷ ps) → Run ns'' rs'' (s ∷ ps)) → Run ns'' rs'' (s ∷ live ++ rest)
+  pushed_up h p q put =
+      let b = started (live ++ x ∷ rest) (let k = length-append live (x ∷ rest) in omega arith) in
+      put b.head (live ++ rest) (record {
+        nums_is = p ∙ chunks_up place_nums place_nums_wide (λ p. refl) live rest x n e h.nums_is b.is;
+        reals_is = q ∙ chunks_up place_reals place_reals_wide (λ p. refl) live rest x n e h.reals_is b.is;
+      })
 
-pub free_first : (live rest : List Place) (x : Place) {ns : List ℕ} {rs : List Float} → Run ns rs (x ∷ live ++ rest) → Moved live rest 0 ns rs
-free_first live rest x h = record { front = []; back = live; over = x; is = refl; many = refl; holds = h }
-
--- the one before it moves up
-pub moved_up : {live rest : List Place} {i : ℕ} {ns ns' : List ℕ} {rs rs' : List Float} {one : Place} → Moved live rest i ns rs → 0 < i
-    → ((ps : List Place) → Run ns rs ps → one ≡ get_or ps (i - 1) zero_p)
-    → ((ps : List Place) → Run ns rs ps → Run ns' rs' (set ps i one))
-    → Moved live rest (i - 1) ns' rs'
-moved_up {live} {rest} {i} {ns} {ns'} {rs} {rs'} {one} m p got put =
-    let e = ended m.front (let k = m.many in omega arith) in
-    let t = m.back ++ rest in
-    let k = ap length e.is in
-    let l = length-append e.front (e.end ∷ []) in
-    let q = m.many in
-    let short : length e.front ≡ i - 1 = omega arith in
-    let h : Run ns rs ((e.front ++ e.end ∷ []) ++ m.over ∷ t) = subst (λ (f : List Place). Run ns rs (f ++ m.over ∷ t)) e.is m.holds in
-    let h₁ : Run ns rs (e.front ++ e.end ∷ m.over ∷ t) = subst (Run ns rs) (append_assoc e.front (e.end ∷ []) (m.over ∷ t)) h in
-    let same : one ≡ e.end = got (e.front ++ e.end ∷ m.over ∷ t) h₁ ∙ get_or_at e.front e.end (m.over ∷ t) zero_p _ short in
-    let long : length (e.front ++ e.end ∷ []) ≡ i = omega arith in
-    record {
-      front = e.front;
-      back = e.end ∷ m.back;
-      over = e.end;
-      is = m.is ∙ ap (λ (f : List Place). f ++ m.back) e.is ∙ append_assoc e.front (e.end ∷ []) m.back;
-      many = short;
-      holds =
-          subst (Run ns' rs')
-          (set_at (e.front ++ e.end ∷ []) m.over t one _ long ∙ ap (λ (y : Place). (e.front ++ e.end ∷ []) ++ y ∷ t) same
-          ∙ append_assoc e.front (e.end ∷ []) (e.end ∷ t))
-          (put ((e.front ++ e.end ∷ []) ++ m.over ∷ t) h);
-    }
-
--- the one behind it moves down
-pub moved_down : {live rest : List Place} {i : ℕ} {ns ns' : List ℕ} {rs rs' : List Float} {next : Place} → Moved live rest i ns rs → i < length live
-    → ((ps : List Place) → Run ns rs ps → next ≡ get_or ps (i + 1) zero_p)
-    → ((ps : List Place) → Run ns rs ps → Run ns' rs' (set ps i next))
-    → Moved live rest (i + 1) ns' rs'
-moved_down {live} {rest} {i} {ns} {ns'} {rs} {rs'} {next} m p got put =
-    let k = ap length m.is in
-    let l = length-append m.front m.back in
-    let q = m.many in
-    let b = started m.back (omega arith) in
-    let t = b.back ++ rest in
-    let h : Run ns rs (m.front ++ m.over ∷ (b.head ∷ t)) = subst (λ (f : List Place). Run ns rs (m.front ++ m.over ∷ (f ++ rest))) b.is m.holds in
-    let h₁ : Run ns rs ((m.front ++ m.over ∷ []) ++ b.head ∷ t) = subst (Run ns rs) (over_to m.front m.over (b.head ∷ t)) h in
-    let o = length-append m.front (m.over ∷ []) in
-    let long : length (m.front ++ m.over ∷ []) ≡ i + 1 = omega arith in
-    let same : next ≡ b.head = got ((m.front ++ m.over ∷ []) ++ b.head ∷ t) h₁ ∙ get_or_at (m.front ++ m.over ∷ []) b.head t zero_p _ long in
-    let o' = length-append m.front (b.head ∷ []) in
-    record {
-      front = m.front ++ b.head ∷ [];
-      back = b.back;
-      over = b.head;
-      is = m.is ∙ ap (λ (f : List Place). m.front ++ f) b.is ∙ over_to m.front b.head b.back;
-      many = omega arith;
-      holds =
-          subst (Run ns' rs')
-          (set_at m.front m.over (b.head ∷ t) next _ m.many ∙ ap (λ (y : Place). m.front ++ y ∷ b.head ∷ t) same
-          ∙ over_to m.front b.head (b.head ∷ t))
-          (put (m.front ++ m.over ∷ (b.head ∷ t)) h);
-    }
-
--- it ends before them, and takes s
-pub push_ends : {live rest : List Place} {i : ℕ} {ns ns' : List ℕ} {rs rs' : List Float} {s : Place} → Moved live rest i ns rs → i ≡ 0
-    → ((x : Place) (ps : List Place) → Run ns rs (x ∷ ps) → Run ns' rs' (s ∷ ps))
-    → Run ns' rs' (s ∷ live ++ rest)
-push_ends {live} {rest} {ns = ns} {ns'} {rs} {rs'} {s} m z put =
-    let e = empty m.front (m.many ∙ z) in
-    let same : live ≡ m.back = m.is ∙ ap (λ (f : List Place). f ++ m.back) e in
-    subst (λ (l : List Place). Run ns' rs' (s ∷ l ++ rest)) (sym same)
-    (put m.over (m.back ++ rest) (subst (λ (f : List Place). Run ns rs (f ++ m.over ∷ (m.back ++ rest))) e m.holds))
-
--- it ends behind them, and is cleared
-pub pull_ends : {live rest : List Place} {n : ℕ} {ns ns' : List ℕ} {rs rs' : List Float} {z : Place} → Moved live rest n ns rs → n ≡ length live → z ≡ zero_p
-    → ((ps : List Place) → Run ns rs ps → Run ns' rs' (set ps n z))
-    → Run ns' rs' (live ++ zero_p ∷ rest)
-pull_ends {live} {rest} {n} {ns} {ns'} {rs} {rs'} {z} m e o put =
-    let k = ap length m.is in
-    let l = length-append m.front m.back in
-    let q = m.many in
-    let b = empty m.back (omega arith) in
-    let same : live ≡ m.front = m.is ∙ ap (λ (f : List Place). m.front ++ f) b ∙ append-nil m.front in
-    subst (Run ns' rs')
-    (set_at m.front m.over (m.back ++ rest) z _ m.many ∙ ap (λ (y : Place). m.front ++ y ∷ (m.back ++ rest)) o
-    ∙ ap (λ (f : List Place). m.front ++ zero_p ∷ (f ++ rest)) b ∙ ap (λ (f : List Place). f ++ zero_p ∷ rest) (sym same))
-    (put (m.front ++ m.over ∷ (m.back ++ rest)) m.holds)
+  pub pulled_down : Run ns rs (x ∷ live ++ rest) → ns' ≡ copy_within ns place_nums_wide (place_nums_wide * (n + 1)) 0 → rs' ≡ copy_within rs place_reals_wide (place_reals_wide * (n + 1)) 0 → s ≡ zero_p
+      → ((ps : List Place) → Run ns' rs' ps → Run ns'' rs'' (set ps n s)) → Run ns'' rs'' (live ++ zero_p ∷ rest)
+  pulled_down h p q o put =
+      let z = ended (x ∷ live) (omega arith) in
+      let moved : Run ns' rs' (live ++ z.end ∷ rest) = record {
+        nums_is = p ∙ chunks_down place_nums place_nums_wide (λ p. refl) live rest x n e h.nums_is z;
+        reals_is = q ∙ chunks_down place_reals place_reals_wide (λ p. refl) live rest x n e h.reals_is z;
+      } in
+      subst (Run ns'' rs'') (set_at live z.end rest s n (sym e) ∙ ap (λ (y : Place). live ++ y ∷ rest) o) (put (live ++ z.end ∷ rest) moved)
 
 -- ---- insert
 

@@ -4,7 +4,7 @@ ghost use Rattle.layout.specs.Widths.{heap_wide, order_wide};
 ghost use Rattle.tables.specs.Layout.{order_bytes};
 ghost use Rattle.tables.specs.Decode.{scheduler_of};
 
-use layout::HEAP;
+use layout::{HEAP, ORDER};
 use scheduler::Scheduler;
 
 fn bytes(t: &[u8]) -> [u8; HEAP]
@@ -21,8 +21,8 @@ pub fn load(order: &[u8], cells: usize) -> Scheduler
     requires { length order.now ≡ order_wide }
     ensures { result ≡ scheduler_of cells order.now }
 {
-    let heap = bytes(&order[..HEAP]);
-    let lookups = bytes(&order[HEAP..]);
+    let heap = bytes(&order[0..HEAP]);
+    let lookups = bytes(&order[HEAP..ORDER]);
     Scheduler {
         heap,
         lookups,
@@ -34,6 +34,6 @@ pub fn store(order: &mut [u8], s: Scheduler)
     requires { length order.old ≡ order_wide }
     ensures { order.new ≡ order_bytes s }
 {
-    order[..HEAP].copy_from_slice(&s.heap);
-    order[HEAP..].copy_from_slice(&s.lookups);
+    order[0..HEAP].copy_from_slice(&s.heap);
+    order[HEAP..ORDER].copy_from_slice(&s.lookups);
 }

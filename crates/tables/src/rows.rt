@@ -65,7 +65,7 @@ pub fn add_to(row: &mut [u64], x: u64)
     requires { InNums row.old (λ r. length r.live < length (places r)) }
     ensures { (r : Row ℕ) → row.old ≡ row_nums r → row.new ≡ row_nums (pushed x r) }
 {
-    let n = count_of(row);
+    let n = row[COUNT] as usize;
     row[n + PLACES] = x;
     row[COUNT] = (n + 1) as u64;
 }
@@ -75,7 +75,7 @@ pub fn drop_from(row: &mut [u64], x: u64)
     requires { InNums row.old (λ r. has x r.live ≡ true) }
     ensures { (r : Row ℕ) → row.old ≡ row_nums r → row.new ≡ row_nums (pulled x r) }
 {
-    let n = count_of(row);
+    let n = row[COUNT] as usize;
     remove(&mut row[PLACES..], n, x);
     row[COUNT] = (n - 1) as u64;
 }
