@@ -163,10 +163,6 @@ goes_in_bare : (k : ℕ) (gs : List Particle) (i : ℕ) (u : State) → Bare k u
 unfolding goes_in
 goes_in_bare k gs i u r = then_sound (Bare k) (store i _ u) _ (store_bare k i _ u r) (λ w q. of_sound (Bare k) (λ c. enter i c) _ (λ c v h p. enter_bare k i c v p) w q)
 
-sync_fine : fine_place (sync_at fzero) ≡ true
-unfolding fine_place of_bits lt
-sync_fine = refl
-
 sync_rooted : (n : ℕ) (u : State) → 0 < n → Bare n u → Rooted n (inserted 0 (sync_at fzero) u)
 unfolding requeued
 sync_rooted n u N r = record {

@@ -91,7 +91,8 @@ module _ (s₀ : State) where
   orderly_to (act (leaving i k) g) T U f e = e
 
   -- ---- one after the other, of different rules
-  pub orderly_before : (w : Acts) (g : State → Acts) (A B : ℕ → Rule → Type 0) (s : State) → SameLists s₀ s → Orderly s₀ A w → ((u : State) → SameLists s₀ u → Orderly s₀ B (g u)) → ((c : ℕ) (r : Rule) → A c r → B c r → ⊥) → Orderly s₀ (Either A B) (before w g s)
+  pub orderly_before : (w : Acts) (g : State → Acts) (A B : ℕ → Rule → Type 0) (s : State) → SameLists s₀ s → Orderly s₀ A w → ((u : State) → SameLists s₀ u → Orderly s₀ B (g u))
+      → ((c : ℕ) (r : Rule) → A c r → B c r → ⊥) → Orderly s₀ (Either A B) (before w g s)
   unfolding before
   orderly_before ended g A B s l e b d = orderly_to (g s) B (Either A B) (λ c r k. inr k) (b s l)
   orderly_before (act (moving i x t) f) g A B s l e b d = λ u m. orderly_before (f u) g A B u m (e u m) b d

@@ -145,7 +145,8 @@ module _ (d : Deed) (h : History) (c : ℕ) (r : Rule) (other : tries c r d ≡ 
       n : ℕ
       n = tried h c r
 
-      kept : Among (dated_at (place_of e) (tried h c r)) (dated (d ∷ h) c) ⊎ (Entry r × (draws d c (tried h c r) (dated h c) ≡ true)) → Among (dated_at (place_of e) (tried h c r)) (dated (d ∷ h) c) ⊎ (Entry r × ((draws d c (tried h c r) (dated h c) || executed h c (tried h c r)) ≡ true))
+      kept : Among (dated_at (place_of e) (tried h c r)) (dated (d ∷ h) c) ⊎ (Entry r × (draws d c (tried h c r) (dated h c) ≡ true))
+          → Among (dated_at (place_of e) (tried h c r)) (dated (d ∷ h) c) ⊎ (Entry r × ((draws d c (tried h c r) (dated h c) || executed h c (tried h c r)) ≡ true))
       kept (inl a) = inl a
       kept (inr a) = inr (a.0, rw a.1)
 

@@ -38,7 +38,8 @@ use Rattle.model.proofs.Along.{Parts, reached_along}
 use Rattle.model.proofs.AtClock.{Honestly, Any, sound_ranges, acts_honest, start_honest}
 
 -- ---- a row whose acts are honest leads on
-turn_led : (a : Act) (f : State → Acts) (s₀ s : State) (h : History) (r : ℕ) → (perform a s).num ≡ r → Led h s₀ s → Honest a s → ((perform a s).num ≡ 0 → Led (did a ∷ h) s₀ (perform a s).st → let u = (perform a s).st in Led (row_done (f u) u (did a ∷ h)) s₀ (doing (f u) u).st)
+turn_led : (a : Act) (f : State → Acts) (s₀ s : State) (h : History) (r : ℕ) → (perform a s).num ≡ r → Led h s₀ s → Honest a s
+    → ((perform a s).num ≡ 0 → Led (did a ∷ h) s₀ (perform a s).st → let u = (perform a s).st in Led (row_done (f u) u (did a ∷ h)) s₀ (doing (f u) u).st)
     → let u = (perform a s).st in Led (onto r a (row_done (f u) u) h) s₀ (next r u (λ v. doing (f v) v)).st
 turn_led a f s₀ s h zero e l o k = k e (s, l, o, ap (λ (r : ℕ). out r (perform a s).st) e)
 turn_led a f s₀ s h (suc r) e l o k = subst (λ (w : Out State). Led h s₀ w.st) (sym (act_same a s (λ z. omega (arith, e, z))).0) l
@@ -182,7 +183,9 @@ module _ (s : State) (h : History) (v : Velocities h s) where
   act_given (turning i p) = stored (did (turning i p)) i p (λ I. rw (eq-eqb i i refl)) (λ g n. rw (ne_eqb i g (λ e. n (sym e))))
   act_given (trying k r (Ok None)) = λ z. same_grains_lem (did (trying k r (Ok None))) s refl (λ g. refl)
   act_given (trying k r (Err _)) = λ z. absurd (omega (arith, z))
-  act_given (trying k r (Ok (Some e))) = insert_case (λ o. o.num ≡ 0 → Velocities (did (trying k r (Ok (Some e))) ∷ h) o.st) s k (place_of e) (λ z. absurd (omega (arith, z))) (λ f z. absurd (omega (arith, z))) (λ f y z. unfold requeued in same_grains_lem (did (trying k r (Ok (Some e)))) _ refl (λ g. refl))
+  act_given (trying k r (Ok (Some e))) =
+      insert_case (λ o. o.num ≡ 0 → Velocities (did (trying k r (Ok (Some e))) ∷ h) o.st) s k (place_of e) (λ z. absurd (omega (arith, z))) (λ f z. absurd (omega (arith, z)))
+      (λ f y z. unfold requeued in same_grains_lem (did (trying k r (Ok (Some e)))) _ refl (λ g. refl))
   act_given (cancelling i k) = λ z. unfold cancelled requeued in same_grains_lem (did (cancelling i k)) _ refl (λ g. refl)
   act_given (entering i k) = enter_case (λ o. o.num ≡ 0 → Velocities (did (entering i k) ∷ h) o.st) s i k (λ b z. absurd (omega (arith, z))) (λ z. absurd (omega (arith, z))) (λ b c d z. same_grains_lem (did (entering i k)) _ refl (λ g. refl))
   act_given (leaving i k) = leave_case (λ o. o.num ≡ 0 → Velocities (did (leaving i k) ∷ h) o.st) s i k (λ z. absurd (omega (arith, z))) (λ b z. same_grains_lem (did (leaving i k)) _ refl (λ g. refl))

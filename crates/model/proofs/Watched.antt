@@ -178,7 +178,8 @@ module _ (n p : ℕ) (x : MyVec) (k : ℕ) (s : State) (h : History) (sound : So
           let gp = eqb-true g p (and_r (eqb c k) (eqb g p) y) in
           differ (rw gp at w) (rw (ck, eq-eqb k k refl) at e))) m2
 
-      by : (b : Bool) → (eqb k c && about r p) ≡ b → Concerns s₂ c r → row_done row s h ≡ row_done (scheduling p k s₂) s₂ (did (entering p k) ∷ did (moving p x s.clock) ∷ h) → (doing (scheduling p k s₂) s₂).num ≡ 0 → s₂ ≡ Acts.entered p k s₁ → Kept (row_done row s h) c r
+      by : (b : Bool) → (eqb k c && about r p) ≡ b → Concerns s₂ c r → row_done row s h ≡ row_done (scheduling p k s₂) s₂ (did (entering p k) ∷ did (moving p x s.clock) ∷ h)
+          → (doing (scheduling p k s₂) s₂).num ≡ 0 → s₂ ≡ Acts.entered p k s₁ → Kept (row_done row s h) c r
       by true e m2 t y q =
           let kc = eqb-true k c (and_l (eqb k c) (about r p) e) in
           rw t (subst (λ (j : ℕ). Kept (row_done (scheduling p k s₂) s₂ (did (entering p k) ∷ did (moving p x s.clock) ∷ h)) j r) kc
