@@ -1,4 +1,3 @@
-pub mod Floats
 pub mod HexDigits
 pub mod DecimalDigits
 pub mod Turns

@@ -1,4 +1,3 @@
-use native.Mathlib.Omega.{arith}
 use Rattle.std.proofs.lemmas.List.{take_all}
 use Rattle.text.specs.Numerals.{hex}
 use Rattle.text.proofs.Putting.{puts_as, puts_then, hex_more}
