@@ -10,7 +10,7 @@ use lib.Dec.{T, ltb, eqb}
 use lib.ListN.{length, get_or, drop, set, replicate}
 use borrow.Author.Tests.{ne_eqb, ltb-true, ltb-false, eqb-true, eqb-false}
 use Rattle.std.specs.Prelude.{Option, Some, None, unwrap_or}
-use Rattle.core.specs.Option.{option_eq}
+use Rattle.std.specs.Option.{option_eq}
 use Rattle.text.specs.declared.reader.Reader.{Reader}
 use Rattle.text.specs.Letters.{numbers_held, hex_letter, flag_letter}
 use Rattle.text.specs.Numerals.{glyph, hex_val, spell, hex, decimal, Word}

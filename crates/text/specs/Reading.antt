@@ -1,7 +1,7 @@
 -- The turns of the reader that goes by a plan: `feed_all plan line start_of s` is what it makes of the bytes s. A place is one of the plan's: the plan's last
 -- is `last`, and `line` is where one of the n lines begins. Assumes nothing.
 use Rattle.std.specs.Prelude.{List, [], ◌∷◌, Bool, false, cond, Option, Some, None, unwrap_or, ℕ, ◌+◌, ◌-◌, ◌*◌, ◌/◌, ◌%◌, ltb, leb, eqb, length, get_or, set, replicate}
-use Rattle.core.specs.Option.{option_eq}
+use Rattle.std.specs.Option.{option_eq}
 use Rattle.text.specs.declared.reader.Reader.{Reader}
 use Rattle.text.specs.Letters.{numbers_held, hex_letter, flag_letter, letters_end}
 use Rattle.text.specs.Numerals.{hex_val}
