@@ -20,22 +20,13 @@ const MOST_ROOM: u64 = 256;
 fn in_range(order: usize, cells: u64, room: u64, cell: u64) -> bool
     ensures { result ≡ in_range order cells room cell }
 {
-    if order != ORDER {
-        return false;
-    }
-    if MOST_CELLS < cells {
-        return false;
-    }
-    if MOST_ROOM < room {
-        return false;
-    }
-    cell < MOST_CELLS
+    order == ORDER && cells <= MOST_CELLS && room <= MOST_ROOM && cell < MOST_CELLS
 }
 
 fn head_given(empty: bool, time: f64) -> Head
     ensures { result ≡ head_given empty time }
 {
-    if empty { None } else { Some(time) }
+    (!empty).then_some(time)
 }
 
 // The cell's head went from empty, or from a time, to what the tables have now: its update's swaps. `REFUSED`: an argument is out of range, and nothing is changed.
