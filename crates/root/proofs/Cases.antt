@@ -6,10 +6,9 @@ use native.Mathlib.Omega.{arith}
 use mathlib.Core.Bool.{Bool, true, false, not, ◌||◌, beq}
 use lib.IntN.{ℤ, pos}
 use lib.Dec.{T, eqb, ltb→lt, lt→ltb, eqb→eq}
-use lib.Ieee.{Float, nan, inf, fin, binary64, up, down, lt, eq, ne, is_nan, fits, of_bits, to_bits, nan_bits}
+use lib.Ieee.{Float, nan, inf, fin, binary64, up, down, lt, eq, is_nan, fits, of_bits, to_bits, nan_bits}
 use lib.Ieee.Fits.{up_pos, and_l, and_i, eq→eqb}
 use lib.Ieee.Bits.{nan_bits_is}
-use lib.Ieee.Compare.{differs_from_itself}
 use lib.Ieee.Exact.{HasValue}
 use lib.Ieee.Positive.{positive}
 use Rattle.std.specs.Prelude.{Some, None}
@@ -32,8 +31,11 @@ some m e = mul-pos (mul-pos (zero-lt-suc m) (up_pos e)) (zero-lt-suc 0)
 clash : (a b : ℕ) → 0 < a → a ≡ b → b ≡ 0 → ⊥
 clash a b h p q = omega arith
 
-pub at_nan : (x : Float) → ne x x ≡ true → None ≡ root_of x
-at_nan x h = subst (λ (w : Float). None ≡ root_of w) (sym (differs_from_itself x (yes (ne x x) h))) (unfold root_of in refl)
+pub at_nan : (x : Float) → is_nan x ≡ true → None ≡ root_of x
+unfolding is_nan
+at_nan nan h = unfold root_of in refl
+at_nan (inf s) h = absurd (yes false h)
+at_nan (fin s m e) h = absurd (yes false h)
 
 pub at_zero : (x : Float) → eq x fz ≡ true → Some x ≡ root_of x
 at_zero nan h = absurd (unfold eq in yes (eq nan fz) h)
@@ -75,8 +77,8 @@ zero_is s e =
     and_i (eqb (0 * up e * 1) (0 * 1 * down e)) (beq s false || eqb (0 * up e * 1) 0) (eq→eqb (p ∙ sym q)) (or_r (beq s false) (eqb (0 * up e * 1) 0) (eq→eqb p))
 
 -- none of the tests: x is positive and finite
-pub the_rest : (x : Float) → ne x x ≡ false → eq x fz ≡ false → lt x fz ≡ false → eq x (inf false) ≡ false → T (positive x)
-the_rest nan a b c d = absurd (never (ne nan nan) (unfold ne in tt) a)
+pub the_rest : (x : Float) → is_nan x ≡ false → eq x fz ≡ false → lt x fz ≡ false → eq x (inf false) ≡ false → T (positive x)
+the_rest nan a b c d = absurd (never (is_nan nan) (unfold is_nan in tt) a)
 the_rest (inf true) a b c d = absurd (never (lt (inf true) fz) (unfold lt in tt) c)
 the_rest (inf false) a b c d = absurd (never (eq (inf false) (inf false)) (unfold eq in tt) d)
 the_rest (fin s zero e) a b c d = absurd (never (eq (fin s zero e) fz) (zero_is s e) b)

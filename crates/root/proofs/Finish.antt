@@ -1,38 +1,32 @@
 -- What `finished` and `root_bits` ask of numbers. Assumes nothing.
-use mathlib.Core.Path.{◌≡◌, refl, sym, ap, ◌∙◌, subst}
-use Prim.Native.Nat.{ℕ, zero, suc, ◌+◌, ◌-◌, ◌*◌, ◌/◌, ◌%◌, ◌^◌, ◌≤◌, ◌<◌}
+use mathlib.Core.Path.{◌≡◌, sym, ap, ◌∙◌, subst}
+use Prim.Native.Nat.{ℕ, ◌+◌, ◌-◌, ◌*◌, ◌/◌, ◌%◌, ◌^◌, ◌≤◌, ◌<◌}
 use native.Mathlib.Nat.{mul-one, mod-eq_of_lt}
 use native.Mathlib.Nat as N
 use native.Mathlib.Omega.{arith}
-use mathlib.Core.Bool.{Bool, false, cond}
+use mathlib.Core.Bool.{Bool, cond}
 use borrow.Author.Tests.{eq-eqb}
-use lib.Dec.{eqb, lit<, eqb-suc-zero}
+use lib.Dec.{lit<}
 use lib.Count.{count_leading_zeros, leading_top}
 use Rattle.root.specs.Isqrt.{near}
-use Rattle.root.proofs.Law.{sized, near_of, near_digits, full, Full, below_52}
+use Rattle.root.proofs.Law.{Sized, sized, near_of, near_digits, full, Full, below_52}
 use Rattle.root.specs.Bits.{bits_of_root, root_bits}
 
+-- ---- m * 2 ^ (b % 2) has 53 or 54 digits, so that its bits fit and its root's too
+within : (x : ℕ) → Sized (x * 4 ^ 26) → (2 ^ 52 ≤ x) × (x < 2 ^ 54)
+within x s = let a = s.from in let b = s.to in (omega arith, omega arith)
+
 module _ (m b : ℕ) (l : 2 ^ 52 ≤ m) (u : m < 2 ^ 53) where
-  small : near (m * 2 ^ (b % 2) * 4 ^ 26) < 2 ^ 53
+  pub small : near (m * 2 ^ (b % 2) * 4 ^ 26) < 2 ^ 53
   small = (near_digits (m * 2 ^ (b % 2) * 4 ^ 26) (near (m * 2 ^ (b % 2) * 4 ^ 26)) (sized m b l u) (near_of (m * 2 ^ (b % 2) * 4 ^ 26) (sized m b l u))).1
 
-  pub even : b % 2 ≡ 0 → near (m * 4 ^ 26) ≡ near (m * 2 ^ (b % 2) * 4 ^ 26)
-  even h = sym (ap (λ (k : ℕ). near (m * 2 ^ k * 4 ^ 26)) h ∙ ap (λ (x : ℕ). near (x * 4 ^ 26)) (mul-one m))
+  pub bounds : (2 ^ 52 ≤ m * 2 ^ (b % 2)) × (m * 2 ^ (b % 2) < 2 ^ 54)
+  bounds = within (m * 2 ^ (b % 2)) (sized m b l u)
 
-  pub odd : b % 2 ≡ 1 → near (m * 2 * 4 ^ 26) ≡ near (m * 2 ^ (b % 2) * 4 ^ 26)
-  odd h = sym (ap (λ (k : ℕ). near (m * 2 ^ k * 4 ^ 26)) h)
-
-  pub even_small : b % 2 ≡ 0 → near (m * 4 ^ 26) < 2 ^ 53
-  even_small h = subst (λ (x : ℕ). x < 2 ^ 53) (sym (even h)) small
-
-  pub odd_small : b % 2 ≡ 1 → near (m * 2 * 4 ^ 26) < 2 ^ 53
-  odd_small h = subst (λ (x : ℕ). x < 2 ^ 53) (sym (odd h)) small
+  pub shifted : m * 2 ^ (b % 2) % 2 ^ 64 ≡ m * 2 ^ (b % 2)
+  shifted = mod-eq_of_lt (N.lt_trans bounds.1 (lit< tt))
 
 -- ---- the bits of a positive finite value
-not_zero : (n : ℕ) → (n ≡ 0 → ⊥) → eqb n 0 ≡ false
-not_zero zero h = absurd (h refl)
-not_zero (suc n) h = eqb-suc-zero n
-
 module _ (p : ℕ) (P : 0 < p) (u : p < 0x7ff0_0000_0000_0000) where
   pub low : p / 2 ^ 52 ≡ 0 → Full p (p % 2 ^ 52 * 2 ^ (count_leading_zeros 64 (p % 2 ^ 52) - 11)) (63 - count_leading_zeros 64 (p % 2 ^ 52))
   low h =
@@ -52,7 +46,3 @@ module _ (p : ℕ) (P : 0 < p) (u : p < 0x7ff0_0000_0000_0000) where
   low_bits h =
       ap (λ (m : ℕ). bits_of_root m (63 - count_leading_zeros 64 (p % 2 ^ 52))) (unshifted h)
       ∙ ap (λ (b : Bool). bits_of_root (cond b (p % 2 ^ 52 * 2 ^ (count_leading_zeros 64 (p % 2 ^ 52) - 11)) (p % 2 ^ 52 + 2 ^ 52)) (cond b (63 - count_leading_zeros 64 (p % 2 ^ 52)) (p / 2 ^ 52 + 51))) (sym (eq-eqb (p / 2 ^ 52) 0 h))
-
-  pub high_bits : (p / 2 ^ 52 ≡ 0 → ⊥) → bits_of_root (p % 2 ^ 52 + 2 ^ 52) (p / 2 ^ 52 + 51) ≡ root_bits p
-  high_bits h =
-      ap (λ (b : Bool). bits_of_root (cond b (p % 2 ^ 52 * 2 ^ (count_leading_zeros 64 (p % 2 ^ 52) - 11)) (p % 2 ^ 52 + 2 ^ 52)) (cond b (63 - count_leading_zeros 64 (p % 2 ^ 52)) (p / 2 ^ 52 + 51))) (sym (not_zero (p / 2 ^ 52) h))

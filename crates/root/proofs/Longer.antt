@@ -1,39 +1,11 @@
 -- More digits of a root, and what is left of the argument: one digit by a comparison, or as many as there are by a division. Assumes nothing.
-use mathlib.Core.Logic.{◌⊎◌, inl, inr}
-use mathlib.Core.Path.{◌≡◌, ap, ◌∙◌}
+use mathlib.Core.Path.{◌≡◌, ap}
 use Prim.Native.Nat.{ℕ, ◌+◌, ◌-◌, ◌*◌, ◌/◌, ◌%◌, ◌^◌, ◌≤◌, ◌<◌}
 use native.Mathlib.Nat.{le_trans, le_of_eq, mul-pos, mul-le-mul, mul-le-mul_right, add-mul, mul_comm, mul_assoc, mul_right_comm, mul-mul-mul_comm, div-lt_iff_lt-mul, div-add-mod, mod-lt}
 use native.Mathlib.Omega.{arith}
 use Rattle.root.specs.declared.Digits.{Digits}
 use Rattle.root.specs.Step.{taken, DigitsOf, ReadyMore}
-use Rattle.root.proofs.Isqrt.{square_sum, square_one, square_double, square_odd, root_lt}
-
--- ---- one digit: d is 1 where the part that is left reaches 4 * q + 1
-abbrev pub Picked : ℕ → ℕ → ℕ → Type 0
-Picked one next d = ((one ≤ next) × (d ≡ 1)) ⊎ ((next < one) × (d ≡ 0))
-
-pub digit_small : (one next d : ℕ) → Picked one next d → d ≤ 1
-digit_small one next d (inl w) = let e = w.1 in omega arith
-digit_small one next d (inr w) = let e = w.1 in omega arith
-
-pub digit_times : (one next d : ℕ) → Picked one next d → d * one ≤ next
-digit_times one next d (inl w) = let e = ap (λ (x : ℕ). x * one) w.1 in let l = w.0 in omega arith
-digit_times one next d (inr w) = let e = ap (λ (x : ℕ). x * one) w.1 in omega arith
-
-pub one_more : (q rem two d : ℕ) → rem ≤ 2 * q → two < 4 → Picked (q * 4 + 1) (rem * 4 + two) d →
-    DigitsOf ((q * q + rem) * 4 + two) (record { q = q * 2 + d; rem = rem * 4 + two - d * (q * 4 + 1) })
-one_more q rem two d rest next (inl w) =
-    let e : q * 2 + d ≡ 2 * q + 1 = let e = w.1 in omega arith in
-    let f = ap (λ (x : ℕ). x * x) e ∙ square_odd q in
-    let g = ap (λ (x : ℕ). x * (q * 4 + 1)) w.1 in
-    let l = w.0 in
-    record { value = omega arith; rest = omega arith }
-one_more q rem two d rest next (inr w) =
-    let e : q * 2 + d ≡ 2 * q = let e = w.1 in omega arith in
-    let f = ap (λ (x : ℕ). x * x) e ∙ square_double q in
-    let g = ap (λ (x : ℕ). x * (q * 4 + 1)) w.1 in
-    let l = w.0 in
-    record { value = omega arith; rest = omega arith }
+use Rattle.root.proofs.Isqrt.{square_sum, square_one, root_lt}
 
 -- ---- as many as there are
 -- with Q and U, the parts of a division by 2 * S, (S * B + Q)² is beside the number whose root is asked

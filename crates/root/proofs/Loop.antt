@@ -24,7 +24,6 @@ module _ (M : ℕ) (s : Digits) (d : DigitsOf M s) where
 
 -- ---- the loop over the first 14 digits, A: with i digits of the root found, what was taken of A * 4 ^ i, and in reg what comes next
 pub record Going (A i reg : ℕ) (s : Digits) : Type 0 where
-  pub count : i ≤ 7
   pub rest : s.rem ≤ 2 * s.q
   pub wide : reg < 4 ^ 7
   pub value : taken s * 4 ^ 7 + reg ≡ A * 4 ^ i
@@ -32,19 +31,18 @@ pub record Going (A i reg : ℕ) (s : Digits) : Type 0 where
 few : (v reg n : ℕ) → v * 4 ^ 7 + reg ≡ n → n ≤ 4 ^ 7 * 4 ^ 7 → v ≤ 4 ^ 7
 few v reg n h k = omega arith
 
-pub ready_one : (A i reg : ℕ) (s : Digits) → A ≤ 4 ^ 7 → Going A i reg s → ReadyOne s (reg / 2 ^ 12)
-ready_one A i reg s l g =
-    let v = few (taken s) reg (A * 4 ^ i) g.value (mul-le-mul l (pow-le-pow_right (omega arith) g.count)) in
+pub ready_one : (A i reg : ℕ) (s : Digits) → A ≤ 4 ^ 7 → i ≤ 7 → Going A i reg s → ReadyOne s (reg / 2 ^ 12)
+ready_one A i reg s l h g =
+    let v = few (taken s) reg (A * 4 ^ i) g.value (mul-le-mul l (pow-le-pow_right (omega arith) h)) in
     let w = g.wide in
     record { small = below (taken s) s (record { value = refl; rest = g.rest }) (2 ^ 53) (omega arith); rest = g.rest; next = omega arith }
 
 shifted : (v w reg n : ℕ) → w ≡ v * 4 + reg / 2 ^ 12 → v * 4 ^ 7 + reg ≡ n → w * 4 ^ 7 + reg % 2 ^ 12 * 4 ≡ n * 4
 shifted v w reg n h k = omega arith
 
-pub again : (A i reg : ℕ) (s r : Digits) → Going A i reg s → i < 7 → DigitsOf (taken s * 4 + reg / 2 ^ 12) r → Going A (i + 1) (reg % 2 ^ 12 * 4) r
-again A i reg s r g l d =
+pub again : (A i reg : ℕ) (s r : Digits) → Going A i reg s → DigitsOf (taken s * 4 + reg / 2 ^ 12) r → Going A (i + 1) (reg % 2 ^ 12 * 4) r
+again A i reg s r g d =
     record {
-      count = omega arith;
       rest = d.rest;
       wide = omega arith;
       value =
@@ -53,14 +51,11 @@ again A i reg s r g l d =
           ∙ ap (λ (x : ℕ). A * x) (sym (ap (λ (n : ℕ). 4 ^ n) (add-one i) ∙ pow-suc 4 i));
     }
 
-at_end : (i : ℕ) → i ≤ 7 → 7 ≤ i → i ≡ 7
-at_end i h k = omega arith
-
 whole : (v reg A : ℕ) → v * 4 ^ 7 + reg ≡ A * 4 ^ 7 → reg < 4 ^ 7 → v ≡ A
 whole v reg A h k = omega arith
 
-pub looped : (A i reg : ℕ) (s : Digits) → Going A i reg s → 7 ≤ i → DigitsOf A s
-looped A i reg s g l = record { value = whole (taken s) reg A (g.value ∙ ap (λ (n : ℕ). A * 4 ^ n) (at_end i g.count l)) g.wide; rest = g.rest }
+pub looped : (A i reg : ℕ) (s : Digits) → Going A i reg s → i ≡ 7 → DigitsOf A s
+looped A i reg s g e = record { value = whole (taken s) reg A (g.value ∙ ap (λ (n : ℕ). A * 4 ^ n) e) g.wide; rest = g.rest }
 
 -- ---- the steps that double the digits
 pub goes_on : (M N unit next : ℕ) (s r : Digits) → DigitsOf M s → DigitsOf (taken s * (unit * unit) + next) r → M * (unit * unit) + next ≡ N → DigitsOf N r

@@ -22,7 +22,7 @@ fn step(s: Digits, two: u64) -> Digits
 {
     let next = s.rem * 4 + two;
     let one = s.q * 4 + 1;
-    let digit: u64 = if one <= next { 1 } else { 0 };
+    let digit = u64::from(one <= next);
     Digits {
         q: s.q * 2 + digit,
         rem: next - digit * one,
@@ -48,7 +48,7 @@ fn more(s: Digits, unit: u64, high: u64, low: u64) -> Digits
         }
     } else {
         Digits {
-            q: q,
+            q,
             rem: left - square,
         }
     }
@@ -62,11 +62,9 @@ fn near_root(a: u64) -> u64
 {
     let mut s = Digits { q: 0, rem: 0 };
     let mut reg = a / 1099511627776;
-    let mut i = 0usize;
-    while i < 7 {
+    for _ in 0..7u64 {
         s = step(s, reg / 4096);
         reg = reg % 4096 * 4;
-        i += 1;
     }
     s = more(s, 128, a / 8589934592 % 128, a / 67108864 % 128);
     s = more(s, 8192, a / 8192 % 8192, a % 8192);
@@ -80,11 +78,7 @@ fn finished(m: u64, b: u64) -> u64
     ensures { result ≡ bits_of_root m b }
 {
     let high = (b / 2 + 485) * 4503599627370496;
-    if b % 2 == 0 {
-        high + near_root(m)
-    } else {
-        high + near_root(m * 2)
-    }
+    high + near_root(m << (b % 2))
 }
 
 // From the bits of a positive finite value to those of its root.
@@ -108,19 +102,11 @@ pub fn square_root(x: f64) -> Option<f64>
     ensures value { result ≡ root_of x }
     ensures root_rule { RootRule x result }
 {
-    if x != x {
+    if x.is_nan() || x < 0.0 {
         return None;
     }
-    if x == 0.0 {
+    if x == 0.0 || x == f64::INFINITY {
         return Some(x);
     }
-    if x < 0.0 {
-        return None;
-    }
-    let top: f64 = 1.0 / 0.0;
-    if x == top {
-        return Some(x);
-    }
-    let b = root_bits(f64::to_bits(x));
-    Some(f64::from_bits(b))
+    Some(f64::from_bits(root_bits(x.to_bits())))
 }

@@ -1,20 +1,23 @@
-use mathlib.Core.Path.{◌≡◌}
-use Prim.Native.Nat.{ℕ, ◌%◌}
+use mathlib.Core.Path.{◌≡◌, ap, ◌∙◌}
+use Prim.Native.Nat.{ℕ, ◌+◌, ◌*◌, ◌/◌, ◌%◌, ◌^◌}
 use native.Mathlib.Omega.{arith}
-use Rattle.root.proofs.Finish.{even_small, odd_small}
+use Rattle.root.specs.Isqrt.{near}
+use Rattle.root.proofs.Finish.{bounds, shifted, small}
+use Rattle.root.proofs.finished.Goals.{Start, After-near_root}
 use Rattle.root.proofs.finished.Goals as goal
 
-is_one : (b : ℕ) → (b % 2 ≡ 0 → ⊥) → b % 2 ≡ 1
-is_one b h = omega arith
+pub near_root-requires : goal.near_root-requires
+near_root-requires c =
+    let a = c.args in
+    let r = c.requires in
+    rw (shifted a.m a.b r.0 r.1) (bounds a.m a.b r.0 r.1)
+
+-- the root's digits
+found : (c : After-near_root) → c.near_root.result ≡ near (c.args.m * 2 ^ (c.args.b % 2) * 4 ^ 26)
+found c = c.near_root.ensures ∙ ap (λ (x : ℕ). near (x * 4 ^ 26)) (shifted c.args.m c.args.b c.requires.0 c.requires.1)
 
 pub overflow_add-result : goal.overflow_add-result
-overflow_add-result c =
-    let a = c.args in
-    let p = c.requires in
-    omega (arith, c.near_root.ensures, even_small a.m a.b p.0 p.1 c.if-b-eq0.true)
+overflow_add-result c = omega (arith, found c, small c.args.m c.args.b c.requires.0 c.requires.1)
 
-pub overflow_add-result-else-b-eq0 : goal.overflow_add-result-else-b-eq0
-overflow_add-result-else-b-eq0 c =
-    let a = c.args in
-    let p = c.requires in
-    omega (arith, c.near_root-else-b-eq0.ensures, odd_small a.m a.b p.0 p.1 (is_one a.b c.if-b-eq0.false))
+pub returns : goal.returns
+returns c = ap (λ (x : ℕ). (c.args.b / 2 + 485) * 2 ^ 52 + x) (found c)

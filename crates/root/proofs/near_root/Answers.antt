@@ -3,15 +3,15 @@ use native.Mathlib.Omega.{arith}
 use Rattle.root.specs.declared.Digits.{Digits}
 use Rattle.root.specs.Step.{taken, DigitsOf}
 use Rattle.root.proofs.Loop.{ready_one, again, looped, goes_on, ready_more, root_small, up, down}
-use Rattle.root.proofs.near_root.Goals.{After-loop-i, After-more-s, After-more-s-2}
+use Rattle.root.proofs.near_root.Goals.{After-loop, After-more-s, After-more-s-2}
 use Rattle.root.proofs.near_root.Goals as goal
 
 -- the digits behind the loop, and behind each of the three calls
-digits_7 : (c : After-loop-i) → DigitsOf (c.args.a / 2 ^ 40) c.loop-i.s
-digits_7 c = looped _ _ _ _ c.loop-i.invariant c.loop-i-test.false
+digits_7 : (c : After-loop) → DigitsOf (c.args.a / 2 ^ 40) c.loop.s
+digits_7 c = looped _ _ _ _ c.loop.invariant (omega arith)
 
 digits-14 : (c : After-more-s) → DigitsOf (c.args.a / 2 ^ 26) c.more-s.result
-digits-14 c = goes_on _ _ 128 _ _ _ (digits_7 (goal.at.more-s-requires-2 c).After-loop-i) c.more-s.ensures (omega arith)
+digits-14 c = goes_on _ _ 128 _ _ _ (digits_7 (goal.at.more-s-requires-2 c).After-loop) c.more-s.ensures (omega arith)
 
 digits-27 : (c : After-more-s-2) → DigitsOf c.args.a c.more-s-2.result
 digits-27 c = goes_on _ _ 8192 _ _ _ (digits-14 (goal.at.more-s-requires-3 c).After-more-s) c.more-s-2.ensures (omega arith)
@@ -19,16 +19,16 @@ digits-27 c = goes_on _ _ 8192 _ _ _ (digits-14 (goal.at.more-s-requires-3 c).Af
 digits-53 : (a : ℕ) (s r : Digits) → DigitsOf a s → DigitsOf (taken s * (67108864 * 67108864) + 0) r → DigitsOf (a * 4 ^ 26) r
 digits-53 a s r d e = goes_on _ _ 67108864 0 _ _ d e (omega arith)
 
-pub loop-i-init : goal.loop-i-init
-loop-i-init c = record { count = omega arith; rest = omega arith; wide = omega arith; value = omega arith }
+pub loop-init : goal.loop-init
+loop-init c = record { rest = omega arith; wide = omega arith; value = omega arith }
 
 pub step-s-requires : goal.step-s-requires
 step-s-requires c =
-    ready_one _ _ _ _ (omega (arith, c.requires.1)) c.loop-i.invariant
+    ready_one _ _ _ _ (omega (arith, c.requires.1)) (omega arith) c.loop.invariant
 
-pub loop-i-preserved : goal.loop-i-preserved
-loop-i-preserved c =
-    again _ _ _ _ _ c.loop-i.invariant (omega (arith, c.loop-i-test.true)) c.step-s.ensures
+pub loop-preserved : goal.loop-preserved
+loop-preserved c =
+    again _ _ _ _ _ c.loop.invariant c.step-s.ensures
 
 pub more-s-requires : goal.more-s-requires
 more-s-requires c =
