@@ -15,12 +15,12 @@ use Rattle.model.specs.declared.refusal.RootRefused.{RootRefused}
 use Rattle.model.specs.Plans.{Contact, Plan, root_refused}
 use Rattle.model.specs.Periodic.{apart}
 use Rattle.model.specs.Stepping.{due}
-use Rattle.model.specs.Reports.{contact_told, plan_told}
+use Rattle.model.specs.Reports.{answered, contact_told, plan_told}
 use Rattle.model.specs.Collision.{reach, after_root, time_of, collide, struck, planned, collision}
 use Rattle.model.proofs.Answers.{one_contact}
 
 numbered : (a b : Float) (x : Option Float) → (contact_told (after_root a b x)).0 ≡ rootNumber x
-unfolding contact_told
+unfolding answered
 numbered a b None = refl
 numbered a b (Some s) = go _ _
   where

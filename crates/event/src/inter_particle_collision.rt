@@ -27,9 +27,6 @@ fn reach(p: Particle, q: Particle) -> f64
     p.rad + q.rad
 }
 
-// The least a that gives an event: f64::EPSILON.
-const LEAST_A: f64 = 2.220446049250313e-16;
-
 // When two grains touch that are dpos apart and whose velocities differ by dvel: a dt² + 2 b dt + c = 0.
 fn contact(reach: f64, dpos: MyVec, dvel: MyVec) -> Contact
     ensures { contact_told result ≡ contact_told (collision.collide reach dpos dvel) }
@@ -39,7 +36,7 @@ fn contact(reach: f64, dpos: MyVec, dvel: MyVec) -> Contact
     let c = dpos.dot(dpos) - reach * reach;
     let d = b * b - a * c;
     // their velocities are nearly equal, they move apart, they overlap, or they pass each other
-    if a < LEAST_A || 0.0 <= b || c < 0.0 || d < 0.0 {
+    if a < f64::EPSILON || 0.0 <= b || c < 0.0 || d < 0.0 {
         return Ok(None);
     }
     time_of(d, a, b)

@@ -2,38 +2,28 @@
 use Prim.Native.Nat.{ℕ, zero, suc}
 use mathlib.Core.Path.{◌≡◌, refl, sym, ap, ◌∙◌}
 use mathlib.Core.List.{List, [], ◌∷◌}
-use lib.Ieee.{Float}
-use Rattle.std.specs.Prelude.{Some, None, Ok, Err}
+use Rattle.std.specs.Prelude.{Option, Result, Some, None, Ok, Err}
+use Rattle.model.specs.declared.refusal.RootRefused.{RootRefused}
 use Rattle.model.specs.Plans.{Contact, Plan, root_refused}
-use Rattle.model.specs.declared.Pending.{Pending}
-use Rattle.model.specs.Reports.{contact_told, plan_told}
+use Rattle.model.specs.Reports.{answered, contact_told, plan_told}
 
--- back from the number and the values: without a value, with one, refused
-abbrev back : {A B : Type 0} → B → (A → B) → B → ℕ → List A → B
-back none some refused zero [] = none
-back none some refused zero (x ∷ xs) = some x
-back none some refused (suc n) xs = refused
+-- back from the number and the values
+abbrev back : {A : Type 0} → ℕ → List A → Result (Option A) RootRefused
+back zero [] = Ok None
+back zero (x ∷ xs) = Ok (Some x)
+back (suc n) xs = Err root_refused
 
-abbrev contact_of : ℕ × List Float → Contact
-contact_of t = back (Ok None) (λ dt. Ok (Some dt)) (Err root_refused) t.0 t.1
+back_is : {A : Type 0} (x : Result (Option A) RootRefused) → back (answered x).0 (answered x).1 ≡ x
+unfolding answered
+back_is (Ok None) = refl
+back_is (Ok (Some a)) = refl
+back_is (Err _) = refl
 
-contact_back : (x : Contact) → contact_of (contact_told x) ≡ x
-unfolding contact_told
-contact_back (Ok None) = refl
-contact_back (Ok (Some dt)) = refl
-contact_back (Err _) = refl
+one_answer : {A : Type 0} (x y : Result (Option A) RootRefused) → answered x ≡ answered y → x ≡ y
+one_answer x y e = sym (back_is x) ∙ ap (λ t. back t.0 t.1) e ∙ back_is y
 
 pub one_contact : (x y : Contact) → contact_told x ≡ contact_told y → x ≡ y
-one_contact x y e = sym (contact_back x) ∙ ap contact_of e ∙ contact_back y
-
-abbrev plan_of : ℕ × List Pending → Plan
-plan_of t = back (Ok None) (λ e. Ok (Some e)) (Err root_refused) t.0 t.1
-
-plan_back : (x : Plan) → plan_of (plan_told x) ≡ x
-unfolding plan_told
-plan_back (Ok None) = refl
-plan_back (Ok (Some e)) = refl
-plan_back (Err _) = refl
+one_contact = one_answer
 
 pub one_plan : (x y : Plan) → plan_told x ≡ plan_told y → x ≡ y
-one_plan x y e = sym (plan_back x) ∙ ap plan_of e ∙ plan_back y
+one_plan = one_answer

@@ -3,12 +3,12 @@ use Prim.Native.Nat.{ℕ, zero, suc, ◌+◌, ◌≤◌, ◌<◌}
 use mathlib.Core.Path.{◌≡◌, refl, sym, ap, subst, ◌∙◌}
 use mathlib.Core.Logic.{◌⊎◌, inl, inr}
 use mathlib.Core.List.{List, [], ◌∷◌}
-use mathlib.Core.Bool.{true, false, ◌&&◌}
+use mathlib.Core.Bool.{false, ◌&&◌}
 use native.Mathlib.Omega.{arith}
 use native.Mathlib.Decide.{ℕ_discrete}
 use lib.Dec.{leb}
 use lib.ListN.{length, get_or, set, drop, replicate, length-set, length-replicate}
-use lib.Ieee.{Float, binary64, of_bits, add, lt}
+use lib.Ieee.{Float, binary64, add}
 use borrow.Author.Tests.{leb-true}
 use Rattle.std.specs.Prelude.{Some}
 use Rattle.scheduler.specs.Heap.{numbered, start_heap}
@@ -24,7 +24,7 @@ use Rattle.halting.specs.Out.{Out, next, each}
 use Rattle.halting.proofs.Laws.{then_sound, each_sound, then_keeps}
 use Rattle.model.specs.Grid.{cells}
 use Rattle.model.specs.Stepping.{stepped}
-use Rattle.model.specs.Events.{event_of, head_time, head_place, fine_place, insert_by, zero_p}
+use Rattle.model.specs.Events.{event_of, head_time, head_place, insert_by, zero_p}
 use Rattle.model.specs.State.{Row, row, none, State, grain, listed, queue, heads, live_at, requeued}
 use Rattle.model.specs.Acts.{queue_row, store, insert, inserted, enter, first, head, taken}
 use Rattle.model.specs.Doing.{step_grain, do_sync, sync_at, beginning, goes_in, init_cell}

@@ -1,7 +1,8 @@
 -- 01, "Numbers given back", "Collision" and "Doing an event": the number and the values that each case of an answer stands for. Assumes nothing: these are definitions.
-use Rattle.std.specs.Prelude.{ℕ, List, [], ◌∷◌, Float, Result, Ok, Err, Some, None}
+use Rattle.std.specs.Prelude.{ℕ, List, [], ◌∷◌, Float, Option, Result, Some, None, Ok, Err}
 use Rattle.model.specs.declared.refusal.StartError.{StartError}
 use Rattle.model.specs.declared.refusal.StartError.TheVariants as start
+use Rattle.model.specs.declared.refusal.RootRefused.{RootRefused}
 use Rattle.model.specs.declared.refusal.RunError.{RunError}
 use Rattle.model.specs.declared.End.{End}
 use Rattle.model.specs.declared.End.TheVariants as ending
@@ -37,14 +38,15 @@ how_of (Err e) = refused (run_error_number e)
 abbrev pub told : Report → State → Ran
 told r s = ran_of (how_of r.end) r.clock r.events s
 
--- of a contact: 0 and no time, 0 and its dt, or 5
-unfoldable pub contact_told : Contact → ℕ × List Float
-contact_told (Ok None) = (0, [])
-contact_told (Ok (Some dt)) = (0, dt ∷ [])
-contact_told (Err _) = (5, [])
+-- of an answer that may be refused by 5: 0 and no value, 0 and the value, or 5
+unfoldable pub answered : {A : Type 0} → Result (Option A) RootRefused → ℕ × List A
+answered (Ok None) = (0, [])
+answered (Ok (Some a)) = (0, a ∷ [])
+answered (Err _) = (5, [])
 
--- of what a scheduling found: 0 and no event, 0 and the event that is due, or 5
-unfoldable pub plan_told : Plan → ℕ × List Pending
-plan_told (Ok None) = (0, [])
-plan_told (Ok (Some e)) = (0, e ∷ [])
-plan_told (Err _) = (5, [])
+-- of a contact, by its dt, and of what a scheduling found, by the event that is due
+abbrev pub contact_told : Contact → ℕ × List Float
+contact_told k = answered k
+
+abbrev pub plan_told : Plan → ℕ × List Pending
+plan_told x = answered x
