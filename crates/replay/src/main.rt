@@ -72,8 +72,8 @@ fn next_length(input: Stdin, most: usize) -> usize
 fn next_domain(input: Stdin) -> Domain {
     let x = next(input);
     let y = next(input);
-    let periodic0 = next(input) == 1u64;
-    let periodic1 = next(input) == 1u64;
+    let periodic0 = next::<u64>(input) == 1;
+    let periodic1 = next::<u64>(input) == 1;
     Domain::new(MyVec::new(x, y), periodic0, periodic1)
 }
 
