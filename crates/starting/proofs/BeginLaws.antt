@@ -9,10 +9,14 @@ use borrow.Rule.Slice.PartMut.{mid_of, put_mid}
 use Rattle.layout.specs.Widths.{lists_head_wide, grains_head_wide, grain_wide, input_wide, members_wide, home_from, queue_wide, events_wide, order_wide}
 use Rattle.order.specs.Numbers.{fzero}
 use Rattle.chunks.specs.Flat.{flat}
+use Rattle.std.specs.Prelude.{Result}
+use Rattle.std.specs.Result.{IsErrAnd}
 use Rattle.halting.specs.Out.{Out, then, each}
 use Rattle.scheduler.specs.Heap.{start_heap}
 use Rattle.model.specs.declared.Domain.{Domain}
 use Rattle.model.specs.Grid.{cells}
+use Rattle.model.specs.declared.refusal.Halt.{Halt}
+use Rattle.model.specs.Refusals.{halt_number, number_of}
 use Rattle.model.specs.State.{State, marked}
 use Rattle.model.specs.Start.{clear, begin}
 use Rattle.model.specs.Doing.{goes_in, init_cell, beginning}
@@ -27,9 +31,12 @@ use Rattle.tables.specs.declared.lengths.Lengths.{Lengths}
 use Rattle.tables.specs.Lengths.{lengths_for}
 use Rattle.checks.proofs.Cut.{cut_long}
 use Rattle.checks.proofs.Needs.{Ends, ends_of}
-use Rattle.acts.proofs.InTurn.{told_stop, told_on}
+use Rattle.acts.specs.declared.queue.Queues.{Queues}
+use Rattle.acts.specs.Tell.{InQueues}
+use Rattle.acts.proofs.InTurn.{told_halt, told_next}
 use Rattle.step.specs.declared.World.{World}
-use Rattle.step.specs.World.{Held, Says, Does, world_at}
+use Rattle.step.specs.Placed.{Placed}
+use Rattle.step.specs.World.{Held, Says, Does}
 use Rattle.tables.specs.Inputs.{input_at, inputs_of}
 use Rattle.starting.specs.Grains.{InBoth, BothTold, Going}
 use Rattle.tables.specs.Encode.{lists_head, grains_head, over, sizes_in, with_mark, encoded}
@@ -40,63 +47,60 @@ use Rattle.starting.proofs.Zeros.{start_long, cleared_held}
 use Rattle.starting.proofs.OnlyIn.{OnlyIn, all_only, in_along}
 
 -- ---- grains in, then the first events
-abbrev blank : Sizes → World → State
-blank z w = clear w.domain z.room z.grains
+abbrev blank : World → State
+blank w = clear w.domain w.sizes.room w.sizes.grains
 
-abbrev all_go_in : Sizes → World → List Float → Out State
-all_go_in z w inputs = each (goes_in (inputs_of z.grains inputs)) (z.grains - 0) 0 (blank z w)
+abbrev all_go_in : World → List Float → Out State
+all_go_in w inputs = each (goes_in (inputs_of w.sizes.grains inputs)) w.sizes.grains 0 (blank w)
 
-module _ {z : Sizes} {w : World} (inputs : List Float) {l : List ℕ} {t : List Float} {q : List ℕ} {e : List Float} {o : List ℕ} (F : Filling z w (length inputs) l t q e o) where
-  fill_both : InBoth z w.domain l t (blank z w)
+module _ {w : World} (inputs : List Float) {l : List ℕ} {t : List Float} {q : Queues} (F : Filling w (length inputs) l t q) where
+  fill_both : InBoth w l t (blank w)
   fill_both = record { lists = F.held.listed; grains = F.held.seen.grained; box = F.held.seen.at.0 }
 
-  pub fill_going : Going z w.domain w.grid inputs l t
-  fill_going = record {
-    held = (blank z w, fill_both);
-    ranged = F.held.seen.queued.ranged;
-    laid = F.placed.laid;
-    cells_are = sym F.placed.cells_are;
-    inputs_long = F.inputs_long;
-  }
+  pub fill_going : Going w inputs l t
+  fill_going = record { held = (blank w, fill_both); ranged = F.held.seen.queued.ranged; inputs_long = F.inputs_long }
 
-  begin_is : begin w.domain z.room (inputs_of z.grains inputs) ≡ then (all_go_in z w inputs) (λ s. each init_cell z.cells 0 s)
+  begin_is : begin w.domain w.sizes.room (inputs_of w.sizes.grains inputs) ≡ then (all_go_in w inputs) (λ s. each init_cell w.sizes.cells 0 s)
   unfolding beginning
   begin_is =
-      performs.begin_is w.domain z.room (inputs_of z.grains inputs)
-      ∙ ap (λ (n : ℕ). then (each (goes_in (inputs_of z.grains inputs)) n 0 (clear w.domain z.room n)) (λ s. each init_cell (cells w.domain) 0 s)) (cut_long input_at input_wide z.grains inputs)
-      ∙ ap (λ (n : ℕ). then (each (goes_in (inputs_of z.grains inputs)) n 0 (blank z w)) (λ s. each init_cell (cells w.domain) 0 s)) (let h : z.grains ≡ z.grains - 0 = omega arith in h)
-      ∙ ap (λ (n : ℕ). then (all_go_in z w inputs) (λ s. each init_cell n 0 s)) F.placed.cells_are
+      performs.begin_is w.domain w.sizes.room (inputs_of w.sizes.grains inputs)
+      ∙ ap (λ (n : ℕ). then (each (goes_in (inputs_of w.sizes.grains inputs)) n 0 (clear w.domain w.sizes.room n)) (λ s. each init_cell (cells w.domain) 0 s)) (cut_long input_at input_wide w.sizes.grains inputs)
+      ∙ ap (λ (n : ℕ). then (all_go_in w inputs) (λ s. each init_cell n 0 s)) w.placed.cells_are
 
-  module _ {l' : List ℕ} {t' : List Float} {r : ℕ} (told : (s : State) → InBoth z w.domain l t s → BothTold z w.domain l' t' r (each (goes_in (inputs_of z.grains inputs)) (z.grains - 0) 0 s)) where
-    all_in : Says (Held z w l' t' q e o) r (all_go_in z w inputs)
+  module _ {l' : List ℕ} {t' : List Float} {r : ℕ} (told : (s : State) → InBoth w l t s → BothTold w l' t' r (each (goes_in (inputs_of w.sizes.grains inputs)) w.sizes.grains 0 s)) where
+    all_in : Says (Held w l' t' q) r (all_go_in w inputs)
     all_in =
-        let d = told (blank z w) fill_both in
-        let u = (all_go_in z w inputs).st in
-        let k : OnlyIn (blank z w) u = all_only (inputs_of z.grains inputs) (z.grains - 0) 0 (blank z w) in
+        let d = told (blank w) fill_both in
+        let u = (all_go_in w inputs).st in
+        let k : OnlyIn (blank w) u = all_only (inputs_of w.sizes.grains inputs) w.sizes.grains 0 (blank w) in
         let p = F.held.seen.queued in (
           d.0,
           record {
             listed = d.1.lists;
             seen = record {
-              at = (d.1.box, in_along (λ (v : State). v.clock ≡ w.clock) (blank z w) u k F.held.seen.at.1);
+              at = (d.1.box, in_along (λ (v : State). v.clock ≡ w.clock) (blank w) u k F.held.seen.at.1);
               grained = d.1.grains;
-              queued = in_along (Queued z q e o) (blank z w) u k (record { ranged = p.ranged; tables = p.tables; heap = p.heap; room_is = p.room_is });
+              queued = in_along (InQueues w.sizes q) (blank w) u k (record { ranged = p.ranged; tables = p.tables; heap = p.heap; room_is = p.room_is });
             };
           },
         )
 
-    pub fill_stop : (r ≡ 0 → ⊥) → Says (Held z w l' t' q e o) r (begin w.domain z.room (inputs_of z.grains inputs))
-    fill_stop u = subst (λ (a : Out State). Says (Held z w l' t' q e o) r a) (sym begin_is) (told_stop (Held z w l' t' q e o) (all_go_in z w inputs) (λ s. each init_cell z.cells 0 s) u all_in)
-
     -- some state is held when the events are scheduled
-    pub fill-some : (s : State) × Held z w l' t' q e o s
-    fill-some = ((all_go_in z w inputs).st, all_in.1)
+    pub fill-some : (s : State) × Held w l' t' q s
+    fill-some = ((all_go_in w inputs).st, all_in.1)
 
-    pub fill_on : {q' : List ℕ} {e' : List Float} {o' : List ℕ} {r' : ℕ} → r ≡ 0 → Does (Held z w l' t' q e o) (Held z w l' t' q' e' o') r' (each init_cell z.cells 0)
-        → Says (Held z w l' t' q' e' o') r' (begin w.domain z.room (inputs_of z.grains inputs))
-    fill_on {q'} {e'} {o'} {r'} u d =
-        subst (λ (a : Out State). Says (Held z w l' t' q' e' o') r' a) (sym begin_is)
-        (told_on (Held z w l' t' q e o) (Held z w l' t' q' e' o') (all_go_in z w inputs) (λ s. each init_cell z.cells 0 s) u all_in (d.says (all_go_in z w inputs).st all_in.1))
+  pub fill_halts : {A : Type 0} {l' : List ℕ} {t' : List Float} (r : Result A Halt) (h : Halt) → IsErrAnd r (λ (x : Halt). x ≡ h)
+      → ((s : State) → InBoth w l t s → BothTold w l' t' (halt_number h) (each (goes_in (inputs_of w.sizes.grains inputs)) w.sizes.grains 0 s))
+      → Says (Held w l' t' q) (number_of r) (begin w.domain w.sizes.room (inputs_of w.sizes.grains inputs))
+  fill_halts {l' = l'} {t' = t'} r h b told =
+      subst (λ (a : Out State). Says (Held w l' t' q) (number_of r) a) (sym begin_is)
+      (told_halt (Held w l' t' q) (all_go_in w inputs) (λ s. each init_cell w.sizes.cells 0 s) r h b (all_in told))
+
+  pub fill_on : {l' : List ℕ} {t' : List Float} {q' : Queues} {r' : ℕ} → ((s : State) → InBoth w l t s → BothTold w l' t' 0 (each (goes_in (inputs_of w.sizes.grains inputs)) w.sizes.grains 0 s))
+      → Does (Held w l' t' q) (Held w l' t' q') r' (each init_cell w.sizes.cells 0) → Says (Held w l' t' q') r' (begin w.domain w.sizes.room (inputs_of w.sizes.grains inputs))
+  fill_on {l'} {t'} {q'} {r'} told d =
+      subst (λ (a : Out State). Says (Held w l' t' q') r' a) (sym begin_is)
+      (told_next (Held w l' t' q) (Held w l' t' q') (all_go_in w inputs) (λ s. each init_cell w.sizes.cells 0 s) (all_in told) (d.says (all_go_in w inputs).st (all_in told).1))
 
 -- ---- the tables around the parts
 module _ {z : Sizes} {b : Domain} {g : Grid} {ni nl ng nq ne no : ℕ} (S : Startable z b g ni nl ng nq ne no) where
@@ -131,36 +135,36 @@ module _ {z : Sizes} {b : Domain} {g : Grid} {ni : ℕ} (tab : Tables) (S : Star
   abbrev order₀ : List ℕ
   order₀ = over (order_bytes (start_heap z.cells)) (replicate no 0)
 
-  abbrev listsLong : ℕ
-  listsLong = lists_head_wide + home_from z.grains + z.cells * members_wide - lists_head_wide
+  abbrev lists_for : ℕ
+  lists_for = lists_head_wide + home_from z.grains + z.cells * members_wide - lists_head_wide
 
-  abbrev grainsLong : ℕ
-  grainsLong = grains_head_wide + z.grains * grain_wide - grains_head_wide
+  abbrev grains_for : ℕ
+  grains_for = grains_head_wide + z.grains * grain_wide - grains_head_wide
 
-  abbrev queueLong : ℕ
-  queueLong = z.cells * (queue_wide z.room) - 0
+  abbrev queue_for : ℕ
+  queue_for = z.cells * (queue_wide z.room) - 0
 
-  abbrev eventsLong : ℕ
-  eventsLong = z.cells * (events_wide z.room) - 0
+  abbrev events_for : ℕ
+  events_for = z.cells * (events_wide z.room) - 0
 
   order_full : length (order_bytes (start_heap z.cells)) ≡ order_wide
   order_full = start_long z.cells (few_cells S)
 
-  lists_part : mid_of lists_head_wide listsLong lists₀ ≡ replicate (home_from z.grains + z.cells * members_wide) 0
+  lists_part : mid_of lists_head_wide lists_for lists₀ ≡ replicate (home_from z.grains + z.cells * members_wide) 0
   lists_part =
-      let k : listsLong ≡ home_from z.grains + z.cells * members_wide = omega arith in
-      over_part (lists_head 0 z b) (replicate nl 0) lists_head_wide listsLong refl ∙ same_part 0 nl lists_head_wide listsLong (let h = S.lists_long in omega arith) ∙ ap (λ (n : ℕ). replicate n 0) k
+      let k : lists_for ≡ home_from z.grains + z.cells * members_wide = omega arith in
+      over_part (lists_head 0 z b) (replicate nl 0) lists_head_wide lists_for refl ∙ same_part 0 nl lists_head_wide lists_for (let h = S.lists_long in omega arith) ∙ ap (λ (n : ℕ). replicate n 0) k
 
-  grains_part_lem : mid_of grains_head_wide grainsLong grains₀ ≡ replicate (z.grains * grain_wide) fzero
+  grains_part_lem : mid_of grains_head_wide grains_for grains₀ ≡ replicate (z.grains * grain_wide) fzero
   grains_part_lem =
-      let k : grainsLong ≡ z.grains * grain_wide = omega arith in
-      over_part (grains_head b fzero) (replicate ng fzero) grains_head_wide grainsLong refl ∙ same_part fzero ng grains_head_wide grainsLong (let h = S.grains_long in omega arith) ∙ ap (λ (n : ℕ). replicate n fzero) k
+      let k : grains_for ≡ z.grains * grain_wide = omega arith in
+      over_part (grains_head b fzero) (replicate ng fzero) grains_head_wide grains_for refl ∙ same_part fzero ng grains_head_wide grains_for (let h = S.grains_long in omega arith) ∙ ap (λ (n : ℕ). replicate n fzero) k
 
-  queue_part_lem : mid_of 0 queueLong (replicate {A = ℕ} nq 0) ≡ replicate (z.cells * (queue_wide z.room)) 0
-  queue_part_lem = let h = S.queue_long in same_part 0 nq 0 queueLong (omega arith) ∙ ap (λ (n : ℕ). replicate n 0) (let k : queueLong ≡ z.cells * (queue_wide z.room) = omega arith in k)
+  queue_part_lem : mid_of 0 queue_for (replicate {A = ℕ} nq 0) ≡ replicate (z.cells * (queue_wide z.room)) 0
+  queue_part_lem = let h = S.queue_long in same_part 0 nq 0 queue_for (omega arith) ∙ ap (λ (n : ℕ). replicate n 0) (let k : queue_for ≡ z.cells * (queue_wide z.room) = omega arith in k)
 
-  events_part_lem : mid_of 0 eventsLong (replicate ne fzero) ≡ replicate (z.cells * (events_wide z.room)) fzero
-  events_part_lem = let h = S.events_long in same_part fzero ne 0 eventsLong (omega arith) ∙ ap (λ (n : ℕ). replicate n fzero) (let k : eventsLong ≡ z.cells * (events_wide z.room) = omega arith in k)
+  events_part_lem : mid_of 0 events_for (replicate ne fzero) ≡ replicate (z.cells * (events_wide z.room)) fzero
+  events_part_lem = let h = S.events_long in same_part fzero ne 0 events_for (omega arith) ∙ ap (λ (n : ℕ). replicate n fzero) (let k : events_for ≡ z.cells * (events_wide z.room) = omega arith in k)
 
   order_part : mid_of 0 (order_wide - 0) order₀ ≡ order_bytes (start_heap z.cells)
   order_part = over_front (order_bytes (start_heap z.cells)) (replicate no 0) (order_wide - 0) order_full
@@ -182,31 +186,31 @@ module _ {z : Sizes} {b : Domain} {g : Grid} {ni : ℕ} (tab : Tables) (S : Star
     eo = ap (λ (u : Tables). u.order) H
 
     abbrev L : List ℕ
-    L = mid_of lists_head_wide listsLong l
+    L = mid_of lists_head_wide lists_for l
 
     abbrev G : List Float
-    G = mid_of grains_head_wide grainsLong t
+    G = mid_of grains_head_wide grains_for t
 
     abbrev Q : List ℕ
-    Q = mid_of 0 queueLong q
+    Q = mid_of 0 queue_for q
 
     abbrev E : List Float
-    E = mid_of 0 eventsLong e
+    E = mid_of 0 events_for e
 
     abbrev O : List ℕ
     O = mid_of 0 (order_wide - 0) o
 
     part-l : L ≡ replicate (home_from z.grains + z.cells * members_wide) 0
-    part-l = ap (mid_of lists_head_wide listsLong) el ∙ lists_part
+    part-l = ap (mid_of lists_head_wide lists_for) el ∙ lists_part
 
     part-g : G ≡ replicate (z.grains * grain_wide) fzero
-    part-g = ap (mid_of grains_head_wide grainsLong) et ∙ grains_part_lem
+    part-g = ap (mid_of grains_head_wide grains_for) et ∙ grains_part_lem
 
     part-q : Q ≡ replicate (z.cells * (queue_wide z.room)) 0
-    part-q = ap (mid_of 0 queueLong) eq ∙ queue_part_lem
+    part-q = ap (mid_of 0 queue_for) eq ∙ queue_part_lem
 
     part-e : E ≡ replicate (z.cells * (events_wide z.room)) fzero
-    part-e = ap (mid_of 0 eventsLong) ee ∙ events_part_lem
+    part-e = ap (mid_of 0 events_for) ee ∙ events_part_lem
 
     part-o : O ≡ order_bytes (start_heap z.cells)
     part-o = ap (mid_of 0 (order_wide - 0)) eo ∙ order_part
@@ -234,28 +238,28 @@ module _ {z : Sizes} {b : Domain} {g : Grid} {ni : ℕ} (tab : Tables) (S : Star
           let h = told.1.seen in
           λ i. record { grains = (sym h.grained.many) i; cells = (sym h.queued.heap.cells_is) i; room = (sym h.queued.room_is) i }
 
-      lists-end : with_mark r (put_mid lists_head_wide listsLong l l') ≡ over (lists_head a.num (sizes_in end) end.box ++ (flat row_nums end.homes ++ flat row_nums end.members)) (replicate nl 0)
+      lists-end : with_mark r (put_mid lists_head_wide lists_for l l') ≡ over (lists_head a.num (sizes_in end) end.box ++ (flat row_nums end.homes ++ flat row_nums end.members)) (replicate nl 0)
       lists-end =
-          ap (λ (m : List ℕ). with_mark r (put_mid lists_head_wide listsLong m l')) el
-          ∙ ap (with_mark r) (over_put (lists_head 0 z b) l' (replicate nl 0) lists_head_wide listsLong refl (kl ∙ ap length part-l ∙ length-replicate (home_from z.grains + z.cells * members_wide) 0 ∙ (let k : home_from z.grains + z.cells * members_wide ≡ listsLong = omega arith in k)))
+          ap (λ (m : List ℕ). with_mark r (put_mid lists_head_wide lists_for m l')) el
+          ∙ ap (with_mark r) (over_put (lists_head 0 z b) l' (replicate nl 0) lists_head_wide lists_for refl (kl ∙ ap length part-l ∙ length-replicate (home_from z.grains + z.cells * members_wide) 0 ∙ (let k : home_from z.grains + z.cells * members_wide ≡ lists_for = omega arith in k)))
           ∙ λ i. over (lists_head (told.0 i) (sizes-end i) (sym told.1.seen.at.0 i) ++ told.1.listed.is i) (replicate nl 0)
 
-      grains-end : put_mid grains_head_wide grainsLong t t' ≡ over (grains_head end.box end.clock ++ flat grain_reals end.grains) (replicate ng fzero)
+      grains-end : put_mid grains_head_wide grains_for t t' ≡ over (grains_head end.box end.clock ++ flat grain_reals end.grains) (replicate ng fzero)
       grains-end =
-          ap (λ (m : List Float). put_mid grains_head_wide grainsLong m t') et
-          ∙ over_put (grains_head b fzero) t' (replicate ng fzero) grains_head_wide grainsLong refl (kg ∙ ap length part-g ∙ length-replicate (z.grains * grain_wide) fzero ∙ (let k : z.grains * grain_wide ≡ grainsLong = omega arith in k))
+          ap (λ (m : List Float). put_mid grains_head_wide grains_for m t') et
+          ∙ over_put (grains_head b fzero) t' (replicate ng fzero) grains_head_wide grains_for refl (kg ∙ ap length part-g ∙ length-replicate (z.grains * grain_wide) fzero ∙ (let k : z.grains * grain_wide ≡ grains_for = omega arith in k))
           ∙ λ i. over (grains_head (sym told.1.seen.at.0 i) (sym told.1.seen.at.1 i) ++ told.1.seen.grained.is i) (replicate ng fzero)
 
-      queue-end : put_mid 0 queueLong q q' ≡ over (flat queue_nums end.queues) (replicate nq 0)
+      queue-end : put_mid 0 queue_for q q' ≡ over (flat queue_nums end.queues) (replicate nq 0)
       queue-end =
-          ap (λ (m : List ℕ). put_mid 0 queueLong m q') eq
-          ∙ over_put [] q' (replicate nq 0) 0 queueLong refl (kq ∙ ap length part-q ∙ length-replicate (z.cells * (queue_wide z.room)) 0 ∙ (let k : z.cells * (queue_wide z.room) ≡ queueLong = omega arith in k))
+          ap (λ (m : List ℕ). put_mid 0 queue_for m q') eq
+          ∙ over_put [] q' (replicate nq 0) 0 queue_for refl (kq ∙ ap length part-q ∙ length-replicate (z.cells * (queue_wide z.room)) 0 ∙ (let k : z.cells * (queue_wide z.room) ≡ queue_for = omega arith in k))
           ∙ ap (λ (m : List ℕ). over m (replicate nq 0)) told.1.seen.queued.tables.queue_is
 
-      events-end : put_mid 0 eventsLong e e' ≡ over (flat queue_reals end.queues) (replicate ne fzero)
+      events-end : put_mid 0 events_for e e' ≡ over (flat queue_reals end.queues) (replicate ne fzero)
       events-end =
-          ap (λ (m : List Float). put_mid 0 eventsLong m e') ee
-          ∙ over_put [] e' (replicate ne fzero) 0 eventsLong refl (ke ∙ ap length part-e ∙ length-replicate (z.cells * (events_wide z.room)) fzero ∙ (let k : z.cells * (events_wide z.room) ≡ eventsLong = omega arith in k))
+          ap (λ (m : List Float). put_mid 0 events_for m e') ee
+          ∙ over_put [] e' (replicate ne fzero) 0 events_for refl (ke ∙ ap length part-e ∙ length-replicate (z.cells * (events_wide z.room)) fzero ∙ (let k : z.cells * (events_wide z.room) ≡ events_for = omega arith in k))
           ∙ ap (λ (m : List Float). over m (replicate ne fzero)) told.1.seen.queued.tables.events_is
 
       order-end : put_mid 0 (order_wide - 0) o o' ≡ over (order_bytes end.sched) (replicate no 0)
@@ -264,6 +268,6 @@ module _ {z : Sizes} {b : Domain} {g : Grid} {ni : ℕ} (tab : Tables) (S : Star
           ∙ over_again (order_bytes (start_heap z.cells)) o' (replicate no 0) (order_wide - 0) order_full (ko ∙ ap length part-o ∙ order_full)
           ∙ ap (λ (m : List ℕ). over m (replicate no 0)) told.1.seen.queued.heap.is
 
-      pub begun : Began a r tab (tables (with_mark r (put_mid lists_head_wide listsLong l l')) (put_mid grains_head_wide grainsLong t t') (put_mid 0 queueLong q q') (put_mid 0 eventsLong e e') (put_mid 0 (order_wide - 0) o o'))
+      pub begun : Began a r tab (tables (with_mark r (put_mid lists_head_wide lists_for l l')) (put_mid grains_head_wide grains_for t t') (put_mid 0 queue_for q q') (put_mid 0 events_for e e') (put_mid 0 (order_wide - 0) o o'))
       unfolding encoded
       begun = record { number = told.0; left = λ i. tables (lists-end i) (grains-end i) (queue-end i) (events-end i) (order-end i) }

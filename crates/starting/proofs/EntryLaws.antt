@@ -4,18 +4,23 @@ use mathlib.Core.Path.{◌≡◌, refl, sym, ap, ◌∙◌, subst}
 use mathlib.Core.List.{List, [], ◌∷◌, ◌++◌, map, append_assoc}
 use native.Mathlib.Numerals.{add-one}
 use native.Mathlib.Omega.{arith}
+use Rattle.std.specs.Prelude.{Result}
+use Rattle.std.specs.Result.{IsErrAnd}
 use Rattle.halting.specs.Every.{All}
 use Rattle.halting.proofs.All.{all_after}
 use Rattle.halting.specs.Out.{Out, next, then, each_of}
 use Rattle.model.specs.declared.Domain.{Domain}
 use Rattle.model.specs.Grid.{across}
 use Rattle.model.specs.FromPToC.{up_from, between, cells_at}
+use Rattle.model.specs.declared.refusal.Halt.{Halt}
+use Rattle.model.specs.Refusals.{halt_number, number_of}
 use Rattle.model.specs.State.{State}
 use Rattle.model.specs.Acts.{enter}
 use Rattle.particle.specs.declared.Spans.{Spans}
 use Rattle.particle.specs.Spans.{cells_in}
-use Rattle.acts.proofs.InTurn.{told_stop, told_on}
+use Rattle.acts.proofs.InTurn.{told_halt, told_next}
 use Rattle.tables.specs.declared.Sizes.{Sizes}
+use Rattle.tables.specs.Holds.{Ranged}
 use Rattle.acts.specs.Tell.{InLists, Lists, ListsTold}
 use Rattle.starting.specs.Entries.{row_cells, grid_cells, Enters}
 
@@ -40,8 +45,8 @@ module _ (n0 : ℕ) where
   pub span_step : (j lo hi : ℕ) → lo < hi → row_cells n0 (between lo hi) j ≡ (lo + n0 * j) ∷ row_cells n0 (between (lo + 1) hi) j
   span_step j lo hi h = ap (λ (is : List ℕ). row_cells n0 is j) (between_step lo hi h)
 
-  pub row_two : (x : Spans) (j : ℕ) → row_cells n0 (cells_in x) j ≡ row_cells n0 (between x.a0 x.b0) j ++ row_cells n0 (between x.a1 x.b1) j
-  row_two x j = map_append (λ (i : ℕ). i + n0 * j) (between x.a0 x.b0) (between x.a1 x.b1)
+  pub row_two : (x : Spans) (j : ℕ) → row_cells n0 (cells_in x) j ≡ row_cells n0 (between x.first.lo x.first.hi) j ++ row_cells n0 (between x.second.lo x.second.hi) j
+  row_two x j = map_append (λ (i : ℕ). i + n0 * j) (between x.first.lo x.first.hi) (between x.second.lo x.second.hi)
 
   module _ (is : List ℕ) where
     pub rows_none : (lo hi : ℕ) → hi ≤ lo → grid_cells n0 is (between lo hi) ≡ []
@@ -57,8 +62,8 @@ module _ (n0 : ℕ) where
     grid-append [] ks = refl
     grid-append (j ∷ js) ks = ap (λ (l : List ℕ). row_cells n0 is j ++ l) (grid-append js ks) ∙ sym (append_assoc (row_cells n0 is j) (grid_cells n0 is js) (grid_cells n0 is ks))
 
-    pub grid-two : (y : Spans) → grid_cells n0 is (cells_in y) ≡ grid_cells n0 is (between y.a0 y.b0) ++ grid_cells n0 is (between y.a1 y.b1)
-    grid-two y = grid-append (between y.a0 y.b0) (between y.a1 y.b1)
+    pub grid-two : (y : Spans) → grid_cells n0 is (cells_in y) ≡ grid_cells n0 is (between y.first.lo y.first.hi) ++ grid_cells n0 is (between y.second.lo y.second.hi)
+    grid-two y = grid-append (between y.first.lo y.first.hi) (between y.second.lo y.second.hi)
 
 -- they are the rule's
 pub rows_grid : (b : Domain) (is js : List ℕ) → cells_at b is js ≡ grid_cells (across 0 b) is js
@@ -88,57 +93,68 @@ module _ {S : Type 0} (act : ℕ → S → Out S) where
       next_ext (act x s).num (act x s).st (each_of act (xs ++ ys)) (λ u. then (each_of act xs u) (each_of act ys)) (each_append xs ys)
       ∙ sym (then_after (act x s).num (act x s).st (each_of act xs) (each_of act ys))
 
--- ---- entering: none, the first refused, the first done and the others
+-- ---- a grain enters some cells, and then others
 abbrev entering : ℕ → List ℕ → State → Out State
 entering g cs s = each_of (enter g) cs s
 
-module _ {z : Sizes} (g : ℕ) where
-  pub entered_none : {l cs : List ℕ} → cs ≡ [] → (s : State) → InLists z l s → ListsTold z l 0 (entering g cs s)
+-- a grain that was to enter the cells cs has only ds left to enter, and what that then does, entering all does
+abbrev pub Left : Sizes → ℕ → List ℕ → List ℕ → List ℕ → List ℕ → Type 0
+Left z g cs ds l₀ l = Enters z l g ds
+    × ((l' : List ℕ) (r : ℕ) → ((s : State) → InLists z l s → ListsTold z l' r (entering g ds s)) → (s : State) → InLists z l₀ s → ListsTold z l' r (entering g cs s))
+
+pub left_all : {z : Sizes} {g : ℕ} {cs l : List ℕ} → Enters z l g cs → Left z g cs cs l l
+left_all E = (E, λ l' r k. k)
+
+module _ {z : Sizes} {g : ℕ} {cs ds l₀ l : List ℕ} (G : Left z g cs ds l₀ l) where
+  pub left_none : ds ≡ [] → (s : State) → InLists z l₀ s → ListsTold z l 0 (entering g cs s)
   unfolding each_of
-  entered_none {l} e s S = subst (λ (k : List ℕ). ListsTold z l 0 (entering g k s)) (sym e) (refl, S)
+  left_none e = G.1 l 0 (λ s S. subst (λ (k : List ℕ). ListsTold z l 0 (entering g k s)) (sym e) (refl, S))
 
-  pub one_stop : {l' cs : List ℕ} {r : ℕ} (c : ℕ) (ds : List ℕ) → cs ≡ c ∷ ds → (s : State) → ListsTold z l' r (enter g c s) → (r ≡ 0 → ⊥) → ListsTold z l' r (entering g cs s)
-  unfolding each_of
-  one_stop {l'} {r = r} c ds e s t u =
-      subst (λ (k : List ℕ). ListsTold z l' r (entering g k s)) (sym e) (told_stop (λ w. InLists z l' w) (enter g c s) (each_of (enter g) ds) u t)
+  -- ---- one cell, and then the others
+  module _ (c : ℕ) (es : List ℕ) (e : ds ≡ c ∷ es) where
+    pub one_asks : Lists z l × Ranged z × (g < z.grains) × (c < z.cells)
+    one_asks = (G.0.lists, G.0.ranged, G.0.known, (subst (All (λ (c : ℕ). c < z.cells)) e G.0.below).0)
 
-  pub one_on : {l' l'' cs : List ℕ} {r r' : ℕ} (c : ℕ) (ds : List ℕ) → cs ≡ c ∷ ds → (s : State) → ListsTold z l' r (enter g c s) → r ≡ 0
-      → ListsTold z l'' r' (entering g ds (enter g c s).st) → ListsTold z l'' r' (entering g cs s)
-  unfolding each_of
-  one_on {l'} {l''} {r' = r'} c ds e s t u v =
-      subst (λ (k : List ℕ). ListsTold z l'' r' (entering g k s)) (sym e) (told_on (λ w. InLists z l' w) (λ w. InLists z l'' w) (enter g c s) (each_of (enter g) ds) u t v)
+    pub one_halts : {A : Type 0} {l' : List ℕ} (r : Result A Halt) (h : Halt) → IsErrAnd r (λ (x : Halt). x ≡ h) → ((s : State) → InLists z l s → ListsTold z l' (halt_number h) (enter g c s))
+        → (s : State) → InLists z l₀ s → ListsTold z l' (number_of r) (entering g cs s)
+    unfolding each_of
+    one_halts {l' = l'} r h b t =
+        G.1 l' (number_of r) (λ s S. subst (λ (k : List ℕ). ListsTold z l' (number_of r) (entering g k s)) (sym e) (told_halt (InLists z l') (enter g c s) (each_of (enter g) es) r h b (t s S)))
 
-  pub all_stop : {l' cs : List ℕ} {r : ℕ} (xs ys : List ℕ) → cs ≡ xs ++ ys → (s : State) → ListsTold z l' r (entering g xs s) → (r ≡ 0 → ⊥) → ListsTold z l' r (entering g cs s)
-  all_stop {l'} {r = r} xs ys e s t u =
-      subst (λ (o : Out State). ListsTold z l' r o) (sym (ap (λ (k : List ℕ). entering g k s) e ∙ each_append (enter g) xs ys s))
-      (told_stop (λ w. InLists z l' w) (entering g xs s) (each_of (enter g) ys) u t)
+    pub one_left : {l' : List ℕ} → ((s : State) → InLists z l s → ListsTold z l' 0 (enter g c s)) → Left z g cs es l₀ l'
+    unfolding each_of
+    one_left {l'} t = (
+      record {
+        lists = ((enter g c G.0.lists.0).st, (t G.0.lists.0 G.0.lists.1).1);
+        ranged = G.0.ranged;
+        known = G.0.known;
+        below = (subst (All (λ (c : ℕ). c < z.cells)) e G.0.below).1;
+      },
+      λ l'' r k. G.1 l'' r
+          (λ s S. subst (λ (k : List ℕ). ListsTold z l'' r (entering g k s)) (sym e) (told_next (InLists z l') (InLists z l'') (enter g c s) (each_of (enter g) es) (t s S) (k (enter g c s).st (t s S).1))),
+    )
 
-  pub all_on : {l' l'' cs : List ℕ} {r r' : ℕ} (xs ys : List ℕ) → cs ≡ xs ++ ys → (s : State) → ListsTold z l' r (entering g xs s) → r ≡ 0
-      → ListsTold z l'' r' (entering g ys (entering g xs s).st) → ListsTold z l'' r' (entering g cs s)
-  all_on {l'} {l''} {r' = r'} xs ys e s t u v =
-      subst (λ (o : Out State). ListsTold z l'' r' o) (sym (ap (λ (k : List ℕ). entering g k s) e ∙ each_append (enter g) xs ys s))
-      (told_on (λ w. InLists z l' w) (λ w. InLists z l'' w) (entering g xs s) (each_of (enter g) ys) u t v)
+  -- ---- some cells, and then the others
+  module _ (xs es : List ℕ) (e : ds ≡ xs ++ es) where
+    pub some_asks : Enters z l g xs
+    some_asks = record { lists = G.0.lists; ranged = G.0.ranged; known = G.0.known; below = every_front (λ (c : ℕ). c < z.cells) xs es (subst (All (λ (c : ℕ). c < z.cells)) e G.0.below) }
 
--- what they ask of the rest
-module _ {z : Sizes} {g : ℕ} where
-  pub enters_first : {l cs : List ℕ} (c : ℕ) (ds : List ℕ) → cs ≡ c ∷ ds → Enters z l g cs → c < z.cells
-  enters_first c ds e E = (subst (All (λ (c : ℕ). c < z.cells)) e E.below).0
+    entering_is : (s : State) → entering g ds s ≡ then (entering g xs s) (each_of (enter g) es)
+    entering_is s = ap (λ (k : List ℕ). entering g k s) e ∙ each_append (enter g) xs es s
 
-  pub enters_rest : {l l' cs : List ℕ} (c : ℕ) (ds : List ℕ) → cs ≡ c ∷ ds → Enters z l g cs → Lists z l' → Enters z l' g ds
-  enters_rest c ds e E L = record { lists = L; ranged = E.ranged; known = E.known; below = (subst (All (λ (c : ℕ). c < z.cells)) e E.below).1 }
+    pub some_halt : {A : Type 0} {l' : List ℕ} (r : Result A Halt) (h : Halt) → IsErrAnd r (λ (x : Halt). x ≡ h) → ((s : State) → InLists z l s → ListsTold z l' (halt_number h) (entering g xs s))
+        → (s : State) → InLists z l₀ s → ListsTold z l' (number_of r) (entering g cs s)
+    some_halt {l' = l'} r h b t =
+        G.1 l' (number_of r) (λ s S. subst (λ (o : Out State). ListsTold z l' (number_of r) o) (sym (entering_is s)) (told_halt (InLists z l') (entering g xs s) (each_of (enter g) es) r h b (t s S)))
 
-  pub enters_front : {l cs : List ℕ} (xs ys : List ℕ) → cs ≡ xs ++ ys → Enters z l g cs → Enters z l g xs
-  enters_front xs ys e E = record {
-    lists = E.lists;
-    ranged = E.ranged;
-    known = E.known;
-    below = every_front (λ (c : ℕ). c < z.cells) xs ys (subst (All (λ (c : ℕ). c < z.cells)) e E.below);
-  }
-
-  pub enters_back : {l l' cs : List ℕ} (xs ys : List ℕ) → cs ≡ xs ++ ys → Enters z l g cs → Lists z l' → Enters z l' g ys
-  enters_back xs ys e E L = record {
-    lists = L;
-    ranged = E.ranged;
-    known = E.known;
-    below = all_after (λ (c : ℕ). c < z.cells) xs ys (subst (All (λ (c : ℕ). c < z.cells)) e E.below);
-  }
+    pub some_left : {l' : List ℕ} → ((s : State) → InLists z l s → ListsTold z l' 0 (entering g xs s)) → Left z g cs es l₀ l'
+    some_left {l'} t = (
+      record {
+        lists = ((entering g xs G.0.lists.0).st, (t G.0.lists.0 G.0.lists.1).1);
+        ranged = G.0.ranged;
+        known = G.0.known;
+        below = all_after (λ (c : ℕ). c < z.cells) xs es (subst (All (λ (c : ℕ). c < z.cells)) e G.0.below);
+      },
+      λ l'' r k. G.1 l'' r
+          (λ s S. subst (λ (o : Out State). ListsTold z l'' r o) (sym (entering_is s)) (told_next (InLists z l') (InLists z l'') (entering g xs s) (each_of (enter g) es) (t s S) (k (entering g xs s).st (t s S).1))),
+    )

@@ -1,8 +1,9 @@
 -- The start numbers: a grain read from them, and the lowest that is out of range. Assumes nothing.
-use Prim.Native.Nat.{ℕ, suc, ◌+◌, ◌-◌, ◌*◌, ◌≤◌, ◌<◌}
+use Prim.Native.Nat.{ℕ, zero, suc, ◌-◌, ◌*◌, ◌<◌}
 use mathlib.Core.Path.{◌≡◌, refl, sym, ap, ◌∙◌, subst}
-use mathlib.Core.Bool.{Bool, true, false, cond}
+use mathlib.Core.Bool.{true, false}
 use mathlib.Core.List.{List, [], ◌∷◌}
+use native.Mathlib.Nat.{le_of_suc-le-suc, not-suc-le-zero}
 use native.Mathlib.Omega.{arith}
 use lib.ListN.{length, get_or}
 use lib.Ieee.{Float}
@@ -14,7 +15,7 @@ use Rattle.model.specs.Sizes.{grain_ok, first_bad}
 use Rattle.model.specs.Stepping.{at_zero}
 use Rattle.model.specs.State.{zero_g}
 use Rattle.chunks.proofs.Laws.{tail_is}
-use Rattle.checks.proofs.Cut.{cut_none, cut_step, cut_at, cut_long}
+use Rattle.checks.proofs.Cut.{cut_at, cut_long}
 use Rattle.tables.specs.Inputs.{input_at, inputs_of}
 
 pub input_read : (n : ℕ) (l : List Float) (i : ℕ) → i < n → input_at (mid_of (i * input_wide) (length l - i * input_wide) l) ≡ get_or (inputs_of n l) i zero_g
@@ -24,38 +25,28 @@ input_read n l i h = ap input_at (tail_is (i * input_wide) l) ∙ sym (cut_at in
 pub input_timed : (n : ℕ) (l : List Float) (i : ℕ) (p : Particle) → i < n → p ≡ get_or (inputs_of n l) i zero_g → at_zero p ≡ p
 input_timed n l i p h e = subst (λ (q : Particle). at_zero q ≡ q) (sym (e ∙ cut_at input_at input_wide n l i zero_g h)) refl
 
+-- the lowest that is out of range: those before it are in range; or all are
 module _ (b : Domain) where
-  first_step : (p : Particle) (ps : List Particle) → grain_ok b p ≡ true → 1 + first_bad b ps ≡ first_bad b (p ∷ ps)
+  bad_here : (gs : List Particle) (i : ℕ) → i < length gs → ((k : ℕ) → k < i → grain_ok b (get_or gs k zero_g) ≡ true) → grain_ok b (get_or gs i zero_g) ≡ false → first_bad b gs ≡ i
   unfolding first_bad
-  first_step p ps e = rw e (let z : 1 + first_bad b ps ≡ suc (first_bad b ps) = omega arith in z)
+  bad_here [] i h f e = absurd (not-suc-le-zero h)
+  bad_here (p ∷ ps) zero h f e = rw e
+  bad_here (p ∷ ps) (suc i) h f e = rw (f 0 (omega arith)) (ap suc (bad_here ps i (le_of_suc-le-suc h) (λ k l. f (suc k) (omega (arith, l))) e))
 
-  first_stop : (p : Particle) (ps : List Particle) → grain_ok b p ≡ false → 0 ≡ first_bad b (p ∷ ps)
+  bad_nowhere : (gs : List Particle) → ((k : ℕ) → k < length gs → grain_ok b (get_or gs k zero_g) ≡ true) → first_bad b gs ≡ length gs
   unfolding first_bad
-  first_stop p ps e = rw e
-
-  first_empty : 0 ≡ first_bad b []
-  unfolding first_bad
-  first_empty = refl
-
-  most : (ps : List Particle) → first_bad b ps ≤ length ps
-  unfolding first_bad
-  most [] = omega arith
-  most (p ∷ ps) = go (grain_ok b p) (most ps)
-    where
-      go : (t : Bool) → first_bad b ps ≤ length ps → cond t (suc (first_bad b ps)) 0 ≤ suc (length ps)
-      go true h = omega (arith, h)
-      go false h = omega arith
+  bad_nowhere [] f = refl
+  bad_nowhere (p ∷ ps) f = rw (f 0 (omega arith)) (ap suc (bad_nowhere ps (λ k l. f (suc k) (omega (arith, l)))))
 
   module _ (n : ℕ) (l : List Float) where
-    pub bad-most : first_bad b (inputs_of n l) ≤ n
-    bad-most = subst (λ (k : ℕ). first_bad b (inputs_of n l) ≤ k) (cut_long input_at input_wide n l) (most (inputs_of n l))
+    abbrev pub FineBelow : ℕ → Type 0
+    FineBelow i = (k : ℕ) → k < i → grain_ok b (get_or (inputs_of n l) k zero_g) ≡ true
 
-    pub bad-none : n ≡ 0 → 0 ≡ first_bad b (inputs_of n l)
-    bad-none e = first_empty ∙ ap (first_bad b) (sym (cut_none input_at input_wide n l e))
+    long : length (inputs_of n l) ≡ n
+    long = cut_long input_at input_wide n l
 
-    pub bad-first : (n ≡ 0 → ⊥) → grain_ok b (input_at l) ≡ false → 0 ≡ first_bad b (inputs_of n l)
-    bad-first z e = first_stop (input_at l) (inputs_of (n - 1) (mid_of input_wide (length l - input_wide) l)) e ∙ ap (first_bad b) (sym (cut_step input_at input_wide n l z))
+    pub bad_at : (i : ℕ) → i < n → FineBelow i → grain_ok b (get_or (inputs_of n l) i zero_g) ≡ false → first_bad b (inputs_of n l) ≡ i
+    bad_at i h f e = bad_here (inputs_of n l) i (subst (λ (m : ℕ). i < m) (sym long) h) f e
 
-    pub bad-later : (k : ℕ) → (n ≡ 0 → ⊥) → grain_ok b (input_at l) ≡ true → k ≡ first_bad b (inputs_of (n - 1) (mid_of input_wide (length l - input_wide) l)) → 1 + k ≡ first_bad b (inputs_of n l)
-    bad-later k z e f =
-        ap (λ (j : ℕ). 1 + j) f ∙ first_step (input_at l) (inputs_of (n - 1) (mid_of input_wide (length l - input_wide) l)) e ∙ ap (first_bad b) (sym (cut_step input_at input_wide n l z))
+    pub bad_none : FineBelow n → first_bad b (inputs_of n l) ≡ n
+    bad_none f = bad_nowhere (inputs_of n l) (subst FineBelow (sym long) f) ∙ long

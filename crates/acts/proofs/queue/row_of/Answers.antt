@@ -9,7 +9,7 @@ returns c =
     record {
       nums_are = c.queue_part.ensures;
       reals_are = c.events_part.ensures;
-      head_is = c.head_time.ensures;
+      head_is = c.head.ensures;
       nums_on = nums.0;
       nums_in = nums.1;
       reals_on = reals.0;

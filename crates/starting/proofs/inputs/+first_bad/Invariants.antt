@@ -1,4 +1,0 @@
-use Rattle.starting.proofs.inputs.+first_bad.Given as goal
-
-abbrev pub decreases-first_bad : goal.decreases-first_bad
-decreases-first_bad l = l.n
