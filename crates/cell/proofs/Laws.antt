@@ -1,9 +1,9 @@
 -- A range of floats, and what a grid gives of its box. Assumes nothing.
 use Rattle.std.proofs.Common.{◌≡◌, ℕ, zero, suc, ◌+◌, ◌-◌, ◌%◌, ◌<◌, ◌≤◌, Bool, true, false, cond, ◌&&◌, ◌||◌, Some, None, Less, Equal, Greater, is_le, refl, ap, ◌∙◌, mod-lt, arith}
 use lib.Ieee.{Float, lt, eq, le}
-use Rattle.core.specs.declared.iter.ranges.RangeInclusive.{RangeInclusive}
-use Rattle.core.specs.Range.{range_inclusive_start, range_inclusive_end, range_inclusive_exhausted, range_inclusive_contains}
-use Rattle.core.specs.Ordering.{is_some_and, float_partial_cmp}
+use Rattle.std.specs.declared.ops.RangeInclusive.{RangeInclusive}
+use Rattle.std.specs.Range.{range_inclusive_start, range_inclusive_end, range_inclusive_exhausted, range_inclusive_contains}
+use Rattle.std.specs.Ordering.{is_some_and, float_partial_cmp}
 use Rattle.myvec.specs.declared.MyVec.{MyVec}
 use Rattle.myvec.specs.Vec.{vec}
 use Rattle.model.specs.declared.Domain.{Domain}
