@@ -1,15 +1,17 @@
 -- What init_events does to the tables, from what its calls do. Assumes nothing.
-use Prim.Native.Nat.{ℕ, zero, suc, ◌+◌, ◌<◌, ◌≤◌}
+use Prim.Native.Nat.{ℕ, zero, suc, ◌+◌, ◌-◌, ◌<◌, ◌≤◌}
 use mathlib.Core.Path.{◌≡◌, refl, ap, subst, ◌∙◌}
 use mathlib.Core.List.{List, [], ◌∷◌}
 use native.Mathlib.Nat.{suc-ne-zero}
 use native.Mathlib.Numerals.{add-one}
 use lib.Ieee.{Float}
-use lib.ListN.{length, get_or, drop, drop_of_length-le}
+use lib.ListN.{length, get_or, take, drop, drop_of_length-le}
 use lib.Seq.{drop-cons}
 use Rattle.std.specs.Prelude.{Result}
 use Rattle.std.specs.Result.{IsErrAnd}
+use Rattle.std.proofs.lemmas.List.{take_rest}
 use Rattle.halting.specs.Out.{Out, out, then, each_of}
+use Rattle.halting.specs.Every.{All}
 use Rattle.order.specs.Numbers.{fzero}
 use Rattle.model.specs.declared.Place.{Place}
 use Rattle.model.specs.declared.refusal.Halt.{Halt}
@@ -45,9 +47,19 @@ unfolding pairs
 pairs_only c [] s = refl
 pairs_only c (p ∷ l) s = touch_then OnlyQueues queues_none queues_both s (each_of (schedule_collision c p) l s) (pairs c l) (collisions_only c p l s) (pairs_only c l)
 
-pub pairs_turn : (c : ℕ) (l : List ℕ) (i : ℕ) → i < length l → (s : State) → pairs c (drop i l) s ≡ then (each_of (schedule_collision c (get_or l i 0)) (drop (i + 1) l) s) (pairs c (drop (i + 1) l))
+-- what stands behind the i-th, lent on as a part
+pub rest_below : (n : ℕ) (l : List ℕ) (i : ℕ) → All (λ (q : ℕ). q < n) l → All (λ (q : ℕ). q < n) (take (length l - i) (drop i l))
+rest_below n l i h = rw (take_rest l i) (below l i h)
+  where
+    below : (l : List ℕ) (i : ℕ) → All (λ (q : ℕ). q < n) l → All (λ (q : ℕ). q < n) (drop i l)
+    below l zero h = h
+    below [] (suc i) h = tt
+    below (x ∷ l) (suc i) h = below l i h.1
+
+pub pairs_turn : (c : ℕ) (l : List ℕ) (i : ℕ) → i < length l → (s : State)
+    → pairs c (drop i l) s ≡ then (each_of (schedule_collision c (get_or l i 0)) (take (length l - (i + 1)) (drop (i + 1) l)) s) (pairs c (drop (i + 1) l))
 unfolding pairs
-pairs_turn c l i h s = rw (drop-cons l i 0 h, add-one i)
+pairs_turn c l i h s = rw (take_rest l (i + 1), drop-cons l i 0 h, add-one i)
 
 pub pairs_end : (c : ℕ) (l : List ℕ) (i : ℕ) → length l ≤ i → (s : State) → pairs c (drop i l) s ≡ out 0 s
 unfolding pairs

@@ -27,7 +27,7 @@ pub returns-in_err-pairs-clause-does : goal.returns-in_err-pairs-clause-does
 returns-in_err-pairs-clause-does c =
     let a = c.args in
     let e = c.in_err-pairs in
-    init_second a.cell c.from_residual-in_ok-sync_in.result e.field-0.0 c.members_of-members.result.now (λ s h. c.members_of-members.ensures s h.listed) c.from_residual-in_ok-sync_in.ensures.1
+    init_second a.cell c.from_residual-in_err-pairs.result e.field-0.0 c.members_of-members.result.now (λ s h. c.members_of-members.ensures s h.listed) c.from_residual-in_err-pairs.ensures.1
     (sync_held a.cell c.in_ok-sync_in.ensures.does) (pairs_held _ (index_cell a.w.domain a.cell c.new-cell.ensures) e.ensures.does)
 
 pub bounds_each-requires : goal.bounds_each-requires

@@ -6,4 +6,7 @@ use Rattle.step.proofs.Does.{Onward}
 use Rattle.step.proofs.init.pairs.Given as goal
 
 abbrev pub invariant-loop-i : goal.invariant-loop-i
-invariant-loop-i l = ?
+invariant-loop-i l = record {
+  same : SameTables l.initial.queues l.queues;
+  on : Onward (Seen l.w l.grains) l.initial.queues (pairs l.cell.index l.list) l.queues (pairs l.cell.index (drop l.i l.list));
+}
