@@ -69,6 +69,10 @@ pub record Onward {T : Type 0} (H : T → State → Type 0) (old : T) (whole : S
 pub at_first : {T : Type 0} {H : T → State → Type 0} {old : T} {whole : State → Out State} → Some (H old) → Onward H old whole old whole
 at_first o = record { some = o; goes = λ t r d. d }
 
+-- after another act
+pub at_second : {T : Type 0} {H : T → State → Type 0} {old now : T} {a k : State → Out State} → Some (H old) → Does (H old) (H now) 0 a → Onward H old (λ s. then (a s) k) now k
+at_second o d = record { some = after d o; goes = λ t r e. does_on d e }
+
 module _ {T : Type 0} {H : T → State → Type 0} {old now : T} {whole rest : State → Out State} (on : Onward H old whole now rest) where
   -- the rest is an act and what comes then: done, or refused
   pub goes_on : {t : T} {a k : State → Out State} → ((s : State) → rest s ≡ then (a s) k) → Does (H now) (H t) 0 a → Onward H old whole t k

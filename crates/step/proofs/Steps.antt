@@ -83,12 +83,17 @@ module _ {w : World} {l : List ℕ} {g : List Float} {q : Queues} (s : State) (h
       let v = st.sound.queues c C in
       apt-of s h.holds st n c (head_event s) (omega (arith, C, n)) (subst (λ (k : ℕ). Named k c (listed s c) (head_event s)) n (head_held s.clock (cells s.box) c (listed s c) (queue s c) (first_some s st) v.rising v.held).0.named)
 
+  -- its head x is the event, and tells whether it is a synchronisation
+  module _ (x : Place) (ev : Event) (i : x ≡ head s) (j : ev ≡ event_of x.kind x) where
+    event_is : ev ≡ head_event s
+    event_is = j ∙ ap (λ (y : Place). event_of y.kind y) i
+
+    pub step_sync : {c : Bool} → c ≡ is_sync ev → c ≡ is_sync (head_event s)
+    step_sync c = c ∙ ap is_sync event_is
+
   -- ---- the step: its head x is taken, and the world goes to its time
   module _ {w₁ : World} {q₁ : Queues} (x : Place) (ev : Event) (sizes : w₁.sizes ≡ w.sizes) (domain : w₁.domain ≡ w.domain) (clock : w₁.clock ≡ x.time) (i : x ≡ head s) (j : ev ≡ event_of x.kind x)
       (t : InQueues w.sizes q₁ (taken s)) where
-    pub event_is : ev ≡ head_event s
-    event_is = j ∙ ap (λ (y : Place). event_of y.kind y) i
-
     taken_held : Held w₁ l g q₁ (taken s)
     unfolding taken requeued
     taken_held =
@@ -96,11 +101,8 @@ module _ {w : World} {l : List ℕ} {g : List Float} {q : Queues} (s : State) (h
         record { listed = v.listed; seen = record { at = (h.box ∙ sym domain, ap (λ (y : Place). y.time) (sym i) ∙ sym clock); grained = v.grained; queued = v.queued } }
 
     pub taken_ready : Held w₁ l g q₁ (taken s) × Apt w₁.sizes ev (taken s)
-    taken_ready = (taken_held, subst (λ (f : Event). Apt w₁.sizes f (taken s)) (sym event_is) (apt_taken w₁.sizes s (head_event s) (subst (λ (z : Sizes). Apt z (head_event s) s) (sym sizes) head-apt)))
+    taken_ready = (taken_held, subst (λ (f : Event). Apt w₁.sizes f (taken s)) (sym (event_is x ev i j)) (apt_taken w₁.sizes s (head_event s) (subst (λ (z : Sizes). Apt z (head_event s) s) (sym sizes) head-apt)))
 
     pub step_says : {Q : State → Type 0} {r : ℕ} (rate : Float) → Does (λ u. Held w₁ l g q₁ u × Apt w₁.sizes ev u) Q r (execution rate ev) → Says Q r (event rate s)
     unfolding event
-    step_says {Q} {r} rate d = subst (Says Q r) (sym (execute_is rate (head_event s) (taken s))) (subst (λ (f : Event). Says Q r (execution rate f (taken s))) event_is (d.says (taken s) taken_ready))
-
-    pub step_sync : {c : Bool} → c ≡ is_sync ev → c ≡ is_sync (head_event s)
-    step_sync c = c ∙ ap is_sync event_is
+    step_says {Q} {r} rate d = subst (Says Q r) (sym (execute_is rate (head_event s) (taken s))) (subst (λ (f : Event). Says Q r (execution rate f (taken s))) (event_is x ev i j) (d.says (taken s) taken_ready))

@@ -219,6 +219,12 @@ fn execute(
 
 // ---- a step
 
+fn is_sync(e: Event) -> bool
+    ensures { result ≡ is_sync e }
+{
+    matches!(e, Event::Synchronisation)
+}
+
 // The first event of all is removed, the clock is its time, and it is executed. Done, the answer is whether it was a synchronisation. A halt's mark is the caller's to write.
 pub fn step(
     lists: &mut [u64],
@@ -238,5 +244,5 @@ pub fn step(
     let e = tables::places::event_of(place);
     w.clock = place.time;
     execute(lists, grains, queues, *w, rate, e)?;
-    Ok(matches!(e, Event::Synchronisation))
+    Ok(is_sync(e))
 }

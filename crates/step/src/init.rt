@@ -86,12 +86,7 @@ pub fn init_cell(
 }
 
 // In all cells.
-pub fn init_events(
-    lists: &[u64],
-    grains: &[f64],
-    queues: &mut Queues,
-    w: World,
-) -> Result<(), Halt>
+pub fn init_events(lists: &[u64], grains: &[f64], queues: &mut Queues, w: World) -> Result<(), Halt>
     requires { Some (Held w lists.now grains.now queues.old) }
     ensures same { SameTables queues.old queues.new }
     ensures does { Does (Held w lists.now grains.now queues.old) (Held w lists.now grains.now queues.new) (number_of result) (each init_cell w.sizes.cells 0) }

@@ -58,14 +58,7 @@ pub fn schedule_collisions(
 }
 
 // What a grain does at one of a cell's bounds in a direction.
-fn plan_bound(
-    kind: Bound,
-    dim: usize,
-    w: World,
-    cell: Cell,
-    i: u64,
-    p: Particle,
-) -> Option<Pending>
+fn plan_bound(kind: Bound, dim: usize, w: World, cell: Cell, i: u64, p: Particle) -> Option<Pending>
     requires { IsCell w.domain cell }
     ensures { plan_told (Ok result) ≡ plan_told (finder kind dim w.domain w.clock cell.index i p) }
 {

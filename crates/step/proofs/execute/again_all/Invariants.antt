@@ -16,5 +16,5 @@ invariant-loop-p l = record {
 abbrev pub invariant-loop-p-2 : goal.invariant-loop-p-2
 invariant-loop-p-2 l = record {
   same : SameTables l.fn.queues l.queues;
-  on : Onward (Beside l.w l.lists) (l.fn.grains, l.fn.queues) (λ s. then (each_of forget l.list s) (each_of again l.list)) (l.grains, l.queues) (each_of again (drop l.p-index l.list));
+  on : Onward (Beside l.w l.lists) (l.fn.grains, l.fn.queues) (λ s. then (each_of forget l.fn.list s) (each_of again l.fn.list)) (l.grains, l.queues) (each_of again (drop l.p-index l.fn.list));
 }

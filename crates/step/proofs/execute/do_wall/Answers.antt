@@ -16,7 +16,7 @@ returns-in_err-store-clause-does c =
 pub again_all-requires : goal.again_all-requires
 again_all-requires c =
     let a = c.args in
-    (after (store_does a.p a.x c.in_ok-store.ensures) c.requires.0, c.requires.1, tt)
+    (after (store_does a.p a.x c.in_ok-store.ensures) c.requires.0, (c.requires.1, tt))
 
 pub returns-clause-does : goal.returns-clause-does
 unfolding do_wall

@@ -26,14 +26,14 @@ loop-q-preserved c =
     let l = c.loop-q in
     let act = schedule_collision a.cell.index a.p in
     let P = λ (q : Queues). record {
-          same : SameTables a.queues.now q;
-          on : Onward (Seen a.w a.grains.now) a.queues.now (each_of act (others a.p a.list.now)) q (each_of act (others a.p (drop (l.q-index + 1) a.list.now)));
-        } in
+      same : SameTables a.queues.now q;
+      on : Onward (Seen a.w a.grains.now) a.queues.now (each_of act (others a.p a.list.now)) q (each_of act (others a.p (drop (l.q-index + 1) a.list.now)));
+    } in
     elim c.if-q-p.branch [
       | then-q-p+in_ok-schedule_collision w ↦ let d = w.in_ok-schedule_collision.ensures in subst P (sym w.queues-is) (record {
-            same = same_then l.invariant.same d.same;
-            on = goes_on l.invariant.on (others_turn act a.p a.list.now l.q-index c.loop-q-test.true w.if-q-p.true) d.does;
-          })
+        same = same_then l.invariant.same d.same;
+        on = goes_on l.invariant.on (others_turn act a.p a.list.now l.q-index c.loop-q-test.true w.if-q-p.true) d.does;
+      })
       | else-q-p w ↦ subst P (sym w.queues-is) (record { same = l.invariant.same; on = goes_as l.invariant.on (others_past act a.p a.list.now l.q-index c.loop-q-test.true w.if-q-p.false) })
     ]
 
