@@ -293,7 +293,10 @@ fn cells_hold(input: Stdin) -> Option<bool> {
     let rad = float_of_bits(rad);
     let x = particle::touched(domain.lengths.x, grid.n0, rad, float_of_bits(x));
     let y = particle::touched(domain.lengths.y, grid.n1, rad, float_of_bits(y));
-    Some(small(x) && small(y) && same_cells(grid.n0, x, y, wanted))
+    if !small(x) || !small(y) {
+        return None;
+    }
+    Some(same_cells(grid.n0, x, y, wanted))
 }
 
 fn box_holds(input: Stdin) -> Option<bool> {
