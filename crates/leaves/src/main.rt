@@ -282,9 +282,9 @@ fn cells_hold(input: Stdin) -> Option<bool> {
     if n > 4 {
         return None;
     }
+    let n = n as usize;
     let mut cells = [0; 4];
-    let wanted = &mut cells[..n as usize];
-    words::fill(input, wanted)?;
+    words::fill(input, &mut cells[..n])?;
     let domain = Domain::new(vec(l0, l1), true, true);
     if !cell::box_ok(domain) {
         return None;
@@ -296,7 +296,7 @@ fn cells_hold(input: Stdin) -> Option<bool> {
     if !small(x) || !small(y) {
         return None;
     }
-    Some(same_cells(grid.n0, x, y, wanted))
+    Some(same_cells(grid.n0, x, y, &cells[..n]))
 }
 
 fn box_holds(input: Stdin) -> Option<bool> {

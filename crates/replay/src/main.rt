@@ -239,19 +239,28 @@ fn start(input: Stdin, out: Stdout, inputs: &mut [f64], tables: &mut Tables<'_>)
 }
 
 // A start and the commands behind it, over the first places of each table.
-fn replay(input: Stdin, out: Stdout, inputs: &mut [f64], all: &mut Tables<'_>) {
-    let a = next_length(input, all.lists.len());
-    let b = next_length(input, all.grains.len());
-    let c = next_length(input, all.queue.len());
-    let d = next_length(input, all.events.len());
-    let e = next_length(input, all.order.len());
+fn replay(
+    input: Stdin,
+    out: Stdout,
+    inputs: &mut [f64],
+    lists: &mut [u64],
+    grains: &mut [f64],
+    queue: &mut [u64],
+    events: &mut [f64],
+    order: &mut [u8],
+) {
+    let a = next_length(input, lists.len());
+    let b = next_length(input, grains.len());
+    let c = next_length(input, queue.len());
+    let d = next_length(input, events.len());
+    let e = next_length(input, order.len());
     let n = next_length(input, inputs.len());
     let mut tables = Tables {
-        lists: &mut all.lists[..a],
-        grains: &mut all.grains[..b],
-        queue: &mut all.queue[..c],
-        events: &mut all.events[..d],
-        order: &mut all.order[..e],
+        lists: &mut lists[..a],
+        grains: &mut grains[..b],
+        queue: &mut queue[..c],
+        events: &mut events[..d],
+        order: &mut order[..e],
     };
     start(input, out, &mut inputs[..n], &mut tables);
     commands(input, out, &mut tables);
@@ -259,21 +268,24 @@ fn replay(input: Stdin, out: Stdout, inputs: &mut [f64], all: &mut Tables<'_>) {
 
 fn main(rt: HostRuntime) {
     let input = rt.stdin();
+    let out = rt.stdout();
     let mut inputs = [0.0; 1560];
     let mut lists = [0; 10768];
     let mut grains = [0.0; 2048];
     let mut queue = [0; 33040];
     let mut events = [0.0; 81936];
     let mut order = [0; 520];
-    let mut all = Tables {
-        lists: &mut lists,
-        grains: &mut grains,
-        queue: &mut queue,
-        events: &mut events,
-        order: &mut order,
-    };
     let starts = next::<u64>(input) % 1000;
     for _ in 0..starts {
-        replay(input, rt.stdout(), &mut inputs, &mut all);
+        replay(
+            input,
+            out,
+            &mut inputs,
+            &mut lists,
+            &mut grains,
+            &mut queue,
+            &mut events,
+            &mut order,
+        );
     }
 }
