@@ -1,7 +1,7 @@
 // The listing's text, read byte by byte, and the rows of its first grains.
 ghost use Rattle.std.specs.Prelude.{◌≡◌, ◌+◌, ◌≤◌};
 ghost use Rattle.listing_text.specs.Columns.{columns, kept};
-ghost use Rattle.listing_text.specs.Reading.{start_of, kept_of, took_of, feed_of, feed_all, closed_of, fine_of};
+ghost use Rattle.listing_text.specs.Reading.{start_of, kept_of, feed_of, feed_all, closed_of, fine_of};
 
 use crate::columns::{BOX, COLUMNS, KEPT, MOST};
 use text::TextPlan;
@@ -31,33 +31,25 @@ pub fn start() -> Reader
 
 impl Reader {
     // The line's numbers are kept from i on.
-    fn keep(mut self, i: usize) -> Reader
+    fn keep(&mut self, i: usize)
         requires { i + columns ≤ kept }
-        ensures { result ≡ kept_of self i }
+        ensures { self.new ≡ kept_of self.old i }
     {
         let numbers = self.text.numbers;
         self.grains[i..i + COLUMNS].copy_from_slice(&numbers[BOX..BOX + COLUMNS]);
-        self
     }
 
-    // The text was read on; at the end of a grain's line its numbers are kept, those of the first grains.
-    fn took(mut self, text: text::Reader) -> Reader
-        ensures { result ≡ took_of self text }
-    {
-        let seen = self.text.seen;
-        self.text = text;
-        if seen < text.seen && seen < MOST as u64 {
-            return self.keep(seen as usize * COLUMNS);
-        }
-        self
-    }
-
-    // One byte more.
+    // One byte more. At the end of a grain's line its numbers are kept, those of the first grains.
     #[tactic(auto, unfolding(crate::specs::Reading::plan))]
-    pub fn feed(self, b: u8) -> Reader
+    pub fn feed(mut self, b: u8) -> Reader
         ensures { result ≡ feed_of self b }
     {
-        self.took(self.text.feed(PLAN, b))
+        let line = self.text.seen;
+        self.text = self.text.feed(PLAN, b);
+        if line < self.text.seen && line < MOST as u64 {
+            self.keep(line as usize * COLUMNS);
+        }
+        self
     }
 
     // The text is over: a last line that lacks its CR LF is ended.
