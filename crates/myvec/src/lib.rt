@@ -83,15 +83,9 @@ impl MyVec {
         ensures { result ≡ bent dim value self }
     {
         if dim == 0 {
-            Self {
-                x: value,
-                y: self.y,
-            }
+            Self { x: value, ..self }
         } else {
-            Self {
-                x: self.x,
-                y: value,
-            }
+            Self { y: value, ..self }
         }
     }
 }
