@@ -219,13 +219,14 @@ fn execute(
 
 // ---- a step
 
+// Whether it is a synchronisation.
 fn is_sync(e: Event) -> bool
     ensures { result ≡ is_sync e }
 {
     matches!(e, Event::Synchronisation)
 }
 
-// The first event of all is removed, the clock is its time, and it is executed. Done, the answer is whether it was a synchronisation. A halt's mark is the caller's to write.
+// The first event of all is removed, the clock is its time, and it is executed; the answer is whether it was a synchronisation. A halt's mark is the caller's to write.
 pub fn step(
     lists: &mut [u64],
     grains: &mut [f64],
