@@ -1,6 +1,6 @@
 -- What the test of a box gives, and the cell that a case names. Assumes nothing.
 use Prim.Native.Nat.{ℕ, ◌*◌, ◌≤◌, ◌<◌}
-use mathlib.Core.Path.{◌≡◌, sym, ap, ◌∙◌, subst}
+use mathlib.Core.Path.{◌≡◌, sym, ap, ◌∙◌}
 use mathlib.Core.Bool.{Bool, true, false, not}
 use native.Mathlib.Omega.{arith}
 use borrow.Author.Tests.{not-false}
@@ -9,8 +9,7 @@ use Rattle.model.specs.Sizes.{box_ok}
 use Rattle.model.specs.Grid.{cells}
 use Rattle.model.proofs.Grid.{across_max}
 use Rattle.cell.specs.declared.Grid.{Grid}
-use Rattle.cell.specs.declared.Cell.{Cell}
-use Rattle.cell.specs.Cell.{grid_of, Laid, IsCell}
+use Rattle.cell.specs.Cell.{grid_of, Laid}
 
 -- it did not fail
 pub in_range_lem : (b : Domain) (t : Bool) → t ≡ box_ok b → not t ≡ false → box_ok b ≡ true

@@ -262,7 +262,10 @@ fn cell_at(s: Spans, k: usize) -> usize
 
 // Whether the cells of the spans x in direction 0, running fastest, and y in direction 1 are those wanted.
 fn same_cells(n0: usize, x: Spans, y: Spans, wanted: &[u64]) -> bool
-    requires { Small x × Small y × (n0 ≤ 16) × (length wanted.now ≤ 4) }
+    requires small_x { Small x }
+    requires small_y { Small y }
+    requires across { n0 ≤ 16 }
+    requires few { length wanted.now ≤ 4 }
 {
     let across = many(x);
     if across == 0 || across * many(y) != wanted.len() {
