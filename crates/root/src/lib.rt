@@ -97,7 +97,7 @@ fn root_bits(bits: u64) -> u64
     }
 }
 
-// The correctly rounded square root; none of a NaN, nor of what is negative.
+// The correctly rounded square root. A NaN has none, nor has what is below 0.
 pub fn square_root(x: f64) -> Option<f64>
     ensures value { result ≡ root_of x }
     ensures root_rule { RootRule x result }
