@@ -61,23 +61,26 @@ fn near_root(a: u64) -> u64
     ensures { result ≡ near (a * 4 ^ 26) }
 {
     let mut s = Digits { q: 0, rem: 0 };
-    let mut reg = a / 1099511627776;
+    let mut reg = a >> 40;
     for _ in 0..7u64 {
-        s = step(s, reg / 4096);
+        s = step(s, reg >> 12);
         reg = reg % 4096 * 4;
     }
-    s = more(s, 128, a / 8589934592 % 128, a / 67108864 % 128);
-    s = more(s, 8192, a / 8192 % 8192, a % 8192);
-    s = more(s, 67108864, 0, 0);
+    s = more(s, 128, (a >> 33) % 128, (a >> 26) % 128);
+    s = more(s, 8192, (a >> 13) % 8192, a % 8192);
+    s = more(s, 1 << 26, 0, 0);
     if s.q < s.rem { s.q + 1 } else { s.q }
 }
+
+// Above the 52 digits that a float's bits have of its significand: its exponent begins there, and its leading digit would stand there.
+const TOP: u64 = 1 << 52;
 
 // The bits of the root of m * 2 ^ (b - 1126).
 fn finished(m: u64, b: u64) -> u64
     requires { (2 ^ 52 ≤ m) × (m < 2 ^ 53) × (b ≤ 2097) }
     ensures { result ≡ bits_of_root m b }
 {
-    let high = (b / 2 + 485) * 4503599627370496;
+    let high = (b / 2 + 485) * TOP;
     high + near_root(m << (b % 2))
 }
 
@@ -86,14 +89,14 @@ fn root_bits(bits: u64) -> u64
     requires { (0 < bits) × (bits < 0x7ff0_0000_0000_0000) }
     ensures { result ≡ root_bits bits }
 {
-    let field = bits / 4503599627370496;
-    let t = bits % 4503599627370496;
+    let field = bits / TOP;
+    let t = bits % TOP;
     if field == 0 {
         // a subnormal significand is brought to full width by its leading zeros
         let z = u64::leading_zeros(t) as u64;
         finished(t << (z - 11), 63 - z)
     } else {
-        finished(t + 4503599627370496, field + 51)
+        finished(t + TOP, field + 51)
     }
 }
 
