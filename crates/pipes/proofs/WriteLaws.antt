@@ -8,7 +8,7 @@ use lib.Dec.{eqb}
 use borrow.Author.Tests.{ne_eqb}
 use lib.Seq.{take-length, length-take-le}
 use lib.ListN.{take-append-drop}
-use Rattle.pipes.specs.Writes.{Took, Put, Handed, all, stopped, part, HandedOut, together, WrittenOut}
+use Rattle.pipes.specs.Writes.{Took, Grown, Handed, all, stopped, part, HandedOut, together, WrittenOut}
 
 -- what is known of a writer, from one write to the next
 keeps_none : (old : Option (List ℕ)) → Appends old old []
@@ -27,14 +27,14 @@ appends_then (Some xs) (Some ys) None p q a b = absurd b
 appends_then (Some xs) (Some ys) (Some zs) p q a b = b ∙ ap (λ (s : List ℕ). s ++ q) a ∙ append_assoc xs p q
 
 -- one write more, in front of those that follow
-pub taken_some : (old mid new : Option (List ℕ)) (n : ℕ) (s : List ℕ) {r : Bool} → Took s (Some n) → Put old mid s (Some n) → WrittenOut mid new (take (length s - n) (drop n s)) r → WrittenOut old new s r
+pub taken_some : (old mid new : Option (List ℕ)) (n : ℕ) (s : List ℕ) {r : Bool} → Took s (Some n) → Grown old mid s (Some n) → WrittenOut mid new (take (length s - n) (drop n s)) r → WrittenOut old new s r
 taken_some old mid new n s {r} t w k =
     let l = length-take-le n s t.1 in
     let e : take n s ++ take (length s - n) (drop n s) ≡ s = ap (λ (k : ℕ). take n s ++ take k (drop n s)) (sym (length-drop n s)) ∙ ap (λ (q : List ℕ). take n s ++ q) (take-length (drop n s)) ∙ take-append-drop n s in
     (take n s ∷ k.0, subst (λ (q : List ℕ). Handed q (take n s ∷ k.0) r) e (part (omega arith) k.1), appends_then old mid new (take n s) (together k.0) w k.2)
 
 -- the last: it took nothing, where something is left
-pub taken_none : (old new : Option (List ℕ)) (s : List ℕ) → (length s == 0) ≡ false → Put old new s None → WrittenOut old new s false
+pub taken_none : (old new : Option (List ℕ)) (s : List ℕ) → (length s == 0) ≡ false → Grown old new s None → WrittenOut old new s false
 taken_none old new [] e w = absurd (true≢false e)
 taken_none old new (x ∷ s) e w = ([] ∷ [], stopped (omega arith), keeps_all old new w)
 

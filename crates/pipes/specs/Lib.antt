@@ -1,4 +1,4 @@
--- What reads answer, one after another (Reads), and what writes take (Writes); both by how many bytes they move (Counts).
+-- What reads answer, one after another (Reads), by how many bytes one may move (Counts), and what writes take (Writes).
 pub mod Counts
 pub mod Reads
 pub mod Writes

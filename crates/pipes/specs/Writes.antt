@@ -8,8 +8,8 @@ abbrev pub Took : List ℕ → Option ℕ → Type 0
 Took s got = IfSome got (λ n. (0 < n) × (n ≤ length s))
 
 -- what a writer held that took so many of s, and holds then, where that is known
-abbrev pub Put : Option (List ℕ) → Option (List ℕ) → List ℕ → Option ℕ → Type 0
-Put old new s got = MatchOption got (Keeps old new) (λ n. Appends old new (take n s))
+abbrev pub Grown : Option (List ℕ) → Option (List ℕ) → List ℕ → Option ℕ → Type 0
+Grown old new s got = MatchOption got (Keeps old new) (λ n. Appends old new (take n s))
 
 -- the bytes that writes take, one after another, each of what those before it left: the last of them takes nothing, or fails, where something is left;
 -- and whether all was taken

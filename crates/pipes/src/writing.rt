@@ -1,13 +1,13 @@
 // Bytes on standard output.
 ghost use Rattle.std.specs.Prelude.{length};
-ghost use Rattle.pipes.specs.Writes.{Took, Put, HandedOut, WrittenOut};
+ghost use Rattle.pipes.specs.Writes.{Took, Grown, HandedOut, WrittenOut};
 
 use std::io::{Stderr, Write};
 
 // One write: how many of the first bytes it took. A failure is said on standard error, and a write that takes nothing too.
 fn write_some<W: Write>(out: &mut W, said: Stderr, bytes: &[u8]) -> Option<usize>
     ensures took { Took bytes.now result }
-    ensures put { Put (W.contents out.old) (W.contents out.new) bytes.now result }
+    ensures grown { Grown (W.contents out.old) (W.contents out.new) bytes.now result }
 {
     match out.write(bytes) {
         Ok(0) => {
