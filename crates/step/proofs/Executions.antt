@@ -3,7 +3,7 @@ use Prim.Native.Nat.{ℕ}
 use mathlib.Core.Path.{◌≡◌, sym, ap, subst, ◌∙◌}
 use mathlib.Core.List.{List, [], ◌∷◌}
 use lib.Ieee.{Float, binary64, add}
-use lib.ListN.{length, get_or}
+use lib.ListN.{length}
 use Rattle.halting.specs.Out.{Out, then, each, each_of}
 use Rattle.myvec.specs.declared.MyVec.{MyVec}
 use Rattle.model.specs.declared.Particle.{Particle}
@@ -11,7 +11,7 @@ use Rattle.model.specs.declared.Place.{Place}
 use Rattle.model.specs.declared.Event.{Event}
 use Rattle.model.specs.declared.Event.TheVariants.{InterParticleCollision, MoveToNeighbour, MoveOutOfCell, WallReflection, Synchronisation}
 use Rattle.model.specs.Stepping.{grain_of, landed, renewed}
-use Rattle.model.specs.State.{State, home, grain, zero_g}
+use Rattle.model.specs.State.{State, home, grain}
 use Rattle.model.specs.Acts.{store, insert, cancel, enter, leave}
 use Rattle.model.specs.Doing.{step_grain, again, forget, sync_at, do_collision, do_neighbour, do_out, do_wall, do_sync, execution}
 use Rattle.tables.specs.declared.Sizes.{Sizes}

@@ -21,11 +21,9 @@ use Rattle.model.specs.Plans.{Plan}
 use Rattle.model.specs.Reports.{plan_told}
 use Rattle.model.specs.State.{State, home, listed, grain, zero_g}
 use Rattle.model.specs.Acts.{put}
-use Rattle.model.specs.Doing.{step_grain, schedule_collision, schedule_by, boundaries, schedule_with, schedule_events, again, forget}
+use Rattle.model.specs.Doing.{step_grain, schedule_collision, schedule_by, boundaries, schedule_with, schedule_events, again}
 use Rattle.model.specs.Rows.{others, Finder, finder}
 use Rattle.model.specs.Collision.{collision}
-use Rattle.model.specs.Moves.{to_neighbour, out_of_cell}
-use Rattle.model.specs.Walls.{wall}
 use Rattle.model.proofs.Answers.{one_plan}
 use Rattle.tables.specs.declared.Sizes.{Sizes}
 use Rattle.tables.specs.Holds.{Grained}

@@ -1,6 +1,6 @@
 -- What init_events does to the tables, from what its calls do. Assumes nothing.
 use Prim.Native.Nat.{ℕ, zero, suc, ◌+◌, ◌-◌, ◌<◌, ◌≤◌}
-use mathlib.Core.Path.{◌≡◌, refl, ap, subst, ◌∙◌}
+use mathlib.Core.Path.{◌≡◌, refl, ap, subst}
 use mathlib.Core.List.{List, [], ◌∷◌}
 use native.Mathlib.Nat.{suc-ne-zero}
 use native.Mathlib.Numerals.{add-one}
@@ -10,8 +10,7 @@ use lib.Seq.{drop-cons}
 use Rattle.std.specs.Prelude.{Result}
 use Rattle.std.specs.Result.{IsErrAnd}
 use Rattle.std.proofs.lemmas.List.{take_rest}
-use Rattle.halting.specs.Out.{Out, out, then, each_of}
-use Rattle.halting.specs.Every.{All}
+use Rattle.halting.specs.Out.{out, then, each_of}
 use Rattle.order.specs.Numbers.{fzero}
 use Rattle.model.specs.declared.Place.{Place}
 use Rattle.model.specs.declared.refusal.Halt.{Halt}
@@ -20,7 +19,7 @@ use Rattle.model.specs.State.{State, listed}
 use Rattle.model.specs.Acts.{insert}
 use Rattle.model.specs.Doing.{schedule_collision, boundaries, sync_at, pairs, sync_in, init_cell}
 use Rattle.acts.specs.declared.queue.Queues.{Queues}
-use Rattle.acts.specs.Tell.{InQueues, QueuesTold}
+use Rattle.acts.specs.Tell.{InQueues}
 use Rattle.step.specs.declared.World.{World}
 use Rattle.step.specs.World.{Seen, Held, Does}
 use Rattle.acts.proofs.Touch.{touch_then, touch_of}
@@ -47,15 +46,7 @@ unfolding pairs
 pairs_only c [] s = refl
 pairs_only c (p ∷ l) s = touch_then OnlyQueues queues_none queues_both s (each_of (schedule_collision c p) l s) (pairs c l) (collisions_only c p l s) (pairs_only c l)
 
--- what stands behind the i-th, lent on as a part
-pub rest_below : (n : ℕ) (l : List ℕ) (i : ℕ) → All (λ (q : ℕ). q < n) l → All (λ (q : ℕ). q < n) (take (length l - i) (drop i l))
-rest_below n l i h = rw (take_rest l i) (below l i h)
-  where
-    below : (l : List ℕ) (i : ℕ) → All (λ (q : ℕ). q < n) l → All (λ (q : ℕ). q < n) (drop i l)
-    below l zero h = h
-    below [] (suc i) h = tt
-    below (x ∷ l) (suc i) h = below l i h.1
-
+-- what stands behind the i-th is lent on as a part
 pub pairs_turn : (c : ℕ) (l : List ℕ) (i : ℕ) → i < length l → (s : State)
     → pairs c (drop i l) s ≡ then (each_of (schedule_collision c (get_or l i 0)) (take (length l - (i + 1)) (drop (i + 1) l)) s) (pairs c (drop (i + 1) l))
 unfolding pairs

@@ -2,7 +2,7 @@ use Rattle.model.specs.Doing.{do_out}
 use Rattle.model.specs.Acts.{cancel, leave}
 use Rattle.halting.specs.Out.{then}
 use Rattle.step.proofs.Executions.{land_pair, cancel_pair, leave_does, without_pair}
-use Rattle.step.proofs.Does.{after, does_halt, does_on}
+use Rattle.step.proofs.Does.{does_halt, does_on}
 use Rattle.step.proofs.execute.do_out.Goals as goal
 
 pub returns-in_err-land-clause-does : goal.returns-in_err-land-clause-does

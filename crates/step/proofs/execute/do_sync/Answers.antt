@@ -6,7 +6,7 @@ use Rattle.model.specs.Acts.{insert}
 use Rattle.model.specs.Doing.{step_grain, sync_at, do_sync}
 use Rattle.model.specs.Events.{place_of}
 use Rattle.step.proofs.Executions.{steps_does, sync_does}
-use Rattle.step.proofs.Does.{after, does_halt, does_on, does_as}
+use Rattle.step.proofs.Does.{does_halt, does_on, does_as}
 use Rattle.step.proofs.execute.do_sync.Goals as goal
 
 pub returns-in_err-step_all-clause-does : goal.returns-in_err-step_all-clause-does
@@ -15,11 +15,6 @@ returns-in_err-step_all-clause-does c =
     let a = c.args in
     let e = c.in_err-step_all in
     does_halt (λ s u. insert 0 (sync_at (add binary64 s.clock a.rate)) u) c.from_residual.result e.field-0.0 c.from_residual.ensures.1 (steps_does e.ensures)
-
-pub insert-requires : goal.insert-requires
-insert-requires c =
-    let o = after (steps_does c.in_ok-step_all.ensures) c.requires.0 in
-    ((o.0, o.1.queued), c.requires.1)
 
 pub returns-clause-does : goal.returns-clause-does
 unfolding do_sync

@@ -1,7 +1,5 @@
-use Rattle.model.specs.Acts.{store}
 use Rattle.model.specs.Doing.{forget, again, do_wall}
 use Rattle.halting.specs.Out.{then}
-use mathlib.Core.Path.{sym}
 use Rattle.step.proofs.Executions.{store_does, again_one}
 use Rattle.step.proofs.Does.{after, does_halt, does_on, does_as}
 use Rattle.step.proofs.execute.do_wall.Goals as goal

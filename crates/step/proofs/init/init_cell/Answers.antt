@@ -1,4 +1,3 @@
-use native.Mathlib.Omega.{arith}
 use Rattle.step.proofs.Starting.{sync_held, pairs_held, bounds_held, init_first, init_second, init_third}
 use Rattle.cell.proofs.Laws.{index_cell}
 use Rattle.step.proofs.Scheduling.{made_cell}
@@ -10,11 +9,6 @@ pub returns-in_err-sync_in-clause-does : goal.returns-in_err-sync_in-clause-does
 returns-in_err-sync_in-clause-does c =
     let e = c.in_err-sync_in in
     init_first c.args.cell c.from_residual.result e.field-0.0 c.from_residual.ensures.1 (sync_held c.args.cell e.ensures.does)
-
-pub new-cell-requires : goal.new-cell-requires
-new-cell-requires c =
-    let p = c.args.w.placed in
-    (p.laid, omega (arith, p.cells_are))
 
 pub pairs-requires : goal.pairs-requires
 pairs-requires c =

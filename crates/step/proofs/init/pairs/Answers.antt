@@ -1,15 +1,6 @@
-use Prim.Native.Nat.{◌<◌, ◌+◌}
-use Rattle.halting.proofs.All.{all_at}
 use Rattle.step.proofs.Does.{goes_on, goes_halt, goes_end, same_then}
-use Rattle.step.proofs.Starting.{rest_below, pairs_turn, pairs_end}
+use Rattle.step.proofs.Starting.{pairs_turn, pairs_end}
 use Rattle.step.proofs.init.pairs.Goals as goal
-
-pub schedule_collisions-requires : goal.schedule_collisions-requires
-schedule_collisions-requires c =
-    let a = c.args in
-    let l = c.loop-i in
-    let n = a.w.sizes.grains in
-    (l.invariant.on.some, c.requires.1, all_at (λ q. q < n) a.list.now l.i 0 c.requires.2 c.loop-i-test.true, rest_below n a.list.now (l.i + 1) c.requires.2)
 
 pub returns-in_err-schedule_collisions-clause-does : goal.returns-in_err-schedule_collisions-clause-does
 returns-in_err-schedule_collisions-clause-does c =
