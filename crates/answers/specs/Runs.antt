@@ -1,20 +1,20 @@
 -- The answer over the numbers that the reader holds, and a start with its two runs over the tables that the code lends. Assumes nothing: these are definitions.
-use Rattle.std.specs.Prelude.{ℕ, ◌*◌, cond, List, [], ◌++◌, map, replicate, drop, Float}
+use Rattle.std.specs.Prelude.{ℕ, ◌*◌, cond, List, [], ◌++◌, map, replicate, drop, Float, Result, Ok, Err}
 use Rattle.std.specs.Float.{binary64}
 use Rattle.std.specs.Float.Ieee.{to_bits}
 use Rattle.chunks.specs.Flat.{flat}
 use Rattle.order.specs.Numbers.{fzero}
 use Rattle.model.specs.declared.Domain.{Domain}
-use Rattle.model.specs.declared.Started.{Started}
-use Rattle.model.specs.declared.Started.TheVariants as start
+use Rattle.model.specs.declared.refusal.StartError.{StartError}
 use Rattle.model.specs.declared.Report.{Report}
-use Rattle.model.specs.declared.Report.TheVariants.{Synchronised, Spent, Refused}
+use Rattle.model.specs.Refusals.{start_error_number}
+use Rattle.model.specs.Reports.{how_of}
 use Rattle.model.specs.Run.{How, synchronised, spent, refused}
 use Rattle.tables.specs.declared.Sizes.{Sizes}
 use Rattle.tables.specs.Lengths.{lists_need, grains_need, queue_need, events_need, order_need}
 use Rattle.tables.specs.Decode.{Tables, tables, grains_of, grains_part}
-use Rattle.simulator.specs.Start.{StartedWith, start_all}
-use Rattle.running.specs.Ran.{RanTables, told_tables}
+use Rattle.simulator.specs.Start.{Started, StartedWith, start_all}
+use Rattle.running.specs.Ran.{RanTables}
 use Rattle.simulator.specs.Run.{run_tables}
 use Rattle.listing_text.specs.declared.writer.Answer.TheVariants as answer
 use Rattle.listing_text.specs.Columns.{columns, most_kept, kept}
@@ -25,15 +25,29 @@ use Rattle.listing_text.specs.Size.{too_large}
 use Rattle.answers.specs.Answer.{float, box_from, shown_grain, room, budget}
 use Rattle.answers.specs.Read.{input_from}
 
--- ---- a start's answer as the report of a run: one that is accepted stands where a run can begin, at the clock 0
-abbrev pub by_answer : Started → Report
-by_answer start.Accepted = Synchronised fzero 0
-by_answer (start.Halted r) = Refused r fzero 0
-by_answer (start.Refused r) = Refused r fzero 0
-by_answer (start.BadGrain g) = Refused 4 fzero 0
+-- ---- how a start and its runs ended, at which clock, and how many events the last run did; a start that is not accepted is at the clock 0
+abbrev pub how_ended : Result Report StartError → How
+how_ended (Ok r) = how_of r.end
+how_ended (Err e) = refused (start_error_number e)
+
+abbrev pub clock_at : Result Report StartError → Float
+clock_at (Ok r) = r.clock
+clock_at (Err e) = fzero
+
+abbrev pub count_done : Result Report StartError → ℕ
+count_done (Ok r) = r.events
+count_done (Err e) = 0
+
+abbrev pub told_all : Result Report StartError → Tables → RanTables
+told_all r t = record { how = how_ended r; clock = clock_at r; count = count_done r; after = t }
+
+-- ---- a start's answer, of this number, as that of a run: one that is accepted stands where a run can begin, at the clock 0
+abbrev pub by_answer : Started → ℕ → How
+by_answer (Ok a) r = synchronised
+by_answer (Err e) r = refused r
 
 abbrev pub started_report : StartedWith → RanTables
-started_report w = told_tables (by_answer w.answer) w.after
+started_report w = record { how = by_answer w.answer w.number; clock = fzero; count = 0; after = w.after }
 
 -- ---- a run, behind whatever synchronised
 abbrev pub ran_again : How → Float → RanTables → RanTables
@@ -65,18 +79,10 @@ blank =
     (replicate order_need 0)
 
 -- ---- what is written
-abbrev pub spelt : Report → ℕ → List ℕ → List ℕ
-spelt (Synchronised t k) n l = rows_listing (to_bits binary64 t) n l
-spelt (Spent t k) n l = answer_of answer.Spent
-spelt (Refused r t k) n l = answer_of (answer.Refused r)
-
-abbrev pub report_by : How → Float → ℕ → Report
-report_by synchronised t k = Synchronised t k
-report_by spent t k = Spent t k
-report_by (refused r) t k = Refused r t k
-
-abbrev pub report_of : RanTables → Report
-report_of r = report_by r.how r.clock r.count
+abbrev pub spelt : How → Float → ℕ → List ℕ → List ℕ
+spelt synchronised t n l = rows_listing (to_bits binary64 t) n l
+spelt spent t n l = answer_of answer.Spent
+spelt (refused r) t n l = answer_of (answer.Refused r)
 
 -- the box that was read
 abbrev pub box_read : List ℕ → Domain
@@ -87,7 +93,7 @@ abbrev pub rows : ℕ → Tables → List ℕ
 rows n t = flat columns_of (map shown_grain (grains_of n (grains_part t.grains))) ++ drop (n * columns) (replicate kept 0)
 
 abbrev pub spelling : RanTables → ℕ → List ℕ
-spelling r n = spelt (report_of r) n (rows n r.after)
+spelling r n = spelt r.how r.clock n (rows n r.after)
 
 unfoldable pub served : Domain → Float → List ℕ → ℕ → List ℕ
 served b rate grains n = spelling (simulated b n rate (map float grains) blank) n

@@ -3,11 +3,11 @@ ghost use Rattle.std.specs.Prelude.{◌≡◌, ◌≤◌};
 ghost use Rattle.text.specs.Put.{Put};
 ghost use Rattle.listing_text.specs.Columns.{most_kept};
 ghost use Rattle.answers.specs.Read.{OfAnswer, answered};
-ghost use Rattle.answers.specs.Runs.{box_read, spelt, served, judged};
+ghost use Rattle.answers.specs.Runs.{box_read, how_ended, clock_at, spelt, served, judged};
 
 use crate::{rows, runs};
 use listing_text::{Answer, KEPT, Reader, put_answer, put_listing, too_large};
-use model::{Domain, Report};
+use model::{Domain, End, Report, StartError};
 use myvec::MyVec;
 use text::{NUMBERS, bits_of_float, float_of_bits};
 
@@ -20,25 +20,21 @@ fn box_of(numbers: &[u64; NUMBERS]) -> Domain
 }
 
 // The listing of n grains, or the line that says why there is none.
-fn put_report(out: &mut [u8; 4096], report: Report, bits: &[u64; KEPT], n: usize) -> usize
-    ensures { Put 0 (spelt report n bits.now) out.old out.new result }
+fn put_report(
+    out: &mut [u8; 4096],
+    served: Result<Report, StartError>,
+    bits: &[u64; KEPT],
+    n: usize,
+) -> usize
+    ensures { Put 0 (spelt (how_ended served) (clock_at served) n bits.now) out.old out.new result }
 {
-    match report {
-        Report::Synchronised { clock, events: _ } => put_listing(
-            out,
-            bits_of_float(clock),
-            bits,
-            n,
-        ),
-        Report::Spent {
-            clock: _,
-            events: _,
-        } => put_answer(out, Answer::Spent),
-        Report::Refused {
-            number,
-            clock: _,
-            events: _,
-        } => put_answer(out, Answer::Refused(number)),
+    match served {
+        Ok(report) => match report.end {
+            Ok(End::Synchronised) => put_listing(out, bits_of_float(report.clock), bits, n),
+            Ok(End::Spent) => put_answer(out, Answer::Spent),
+            Err(error) => put_answer(out, Answer::Refused(u64::from(error))),
+        },
+        Err(error) => put_answer(out, Answer::Refused(u64::from(error))),
     }
 }
 
@@ -56,8 +52,8 @@ fn put_served(
     let mut inputs = [0f64; KEPT];
     rows::floats(grains, &mut inputs);
     let mut bits = [0u64; KEPT];
-    let report = runs::serve(domain, n, rate, &inputs, &mut bits);
-    put_report(out, report, &bits, n)
+    let served = runs::serve(domain, n, rate, &inputs, &mut bits);
+    put_report(out, served, &bits, n)
 }
 
 // The answer to a text of the form, of the numbers that were read.

@@ -1,17 +1,16 @@
 // A start, and a run through the synchronisation at 0 and another to the next, over five tables.
 ghost use Rattle.std.specs.Prelude.{◌≡◌, ◌++◌, map, ◌*◌, ◌≤◌, drop};
-ghost use Rattle.order.specs.Numbers.{fzero};
 ghost use Rattle.chunks.specs.Flat.{flat};
 ghost use Rattle.tables.specs.Decode.{tables, grains_of, grains_part};
 ghost use Rattle.running.specs.Ran.{told_tables};
 ghost use Rattle.listing_text.specs.Columns.{columns, most_kept};
 ghost use Rattle.listing_text.specs.Grammar.{columns_of};
 ghost use Rattle.answers.specs.Answer.{shown_grain};
-ghost use Rattle.answers.specs.Runs.{by_answer, go_on, simulated, report_of, blank};
+ghost use Rattle.answers.specs.Runs.{told_all, go_on, simulated, blank};
 
 use crate::rows;
 use listing_text::{KEPT, MOST};
-use model::{Domain, Report, Started};
+use model::{Domain, End, Report, StartError};
 
 // The cells that are served, and the events that a cell holds.
 const CELLS: usize = 9;
@@ -30,32 +29,7 @@ const EVENTS: usize = CELLS * (ROOM * layout::PLACE_REALS);
 // The events that a run may do.
 const BUDGET: u32 = 65536;
 
-// A start's answer, as a run's report. One that is accepted stands where a run can begin, at the clock 0.
-fn begun(started: Started) -> Report
-    ensures { result ≡ by_answer started }
-{
-    match started {
-        Started::Accepted => Report::Synchronised {
-            clock: 0.0,
-            events: 0,
-        },
-        Started::Halted { number } => refused(number),
-        Started::Refused { number } => refused(number),
-        Started::BadGrain { grain: _ } => refused(4),
-    }
-}
-
-fn refused(number: u64) -> Report
-    ensures { result ≡ Report.Refused number fzero 0 }
-{
-    Report::Refused {
-        number,
-        clock: 0.0,
-        events: 0,
-    }
-}
-
-// A run, behind a start or a run that synchronised.
+// A run, behind a run that synchronised.
 fn go_on(
     report: Report,
     lists: &mut [u64],
@@ -68,27 +42,9 @@ fn go_on(
     ensures { told_tables result (tables lists.new grains.new queue.new events.new order.new)
         ≡ go_on rate (told_tables report (tables lists.old grains.old queue.old events.old order.old)) }
 {
-    match report {
-        Report::Synchronised {
-            clock: _,
-            events: _,
-        } => simulator::run::run(lists, grains, queue, events, order, rate, BUDGET),
-        Report::Spent {
-            clock,
-            events: done,
-        } => Report::Spent {
-            clock,
-            events: done,
-        },
-        Report::Refused {
-            number,
-            clock,
-            events: done,
-        } => Report::Refused {
-            number,
-            clock,
-            events: done,
-        },
+    match report.end {
+        Ok(End::Synchronised) => simulator::run::run(lists, grains, queue, events, order, rate, BUDGET),
+        Ok(End::Spent) | Err(_) => report,
     }
 }
 
@@ -103,11 +59,11 @@ fn simulate(
     queue: &mut [u64],
     events: &mut [f64],
     order: &mut [u8],
-) -> Report
-    ensures { told_tables result (tables lists.new grains.new queue.new events.new order.new)
+) -> Result<Report, StartError>
+    ensures { told_all result (tables lists.new grains.new queue.new events.new order.new)
         ≡ simulated domain count rate inputs.now (tables lists.old grains.old queue.old events.old order.old) }
 {
-    let started = begun(simulator::start::start(
+    let started = simulator::start::start(
         domain,
         count,
         ROOM as u64,
@@ -117,9 +73,10 @@ fn simulate(
         queue,
         events,
         order,
-    ));
-    let first = go_on(started, lists, grains, queue, events, order, rate);
-    go_on(first, lists, grains, queue, events, order, rate)
+    );
+    started?;
+    let first = simulator::run::run(lists, grains, queue, events, order, rate, BUDGET);
+    Ok(go_on(first, lists, grains, queue, events, order, rate))
 }
 
 // The same on tables of those lengths, and the grains' numbers as bits.
@@ -129,9 +86,9 @@ pub(crate) fn serve(
     rate: f64,
     inputs: &[f64; KEPT],
     bits: &mut [u64; KEPT],
-) -> Report
+) -> Result<Report, StartError>
     requires { n ≤ most_kept }
-    ensures value { result ≡ report_of (simulated domain n rate inputs.now blank) }
+    ensures value { told_all result (simulated domain n rate inputs.now blank).after ≡ simulated domain n rate inputs.now blank }
     ensures bits_after { bits.new ≡ flat columns_of (map shown_grain (grains_of n (grains_part (simulated domain n rate inputs.now blank).after.grains))) ++ drop (n * columns) bits.old }
 {
     let mut lists = [0u64; LISTS];
