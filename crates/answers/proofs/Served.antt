@@ -13,7 +13,6 @@ use borrow.Author.Tests.{le-leb, le-ltb, ltb-false, eqb-true}
 use Rattle.chunks.specs.Flat.{flat}
 use Rattle.model.specs.declared.Domain.{Domain}
 use Rattle.model.specs.declared.Particle.{Particle}
-use Rattle.model.specs.declared.Started.TheVariants as start-answer
 use Rattle.model.specs.Grid.{length_of, cells}
 use Rattle.model.specs.Sizes.{box_ok}
 use Rattle.model.specs.State.{State}
@@ -48,7 +47,6 @@ use Rattle.listing_text.specs.Size.{long_length, too_large}
 use Rattle.answers.specs.Answer.{float, shown_grain, grain_from, room, budget, by_how, listing, to_next, unless_halted, after_start, answer_to}
 use Rattle.answers.specs.Read.{input_from, input_of, answered}
 use Rattle.answers.specs.Runs.{started_report, go_on, simulated, lent_cells, lent_sizes, blank, spelt, box_read, rows, spelling, served, judged}
-use Rattle.answers.specs.Runs as runs
 use Rattle.answers.proofs.RowLaws.{inputs_are, shown_back}
 use Rattle.answers.proofs.NineCells.{nine_cells}
 
@@ -151,7 +149,7 @@ module _ (b : Domain) (F : Fits b) (n : ℕ) (few : n ≤ most_kept) (nine : cel
       ap (λ (ps : List Particle). grains_from (flat columns_of (map shown_grain ps) ++ drop (n * columns) (replicate {A = ℕ} kept_numbers 0)) 0 n) grains_read
       ∙ shown_back (map shown_grain v.grains) n (length-map v.grains shown_grain ∙ many) few
 
-  listing_is : (h : How) → spelt (runs.report_by h second.clock second.count) n (rows n (encoded v ground)) ≡ by_how h (listing_of (to_bits binary64 second.clock) (map shown_grain v.grains))
+  listing_is : (h : How) → spelt h second.clock n (rows n (encoded v ground)) ≡ by_how h (listing_of (to_bits binary64 second.clock) (map shown_grain v.grains))
   listing_is synchronised = ap (λ (x : Bool). cond x [] (listing_of (to_bits binary64 second.clock) (grains_from (rows n (encoded v ground)) 0 n))) (le-ltb most_kept n few) ∙ ap (listing_of (to_bits binary64 second.clock)) shown_read
   listing_is spent = refl
   listing_is (refused_by r) = refl
@@ -170,14 +168,10 @@ module _ (b : Domain) (F : Fits b) (n : ℕ) (few : n ≤ most_kept) (inputs : L
   both_runs w = go_on rate (go_on rate (started_report w))
 
   begun_is : cells b ≡ lent_cells → (x : Begun) → start b room (inputs_of n inputs) ≡ x → spelling (both_runs (started_over x blank)) n ≡ after_start rate x
-  begun_is nine (refused r g) e = by (eqb r 4) refl
-    where
-      by : (y : Bool) → eqb r 4 ≡ y → spelling (both_runs (with (cond y (start-answer.BadGrain g) (start-answer.Refused r)) blank)) n ≡ answer_of (Refused r)
-      by true h = ap (λ (k : ℕ). answer_of (Refused k)) (sym (eqb-true r 4 h))
-      by false h = refl
+  begun_is nine (refused r g) e = refl
   begun_is nine (started s) e = by s.mark
     where
-      by : (m : ℕ) → spelling (both_runs (with (simulator.mark_told m) (encoded s ground))) n ≡ unless_halted m (to_next rate (run_all rate budget s))
+      by : (m : ℕ) → spelling (both_runs (record { number = m; grain = 0; answer = simulator.mark_told m; after = encoded s ground })) n ≡ unless_halted m (to_next rate (run_all rate budget s))
       by zero = runs_are b F n few nine inputs rate s e
       by (suc r) = refl
 
@@ -185,7 +179,7 @@ module _ (b : Domain) (F : Fits b) (n : ℕ) (few : n ≤ most_kept) (inputs : L
   unfolding start_all
   open_start h nine k = rw (h, fits_blank b n few nine inputs k)
 
-  shut_tables : box_ok b ≡ false → start_all b n room inputs blank ≡ with (start-answer.Refused 1) blank
+  shut_tables : box_ok b ≡ false → start_all b n room inputs blank ≡ with (simulator.by_number 1 0) blank
   unfolding start_all
   shut_tables h = rw h
 

@@ -43,7 +43,9 @@ fn go_on(
         ≡ go_on rate (told_tables report (tables lists.old grains.old queue.old events.old order.old)) }
 {
     match report.end {
-        Ok(End::Synchronised) => simulator::run::run(lists, grains, queue, events, order, rate, BUDGET),
+        Ok(End::Synchronised) => simulator::run::run(
+            lists, grains, queue, events, order, rate, BUDGET,
+        ),
         Ok(End::Spent) | Err(_) => report,
     }
 }
