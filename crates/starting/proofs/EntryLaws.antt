@@ -97,47 +97,47 @@ module _ {S : Type 0} (act : ℕ → S → Out S) where
 abbrev entering : ℕ → List ℕ → State → Out State
 entering g cs s = each_of (enter g) cs s
 
--- a grain that was to enter the cells cs has only ds left to enter, and what that then does, entering all does
-abbrev pub Left : Sizes → ℕ → List ℕ → List ℕ → List ℕ → List ℕ → Type 0
-Left z g cs ds l₀ l = Enters z l g ds
-    × ((l' : List ℕ) (r : ℕ) → ((s : State) → InLists z l s → ListsTold z l' r (entering g ds s)) → (s : State) → InLists z l₀ s → ListsTold z l' r (entering g cs s))
+-- of the cells cs a grain has only ds left to enter, and what that then does, entering all does
+pub record Left (z : Sizes) (g : ℕ) (cs ds l₀ l : List ℕ) : Type 0 where
+  pub asks : Enters z l g ds
+  pub goes : (l' : List ℕ) (r : ℕ) → ((s : State) → InLists z l s → ListsTold z l' r (entering g ds s)) → (s : State) → InLists z l₀ s → ListsTold z l' r (entering g cs s)
 
 pub left_all : {z : Sizes} {g : ℕ} {cs l : List ℕ} → Enters z l g cs → Left z g cs cs l l
-left_all E = (E, λ l' r k. k)
+left_all E = record { asks = E; goes = λ l' r k. k }
 
 module _ {z : Sizes} {g : ℕ} {cs ds l₀ l : List ℕ} (G : Left z g cs ds l₀ l) where
   pub left_none : ds ≡ [] → (s : State) → InLists z l₀ s → ListsTold z l 0 (entering g cs s)
   unfolding each_of
-  left_none e = G.1 l 0 (λ s S. subst (λ (k : List ℕ). ListsTold z l 0 (entering g k s)) (sym e) (refl, S))
+  left_none e = G.goes l 0 (λ s S. subst (λ (k : List ℕ). ListsTold z l 0 (entering g k s)) (sym e) (refl, S))
 
   -- ---- one cell, and then the others
-  module _ (c : ℕ) (es : List ℕ) (e : ds ≡ c ∷ es) where
+  module _ {c : ℕ} {es : List ℕ} (e : ds ≡ c ∷ es) where
     pub one_asks : Lists z l × Ranged z × (g < z.grains) × (c < z.cells)
-    one_asks = (G.0.lists, G.0.ranged, G.0.known, (subst (All (λ (c : ℕ). c < z.cells)) e G.0.below).0)
+    one_asks = (G.asks.lists, G.asks.ranged, G.asks.known, (subst (All (λ (c : ℕ). c < z.cells)) e G.asks.below).0)
 
     pub one_halts : {A : Type 0} {l' : List ℕ} (r : Result A Halt) (h : Halt) → IsErrAnd r (λ (x : Halt). x ≡ h) → ((s : State) → InLists z l s → ListsTold z l' (halt_number h) (enter g c s))
         → (s : State) → InLists z l₀ s → ListsTold z l' (number_of r) (entering g cs s)
     unfolding each_of
     one_halts {l' = l'} r h b t =
-        G.1 l' (number_of r) (λ s S. subst (λ (k : List ℕ). ListsTold z l' (number_of r) (entering g k s)) (sym e) (told_halt (InLists z l') (enter g c s) (each_of (enter g) es) r h b (t s S)))
+        G.goes l' (number_of r) (λ s S. subst (λ (k : List ℕ). ListsTold z l' (number_of r) (entering g k s)) (sym e) (told_halt (InLists z l') (enter g c s) (each_of (enter g) es) r h b (t s S)))
 
     pub one_left : {l' : List ℕ} → ((s : State) → InLists z l s → ListsTold z l' 0 (enter g c s)) → Left z g cs es l₀ l'
     unfolding each_of
-    one_left {l'} t = (
-      record {
-        lists = ((enter g c G.0.lists.0).st, (t G.0.lists.0 G.0.lists.1).1);
-        ranged = G.0.ranged;
-        known = G.0.known;
-        below = (subst (All (λ (c : ℕ). c < z.cells)) e G.0.below).1;
-      },
-      λ l'' r k. G.1 l'' r
-          (λ s S. subst (λ (k : List ℕ). ListsTold z l'' r (entering g k s)) (sym e) (told_next (InLists z l') (InLists z l'') (enter g c s) (each_of (enter g) es) (t s S) (k (enter g c s).st (t s S).1))),
-    )
+    one_left {l'} t = record {
+      asks = record {
+        lists = ((enter g c G.asks.lists.0).st, (t G.asks.lists.0 G.asks.lists.1).1);
+        ranged = G.asks.ranged;
+        known = G.asks.known;
+        below = (subst (All (λ (c : ℕ). c < z.cells)) e G.asks.below).1;
+      };
+      goes = λ l'' r k. G.goes l'' r
+          (λ s S. subst (λ (k : List ℕ). ListsTold z l'' r (entering g k s)) (sym e) (told_next (InLists z l') (InLists z l'') (enter g c s) (each_of (enter g) es) (t s S) (k (enter g c s).st (t s S).1)));
+    }
 
   -- ---- some cells, and then the others
   module _ (xs es : List ℕ) (e : ds ≡ xs ++ es) where
     pub some_asks : Enters z l g xs
-    some_asks = record { lists = G.0.lists; ranged = G.0.ranged; known = G.0.known; below = every_front (λ (c : ℕ). c < z.cells) xs es (subst (All (λ (c : ℕ). c < z.cells)) e G.0.below) }
+    some_asks = record { lists = G.asks.lists; ranged = G.asks.ranged; known = G.asks.known; below = every_front (λ (c : ℕ). c < z.cells) xs es (subst (All (λ (c : ℕ). c < z.cells)) e G.asks.below) }
 
     entering_is : (s : State) → entering g ds s ≡ then (entering g xs s) (each_of (enter g) es)
     entering_is s = ap (λ (k : List ℕ). entering g k s) e ∙ each_append (enter g) xs es s
@@ -145,16 +145,16 @@ module _ {z : Sizes} {g : ℕ} {cs ds l₀ l : List ℕ} (G : Left z g cs ds l�
     pub some_halt : {A : Type 0} {l' : List ℕ} (r : Result A Halt) (h : Halt) → IsErrAnd r (λ (x : Halt). x ≡ h) → ((s : State) → InLists z l s → ListsTold z l' (halt_number h) (entering g xs s))
         → (s : State) → InLists z l₀ s → ListsTold z l' (number_of r) (entering g cs s)
     some_halt {l' = l'} r h b t =
-        G.1 l' (number_of r) (λ s S. subst (λ (o : Out State). ListsTold z l' (number_of r) o) (sym (entering_is s)) (told_halt (InLists z l') (entering g xs s) (each_of (enter g) es) r h b (t s S)))
+        G.goes l' (number_of r) (λ s S. subst (λ (o : Out State). ListsTold z l' (number_of r) o) (sym (entering_is s)) (told_halt (InLists z l') (entering g xs s) (each_of (enter g) es) r h b (t s S)))
 
     pub some_left : {l' : List ℕ} → ((s : State) → InLists z l s → ListsTold z l' 0 (entering g xs s)) → Left z g cs es l₀ l'
-    some_left {l'} t = (
-      record {
-        lists = ((entering g xs G.0.lists.0).st, (t G.0.lists.0 G.0.lists.1).1);
-        ranged = G.0.ranged;
-        known = G.0.known;
-        below = all_after (λ (c : ℕ). c < z.cells) xs es (subst (All (λ (c : ℕ). c < z.cells)) e G.0.below);
-      },
-      λ l'' r k. G.1 l'' r
-          (λ s S. subst (λ (o : Out State). ListsTold z l'' r o) (sym (entering_is s)) (told_next (InLists z l') (InLists z l'') (entering g xs s) (each_of (enter g) es) (t s S) (k (entering g xs s).st (t s S).1))),
-    )
+    some_left {l'} t = record {
+      asks = record {
+        lists = ((entering g xs G.asks.lists.0).st, (t G.asks.lists.0 G.asks.lists.1).1);
+        ranged = G.asks.ranged;
+        known = G.asks.known;
+        below = all_after (λ (c : ℕ). c < z.cells) xs es (subst (All (λ (c : ℕ). c < z.cells)) e G.asks.below);
+      };
+      goes = λ l'' r k. G.goes l'' r
+          (λ s S. subst (λ (o : Out State). ListsTold z l'' r o) (sym (entering_is s)) (told_next (InLists z l') (InLists z l'') (entering g xs s) (each_of (enter g) es) (t s S) (k (entering g xs s).st (t s S).1)));
+    }

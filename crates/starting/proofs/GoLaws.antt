@@ -130,24 +130,24 @@ module _ (w : World) (inputs : List Float) where
   abbrev going : ℕ → State → Out State
   going = goes_in (inputs_of w.sizes.grains inputs)
 
-  abbrev pub LeftIn : ℕ → List ℕ → List Float → List ℕ → List Float → Type 0
-  LeftIn i l₀ t₀ l t = Going w inputs l t
-      × ((l' : List ℕ) (t' : List Float) (r : ℕ) → ((s : State) → InBoth w l t s → BothTold w l' t' r (each going (w.sizes.grains - i) i s))
-      → (s : State) → InBoth w l₀ t₀ s → BothTold w l' t' r (each going w.sizes.grains 0 s))
+  pub record LeftIn (i : ℕ) (l₀ : List ℕ) (t₀ : List Float) (l : List ℕ) (t : List Float) : Type 0 where
+    pub asks : Going w inputs l t
+    pub goes : (l' : List ℕ) (t' : List Float) (r : ℕ) → ((s : State) → InBoth w l t s → BothTold w l' t' r (each going (w.sizes.grains - i) i s))
+        → (s : State) → InBoth w l₀ t₀ s → BothTold w l' t' r (each going w.sizes.grains 0 s)
 
   pub all_left : {l : List ℕ} {t : List Float} → Going w inputs l t → LeftIn 0 l t l t
-  all_left G = (G, λ l' t' r k s S. all_told (InBoth w l' t') going s refl (k s S))
+  all_left G = record { asks = G; goes = λ l' t' r k s S. all_told (InBoth w l' t') going s refl (k s S) }
 
   module _ {i : ℕ} {l₀ l : List ℕ} {t₀ t : List Float} (G : LeftIn i l₀ t₀ l t) where
     pub none_left : w.sizes.grains ≤ i → i ≤ w.sizes.grains → (s : State) → InBoth w l₀ t₀ s → BothTold w l t 0 (each going w.sizes.grains 0 s)
-    none_left a b = G.1 l t 0 (λ s S. each-end going s (InBoth w l t) w.sizes.grains i (omega arith) S)
+    none_left a b = G.goes l t 0 (λ s S. each-end going s (InBoth w l t) w.sizes.grains i (omega arith) S)
 
     pub next_halts : {A : Type 0} {l' : List ℕ} {t' : List Float} (r : Result A Halt) (h : Halt) → i < w.sizes.grains → IsErrAnd r (λ (x : Halt). x ≡ h)
         → ((s : State) → InBoth w l t s → BothTold w l' t' (halt_number h) (going i s)) → (s : State) → InBoth w l₀ t₀ s → BothTold w l' t' (number_of r) (each going w.sizes.grains 0 s)
-    next_halts {l' = l'} {t' = t'} r h b e f = G.1 l' t' (number_of r) (λ s S. each-halt going s (InBoth w l' t') w.sizes.grains i r h b e (f s S))
+    next_halts {l' = l'} {t' = t'} r h b e f = G.goes l' t' (number_of r) (λ s S. each-halt going s (InBoth w l' t') w.sizes.grains i r h b e (f s S))
 
     pub next_left : {l' : List ℕ} {t' : List Float} → i < w.sizes.grains → ((s : State) → InBoth w l t s → BothTold w l' t' 0 (going i s)) → LeftIn (i + 1) l₀ t₀ l' t'
-    next_left {l'} {t'} b f = (
-      record { held = ((going i G.0.held.0).st, (f G.0.held.0 G.0.held.1).1); ranged = G.0.ranged; inputs_long = G.0.inputs_long },
-      λ l'' t'' r k. G.1 l'' t'' r (λ s S. each-next going s (InBoth w l' t') (InBoth w l'' t'') w.sizes.grains i b (f s S) (k (going i s).st (f s S).1)),
-    )
+    next_left {l'} {t'} b f = record {
+      asks = record { held = ((going i G.asks.held.0).st, (f G.asks.held.0 G.asks.held.1).1); ranged = G.asks.ranged; inputs_long = G.asks.inputs_long };
+      goes = λ l'' t'' r k. G.goes l'' t'' r (λ s S. each-next going s (InBoth w l' t') (InBoth w l'' t'') w.sizes.grains i b (f s S) (k (going i s).st (f s S).1));
+    }

@@ -18,10 +18,10 @@ pub enter_span-requires-2 : goal.enter_span-requires-2
 enter_span-requires-2 c =
     let a = c.args in
     (some_left (left_all c.requires) (row_cells a.w.grid.n0 (between a.x.first.lo a.x.first.hi) a.j) (row_cells a.w.grid.n0 (between a.x.second.lo a.x.second.hi) a.j) (row_two a.w.grid.n0 a.x a.j)
-    c.in_ok-enter_span.ensures).0
+    c.in_ok-enter_span.ensures).asks
 
 pub returns : goal.returns
 returns c =
     let a = c.args in
     (some_left (left_all c.requires) (row_cells a.w.grid.n0 (between a.x.first.lo a.x.first.hi) a.j) (row_cells a.w.grid.n0 (between a.x.second.lo a.x.second.hi) a.j) (row_two a.w.grid.n0 a.x a.j)
-    c.in_ok-enter_span.ensures).1 c.enter_span-2.new.lists _ c.enter_span-2.ensures
+    c.in_ok-enter_span.ensures).goes c.enter_span-2.new.lists _ c.enter_span-2.ensures

@@ -6,4 +6,4 @@ use Rattle.starting.proofs.entries.enter_rows.Given as goal
 
 abbrev pub invariant-loop-j : goal.invariant-loop-j
 invariant-loop-j l =
-    Left l.w.sizes l.grain (grid_cells l.w.grid.n0 (cells_in l.x) (between l.rows.lo l.rows.hi)) (grid_cells l.w.grid.n0 (cells_in l.x) (between l.j l.rows.hi)) l.initial.lists l.lists
+    Left l.w.sizes l.grain (grid_cells l.w.grid.n0 (cells_in l.x) (between l.fn.rows.lo l.fn.rows.hi)) (grid_cells l.w.grid.n0 (cells_in l.x) (between l.j l.fn.rows.hi)) l.initial.lists l.lists

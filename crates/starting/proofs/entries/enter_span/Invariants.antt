@@ -5,4 +5,4 @@ use Rattle.starting.proofs.entries.enter_span.Given as goal
 
 abbrev pub invariant-loop-i : goal.invariant-loop-i
 invariant-loop-i l =
-    Left l.w.sizes l.grain (row_cells l.w.grid.n0 (between l.cells.lo l.cells.hi) l.j) (row_cells l.w.grid.n0 (between l.i l.cells.hi) l.j) l.initial.lists l.lists
+    Left l.w.sizes l.grain (row_cells l.w.grid.n0 (between l.fn.cells.lo l.fn.cells.hi) l.j) (row_cells l.w.grid.n0 (between l.i l.fn.cells.hi) l.j) l.initial.lists l.lists

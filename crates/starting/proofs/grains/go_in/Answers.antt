@@ -6,7 +6,7 @@ pub loop-i-init : goal.loop-i-init
 loop-i-init c = all_left c.args.w c.args.inputs.now c.requires
 
 pub goes_in-requires : goal.goes_in-requires
-goes_in-requires c = (c.loop-i.invariant.0, c.loop-i-test.true)
+goes_in-requires c = (c.loop-i.invariant.asks, c.loop-i-test.true)
 
 pub returns-in_err-goes_in : goal.returns-in_err-goes_in
 returns-in_err-goes_in c =
