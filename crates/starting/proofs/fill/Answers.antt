@@ -1,27 +1,15 @@
-use Rattle.starting.proofs.BeginLaws.{fill_going, fill_stop, fill-some, fill_on}
-use native.Mathlib.Omega.{arith}
+use Rattle.starting.proofs.BeginLaws.{fill_going, fill_halts, fill-some, fill_on}
 use Rattle.starting.proofs.fill.Goals as goal
 
-pub go_in-one-requires : goal.go_in-one-requires
-go_in-one-requires c =
-    let a = c.args in
-    let F = c.requires in
-    (fill_going a.inputs.now F, omega arith)
+pub go_in-requires : goal.go_in-requires
+go_in-requires c = fill_going c.args.inputs.now c.requires
 
-pub returns-then-one-ne0 : goal.returns-then-one-ne0
-returns-then-one-ne0 c =
-    let a = c.args in
-    let F = c.requires in
-    fill_stop a.inputs.now F c.go_in-one.ensures c.if-one-ne0.true
+pub returns-in_err-go_in-clause-says : goal.returns-in_err-go_in-clause-says
+returns-in_err-go_in-clause-says c =
+    fill_halts c.args.inputs.now c.requires c.from_residual.result c.in_err-go_in.field-0.0 c.from_residual.ensures.1 c.in_err-go_in.ensures
 
 pub init_events-requires : goal.init_events-requires
-init_events-requires c =
-    let a = c.args in
-    let F = c.requires in
-    (fill-some a.inputs.now F c.go_in-one.ensures, F.placed)
+init_events-requires c = fill-some c.args.inputs.now c.requires c.in_ok-go_in.ensures
 
-pub returns : goal.returns
-returns c =
-    let a = c.args in
-    let F = c.requires in
-    fill_on a.inputs.now F c.go_in-one.ensures c.if-one-ne0.false c.init_events.ensures
+pub returns-clause-says : goal.returns-clause-says
+returns-clause-says c = fill_on c.args.inputs.now c.requires c.in_ok-go_in.ensures c.init_events.ensures.does

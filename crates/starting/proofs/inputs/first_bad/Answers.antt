@@ -16,4 +16,4 @@ loop-i-preserved c =
     below_more _ c.loop-i.i c.loop-i.invariant (sym (c.grain_ok.ensures ∙ ap (grain_ok c.args.domain) c.get_input.ensures) ∙ c.if-not-grain_ok.false)
 
 pub returns : goal.returns
-returns c = bad_none c.args.domain c.args.n c.args.inputs.now ?
+returns c = bad_none c.args.domain c.args.n c.args.inputs.now (λ k h. c.loop-i.invariant k (omega (arith, h)))
