@@ -1,7 +1,19 @@
+use Prim.Native.Nat.{◌<◌}
+use Rattle.halting.proofs.All.{all_at}
 use Rattle.model.specs.Doing.{schedule_events}
 use Rattle.step.proofs.Does.{goes_on, goes_halt, goes_end, list_turn, list_end, same_then}
+use Rattle.step.proofs.Leaves.{homes_below}
 use Rattle.step.proofs.Scheduling.{again_does}
 use Rattle.step.proofs.schedule.again.Goals as goal
+
+pub schedule_events-requires : goal.schedule_events-requires
+schedule_events-requires c =
+    let a = c.args in
+    let o = c.requires.0 in
+    let l = c.loop-cell in
+    let items = c.cells_of-cell-items in
+    let m = homes_below o.0 o.1.listed a.p c.requires.1 (items.ensures o.0 o.1.listed) in
+    (l.invariant.on.some, c.requires.1, all_at (λ k. k < a.w.sizes.cells) items.result.now l.cell-index 0 m c.loop-cell-test.true)
 
 pub returns-in_err-schedule_events-clause-does : goal.returns-in_err-schedule_events-clause-does
 returns-in_err-schedule_events-clause-does c =

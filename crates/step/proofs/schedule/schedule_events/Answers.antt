@@ -4,6 +4,12 @@ use Rattle.step.proofs.Leaves.{members_below}
 use Rattle.step.proofs.Does.{after}
 use Rattle.step.proofs.schedule.schedule_events.Goals as goal
 
+pub step_others-requires : goal.step_others-requires
+step_others-requires c =
+    let a = c.args in
+    let o = c.requires.0 in
+    ((o.0, o.1.seen.grained), o.1.seen.queued.ranged, members_below o.0 o.1.listed a.cell c.requires.2 (c.members_of-members.ensures o.0 o.1.listed))
+
 pub returns-in_err-step_others-clause-does : goal.returns-in_err-step_others-clause-does
 returns-in_err-step_others-clause-does c =
     let a = c.args in
