@@ -1,7 +1,7 @@
 -- Turns one after another, and what the end of them means. Assumes nothing.
 use Rattle.std.proofs.Common.{ℕ, ◌+◌, ◌≤◌, ◌≡◌, refl, sym, ap, ◌∙◌, subst, Bool, true, false, List, [], ◌∷◌, ◌++◌, append-nil, length}
 use mathlib.Core.Bool.{true≢false}
-use Rattle.core.specs.declared.result.Result.{Result}
+use Rattle.std.specs.declared.result.Result.{Result}
 use Rattle.pipes.specs.Counts.{Moved}
 use Rattle.pipes.specs.Reads.{Read, failed, over, gave, read_by, bytes_of, by_end, goes_on_of, over_of}
 use Rattle.pipes.proofs.ReadLaws.{one_read, reads_then, reads_most, text_then, end_then}

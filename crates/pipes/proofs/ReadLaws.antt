@@ -4,7 +4,7 @@ use mathlib.Core.Bool.{true≢false, false≢true}
 use native.Mathlib.Nat.{zero-add, suc-add}
 use lib.Seq.{length-take-le}
 use Rattle.std.specs.Prelude.{Ok, Err}
-use Rattle.core.specs.declared.result.Result.{Result}
+use Rattle.std.specs.declared.result.Result.{Result}
 use Rattle.pipes.specs.Counts.{Moved}
 use Rattle.pipes.specs.Reads.{Read, failed, over, gave, Reads, spent, ended, broken, more, read_by, bytes_of, by_end, goes_on_of}
 

@@ -3,7 +3,7 @@ use Rattle.std.proofs.Common.{ℕ, suc, ◌-◌, ◌≡◌, refl, sym, ap, ◌�
 use mathlib.Core.Bool.{true≢false, false≢true}
 use Rattle.std.specs.Prelude.{◌==◌, None, Some}
 use Rattle.std.specs.Io.KnownBytes.{Keeps, Appends}
-use Rattle.core.specs.declared.option.Option.{Option}
+use Rattle.std.specs.declared.option.Option.{Option}
 use lib.Dec.{eqb}
 use borrow.Author.Tests.{ne_eqb}
 use lib.Seq.{take-length, length-take-le}

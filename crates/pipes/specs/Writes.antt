@@ -1,7 +1,7 @@
 -- Bytes that are handed out by a row of writes. Assumes nothing: these are definitions.
 use Rattle.std.specs.Prelude.{ℕ, ◌<◌, ◌≤◌, Bool, true, false, List, [], ◌∷◌, ◌++◌, length, take, IfSome, MatchOption}
 use Rattle.std.specs.Io.KnownBytes.{Keeps, Appends}
-use Rattle.core.specs.declared.option.Option.{Option}
+use Rattle.std.specs.declared.option.Option.{Option}
 
 -- how many of the first bytes of s a write took; nothing where it failed or took none
 abbrev pub Took : List ℕ → Option ℕ → Type 0
