@@ -41,10 +41,7 @@ module _ {B : Type 0} where
   pub tail_long : (w : ℕ) (l : List B) → length (mid_of w (length l - w) l) ≡ length l - w
   tail_long w l = ap length (tail_is w l) ∙ length-drop w l
 
-  -- ---- the first k of a list: none, or the first one and those of the rest
-  pub take_none : (k : ℕ) (l : List B) → k ≡ 0 → take k l ≡ []
-  take_none k l e = rw e
-
+  -- ---- the first k of a list, where there are any: the first one and those of the rest
   pub take_step : (k : ℕ) (l : List B) (d : B) → (k ≡ 0 → ⊥) → k ≤ length l → take k l ≡ get_or l 0 d ∷ take (k - 1) (mid_of 1 (length l - 1) l)
   take_step zero l d z h = absurd (z refl)
   take_step (suc k) [] d z h = absurd (not-suc-le-zero h)

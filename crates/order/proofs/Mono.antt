@@ -6,7 +6,7 @@ use native.Mathlib.Omega.{arith}
 use mathlib.Core.Bool.{Bool, true, false, ◌&&◌, cond}
 use lib.IntN.{ℤ}
 use lib.Dec.{T, ltb, eqb, ltb→lt, lt→ltb, eqb-suc-zero}
-use lib.Ieee.{Float, nan, inf, fin, Format, prec, emax, low, up, down, odd, units, round, sum, add, sub, div, neg, lt, le, to_unsigned}
+use lib.Ieee.{Float, nan, inf, fin, Format, prec, emax, low, up, down, odd, units, round, sum, add, sub, div, neg, le, to_unsigned}
 use lib.Ieee.Fits.{up_pos, down_pos, round_is}
 use lib.Ieee.Order.{round_mono}
 use lib.Ieee.Positive.{num, den, positive, den_pos, own_value, value_pos}
