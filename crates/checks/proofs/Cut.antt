@@ -4,25 +4,22 @@ use Prim.Native.Nat.{ℕ, zero, suc, ◌+◌, ◌-◌, ◌*◌, ◌≤◌, ◌<�
 use native.Mathlib.Nat.{suc-mul, zero-mul, not-suc-le-zero, le_of_suc-le-suc, mul-le-mul_right}
 use native.Mathlib.Omega.{arith}
 use mathlib.Core.List.{List, [], ◌∷◌}
-use mathlib.Core.Bool.{Bool, true, false}
+use mathlib.Core.Bool.{true}
 use lib.Dec.{leb}
 use lib.ListN.{length, get_or, take, drop}
 use lib.Seq.{drop-drop}
-use borrow.Author.Tests.{leb-true, le-leb, lt-leb}
+use borrow.Author.Tests.{leb-true}
 use borrow.Rule.Slice.PartMut.{mid_of}
 use Rattle.halting.proofs.Bools.{and_l, and_r}
-use Rattle.chunks.proofs.Laws.{tail_is, tail_long}
+use Rattle.chunks.proofs.Laws.{tail_is}
 use Rattle.tables.specs.Decode.{cut, cut_both}
 use Rattle.checks.specs.Check.{counts_within}
-use Rattle.checks.specs.Inside.{Rowed, First}
+use Rattle.checks.specs.Inside.{Rowed}
 
 -- of n records the first, and the others
 pub less_rows : (n w L : ℕ) → (n ≡ 0 → ⊥) → n * w ≤ L → (w ≤ L) × ((n - 1) * w ≤ L - w)
 less_rows zero w L z h = absurd (z refl)
 less_rows (suc n) w L z h = let e = suc-mul n w in let p : suc n - 1 ≡ n = omega arith in (omega arith, subst (λ (k : ℕ). k * w ≤ L - w) (sym p) (omega arith))
-
-pub rest_long : {B : Type 0} (n w : ℕ) (l : List B) → (n ≡ 0 → ⊥) → n * w ≤ length l → (n - 1) * w ≤ length (mid_of w (length l - w) l)
-rest_long n w l z h = subst (λ (k : ℕ). (n - 1) * w ≤ k) (sym (tail_long w l)) (less_rows n w (length l) z h).1
 
 one_off : (n : ℕ) → n ≡ suc n - 1
 one_off n = omega arith
@@ -56,19 +53,6 @@ module _ {A B : Type 0} (read : List B → A) (w : ℕ) where
       ∙ ap read (drop_next c w l)
 
 module _ {A B C : Type 0} (read : List B → List C → A) (w v : ℕ) where
-  pub both_none : (n : ℕ) (l : List B) (m : List C) → n ≡ 0 → cut_both read w v n l m ≡ []
-  unfolding cut_both
-  both_none n l m e = rw e
-
-  pub both_step : (n : ℕ) (l : List B) (m : List C) → (n ≡ 0 → ⊥)
-      → cut_both read w v n l m ≡ read l m ∷ cut_both read w v (n - 1) (mid_of w (length l - w) l) (mid_of v (length m - v) m)
-  unfolding cut_both
-  both_step zero l m z = absurd (z refl)
-  both_step (suc n) l m z =
-      ap (λ (x : List B). read l m ∷ cut_both read w v n x (drop v m)) (sym (tail_is w l))
-      ∙ ap (λ (x : List C). read l m ∷ cut_both read w v n (mid_of w (length l - w) l) x) (sym (tail_is v m))
-      ∙ ap (λ (j : ℕ). read l m ∷ cut_both read w v j (mid_of w (length l - w) l) (mid_of v (length m - v) m)) (one_off n)
-
   pub both_long : (n : ℕ) (l : List B) (m : List C) → length (cut_both read w v n l m) ≡ n
   unfolding cut_both
   both_long zero l m = refl
@@ -100,46 +84,9 @@ counted_at v w (suc n) l (suc c) e h =
     subst (λ (x : List ℕ). get_or x 0 0 ≤ v) (drop_next c w l)
     (counted_at v w n (drop w l) c (and_r (leb (get_or l 0 0) v) (counts_within v w n (drop w l)) e) (le_of_suc-le-suc h))
 
-counted_rest : (v w n : ℕ) (l : List ℕ) → (n ≡ 0 → ⊥) → counts_within v w n l ≡ true → counts_within v w (n - 1) (mid_of w (length l - w) l) ≡ true
-unfolding counts_within
-counted_rest v w zero l z e = absurd (z refl)
-counted_rest v w (suc n) l z e =
-    ap (λ (j : ℕ). counts_within v w j (mid_of w (length l - w) l)) (sym (one_off n)) ∙ ap (counts_within v w n) (tail_is w l) ∙ and_r (leb (get_or l 0 0) v) (counts_within v w n (drop w l)) e
-
-pub counted_none : (v w n : ℕ) (l : List ℕ) → n ≡ 0 → true ≡ counts_within v w n l
-unfolding counts_within
-counted_none v w n l e = rw e
-
-pub counted_no : (v w n : ℕ) (l : List ℕ) → (n ≡ 0 → ⊥) → v < get_or l 0 0 → false ≡ counts_within v w n l
-unfolding counts_within
-counted_no v w zero l z h = absurd (z refl)
-counted_no v w (suc n) l z h = rw (lt-leb (get_or l 0 0) v h)
-
-pub counted_more : (v w n : ℕ) (l : List ℕ) (r : Bool) → (n ≡ 0 → ⊥) → get_or l 0 0 ≤ v → r ≡ counts_within v w (n - 1) (mid_of w (length l - w) l) → r ≡ counts_within v w n l
-unfolding counts_within
-counted_more v w zero l r z h e = absurd (z refl)
-counted_more v w (suc n) l r z h e =
-    rw (le-leb (get_or l 0 0) v h) (e ∙ ap (λ (j : ℕ). counts_within v w j (mid_of w (length l - w) l)) (sym (one_off n)) ∙ ap (counts_within v w n) (tail_is w l))
-
 module _ {v w n : ℕ} {l : List ℕ} (R : Rowed v w n l) where
-  pub rowed_first : (n ≡ 0 → ⊥) → (get_or l 0 0 ≤ v) × (w ≤ length l)
-  rowed_first z =
-      (subst (λ (k : ℕ). get_or (drop k l) 0 0 ≤ v) (zero-mul w) (counted_at v w n l 0 R.counts (omega arith)), (less_rows n w (length l) z R.long).0)
-
-  pub rowed_rest : (n ≡ 0 → ⊥) → Rowed v w (n - 1) (mid_of w (length l - w) l)
-  rowed_rest z = record { counts = counted_rest v w n l z R.counts; long = rest_long n w l z R.long }
-
   pub rowed_in : (c : ℕ) → c < n → c * w + w ≤ length l
-  rowed_in c h = let s = suc-mul c w in let m = mul-le-mul_right w h in let k = R.long in omega arith
+  rowed_in c h = let s = suc-mul c w in let m = mul-le-mul_right w h in let k = R.whole in omega arith
 
-  pub rowed_count : (c : ℕ) → c < n → get_or (mid_of (c * w) (length l - c * w) l) 0 0 ≤ v
-  rowed_count c h = subst (λ (x : List ℕ). get_or x 0 0 ≤ v) (sym (tail_is (c * w) l)) (counted_at v w n l c R.counts h)
-
-pub first_of : {v n : ℕ} {l : List ℕ} → Rowed v (v + 1) n l → (n ≡ 0 → ⊥) → First v l
-first_of R z = let f = rowed_first R z in record { count = f.0; long = f.1 }
-
-pub first_at : {v n : ℕ} {l : List ℕ} → Rowed v (v + 1) n l → (c : ℕ) → c < n → First v (mid_of (c * (v + 1)) (length l - c * (v + 1)) l)
-first_at {v} {n} {l} R c h = record {
-  count = rowed_count R c h;
-  long = let e = tail_long (c * (v + 1)) l in let k = rowed_in R c h in omega arith;
-}
+  pub rowed_at : (c : ℕ) → c < n → get_or (drop (c * w) l) 0 0 ≤ v
+  rowed_at c h = counted_at v w n l c R.counts h

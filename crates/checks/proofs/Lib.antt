@@ -1,10 +1,10 @@
 -- The laws of the tables' reading and of the tests.
 pub mod Cut
+pub mod Chunks
 pub mod Lists
 pub mod OneRow
 pub mod OnePlace
 pub mod Order
-pub mod Tests
 pub mod Heads
 pub mod Same
 pub mod Stages

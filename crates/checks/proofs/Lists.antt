@@ -1,40 +1,49 @@
--- What a test of each of a list answers, step by step. Assumes nothing.
-use mathlib.Core.Path.{◌≡◌}
-use Prim.Native.Nat.{ℕ, ◌+◌}
+-- What a test of each number of a range, or of each element of a list, answers. Assumes nothing.
+use mathlib.Core.Path.{◌≡◌, refl, sym, ap, ◌∙◌}
+use Prim.Native.Nat.{ℕ, zero, suc, ◌+◌, ◌<◌}
+use native.Mathlib.Omega.{arith}
 use mathlib.Core.List.{List, [], ◌∷◌}
-use mathlib.Core.Bool.{Bool, true, false}
+use mathlib.Core.Bool.{Bool, true, false, not, ◌&&◌, cond}
+use lib.ListN.{length, get_or, drop}
+use Rattle.std.specs.List.{list_all, range_with_len, enumerate_from}
+use Rattle.halting.specs.Every.{every}
 use Rattle.model.specs.State.{has}
 use Rattle.model.specs.Check.{all, walk, once}
 
-module _ {A : Type 0} (p : A → Bool) {xs : List A} where
-  pub all_none : xs ≡ [] → true ≡ all p xs
-  all_none e = rw e
+-- ---- of each number of a range, by the element of a list at that place
+walk_from : {A : Type 0} (p : ℕ → A → Bool) (f : ℕ → Bool) (d : A) (i : ℕ) (xs : List A) → ((k j : ℕ) → j ≡ i + k → k < length xs → f j ≡ p j (get_or xs k d)) → list_all f (range_with_len i (length xs)) ≡ walk p i xs
+unfolding walk
+walk_from p f d i [] h = refl
+walk_from p f d i (x ∷ xs) h =
+    ap (λ (b : Bool). b && list_all f (range_with_len (i + 1) (length xs))) (h 0 i (omega arith) (omega arith))
+    ∙ ap (λ (b : Bool). p i x && b) (walk_from p f d (i + 1) xs (λ k j e l. h (suc k) j (omega arith) (omega arith)))
 
-  pub all_no : (x : A) (ys : List A) → xs ≡ x ∷ ys → p x ≡ false → false ≡ all p xs
-  all_no x ys e f = rw (e, f)
+walk_plain : {A : Type 0} (p : A → Bool) (i : ℕ) (xs : List A) → walk (λ j. p) i xs ≡ all p xs
+unfolding walk
+walk_plain p i [] = refl
+walk_plain p i (x ∷ xs) = ap (λ (b : Bool). p x && b) (walk_plain p (i + 1) xs)
 
-  pub all_more : (x : A) (ys : List A) {r : Bool} → xs ≡ x ∷ ys → p x ≡ true → r ≡ all p ys → r ≡ all p xs
-  all_more x ys e f g = rw (e, f) g
+pub walk_places : {A : Type 0} (p : ℕ → A → Bool) (d : A) (xs : List A) {n : ℕ} → length xs ≡ n → list_all (λ i. p i (get_or xs i d)) (range_with_len 0 n) ≡ walk p 0 xs
+walk_places p d xs {n} e =
+    ap (λ (m : ℕ). list_all (λ i. p i (get_or xs i d)) (range_with_len 0 m)) (sym e)
+    ∙ walk_from p (λ i. p i (get_or xs i d)) d 0 xs (λ k j f l. let g : j ≡ k = omega arith in ap (λ (m : ℕ). p j (get_or xs m d)) g)
 
-module _ {A : Type 0} (p : ℕ → A → Bool) (i : ℕ) {xs : List A} where
-  pub walk_none : xs ≡ [] → true ≡ walk p i xs
-  unfolding walk
-  walk_none e = rw e
+pub all_places : {A : Type 0} (p : A → Bool) (d : A) (xs : List A) {n : ℕ} → length xs ≡ n → list_all (λ i. p (get_or xs i d)) (range_with_len 0 n) ≡ all p xs
+all_places p d xs e = walk_places (λ i. p) d xs e ∙ walk_plain p 0 xs
 
-  pub walk_no : (x : A) (ys : List A) → xs ≡ x ∷ ys → p i x ≡ false → false ≡ walk p i xs
-  unfolding walk
-  walk_no x ys e f = rw (e, f)
+-- ---- of each number
+pub every_range : (p : ℕ → Bool) (n c : ℕ) → list_all p (range_with_len c n) ≡ every p n c
+unfolding every
+every_range p zero c = refl
+every_range p (suc n) c = ap (λ (b : Bool). p c && b) (every_range p n (c + 1) ∙ ap (every p n) (omega arith)) ∙ both (p c)
+  where
+    both : (b : Bool) → (b && every p n (suc c)) ≡ cond b (every p n (suc c)) false
+    both true = refl
+    both false = refl
 
-  pub walk_more : (x : A) (ys : List A) {r : Bool} → xs ≡ x ∷ ys → p i x ≡ true → r ≡ walk p (i + 1) ys → r ≡ walk p i xs
-  unfolding walk
-  walk_more x ys e f g = rw (e, f) g
-
-module _ {xs : List ℕ} where
-  pub once_none : xs ≡ [] → true ≡ once xs
-  once_none e = rw e
-
-  pub once_no : (x : ℕ) (ys : List ℕ) → xs ≡ x ∷ ys → has x ys ≡ true → false ≡ once xs
-  once_no x ys e f = rw (e, f)
-
-  pub once_more : (x : ℕ) (ys : List ℕ) {r : Bool} → xs ≡ x ∷ ys → has x ys ≡ false → r ≡ once ys → r ≡ once xs
-  once_more x ys e f g = rw (e, f) g
+-- ---- of each element with its number: that none of those behind it is the same
+pub once_enumerated : (f : ℕ × ℕ → Bool) (i : ℕ) (xs : List ℕ) → ((k j : ℕ) → j ≡ i + k → k < length xs → f (j, get_or xs k 0) ≡ not (has (get_or xs k 0) (drop (suc k) xs))) → list_all f (enumerate_from i xs) ≡ once xs
+once_enumerated f i [] h = refl
+once_enumerated f i (x ∷ xs) h =
+    ap (λ (b : Bool). b && list_all f (enumerate_from (i + 1) xs)) (h 0 i (omega arith) (omega arith))
+    ∙ ap (λ (b : Bool). not (has x xs) && b) (once_enumerated f (i + 1) xs (λ k j e l. h (suc k) j (omega arith) (omega arith)))

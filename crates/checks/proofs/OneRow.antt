@@ -4,23 +4,18 @@ use Prim.Native.Nat.{ℕ, ◌+◌, ◌-◌, ◌*◌, ◌≤◌, ◌<◌}
 use native.Mathlib.Numerals.{add-one}
 use native.Mathlib.Omega.{arith}
 use mathlib.Core.List.{List, [], ◌∷◌, ◌++◌}
-use mathlib.Core.Bool.{Bool, true, false, ◌&&◌}
+use mathlib.Core.Bool.{Bool, false, ◌&&◌}
 use lib.Dec.{ltb}
 use lib.ListN.{length, get_or, take, drop, length-drop, take-append-drop, length-append, get_or-eq_default}
 use lib.Seq.{take-take, length-take-le}
-use borrow.Author.Tests.{le-leb, eq-eqb}
+use borrow.Author.Tests.{eq-eqb}
 use borrow.Rule.Slice.PartMut.{mid_of}
 use Rattle.model.specs.State.{Row, has, live_at, none}
-use Rattle.model.specs.Check.{all, once, numbers, housed}
+use Rattle.model.specs.Check.{all, once, numbers}
 use Rattle.tables.specs.Layout.{row_nums}
 use Rattle.tables.specs.Decode.{row_at, rows_of}
-use Rattle.checks.specs.Inside.{First, Rowed}
-use Rattle.chunks.proofs.Laws.{tail_is}
+use Rattle.checks.specs.Inside.{Rowed}
 use Rattle.checks.proofs.Cut.{cut_at, cut_long, counted_at, rowed_in}
-
--- its places in use are the first that follow the count
-pub live_is : (v : ℕ) (l : List ℕ) → get_or l 0 0 ≤ v → (row_at v l).live ≡ take (get_or l 0 0) (mid_of 1 (length l - 1) l)
-live_is v l h = take-take (get_or l 0 0) v (drop 1 l) h ∙ ap (λ (m : List ℕ). take (get_or l 0 0) m) (sym (tail_is 1 l))
 
 pub live_long : (v : ℕ) (l : List ℕ) → get_or l 0 0 ≤ v → v + 1 ≤ length l → length (row_at v l).live ≡ get_or l 0 0
 live_long v l h k = ap length (take-take (get_or l 0 0) v (drop 1 l) h) ∙ length-take-le (get_or l 0 0) (drop 1 l) (let e = length-drop 1 l in omega arith)
@@ -37,43 +32,28 @@ row_read v (x ∷ l) h k =
     ap (λ (n : ℕ). n ∷ ((row_at v (x ∷ l)).live ++ (row_at v (x ∷ l)).spare)) (live_long v (x ∷ l) h k)
     ∙ ap (λ (y : List ℕ). x ∷ y) (take-append-drop x (take v l)) ∙ ap (λ (n : ℕ). take n (x ∷ l)) (sym (add-one v))
 
-pub housed_no : (v : ℕ) (l : List ℕ) → get_or l 0 0 ≤ v → get_or l 0 0 < 1 → housed (row_at v l) ≡ false
-housed_no v l h z = let e : get_or l 0 0 ≡ 0 = omega arith in rw e
-
-pub housed_yes : (v : ℕ) (l : List ℕ) → get_or l 0 0 ≤ v → v + 1 ≤ length l → 1 ≤ get_or l 0 0 → housed (row_at v l) ≡ true
-housed_yes v l h k o = le-leb 1 (length (row_at v l).live) (let e = live_long v l h k in omega arith)
-
--- the test of its numbers is that of the first that follow the count
-module _ (n v : ℕ) (l : List ℕ) (f : First v l) where
-  numbers_is : numbers n v (row_at v l) ≡ (all (λ x. ltb x n) (take (get_or l 0 0) (mid_of 1 (length l - 1) l)) && once (take (get_or l 0 0) (mid_of 1 (length l - 1) l)))
-  numbers_is =
-      ap (λ (b : Bool). b && (all (λ x. ltb x n) (row_at v l).live && once (row_at v l).live)) (eq-eqb (length (row_at v l).live + length (row_at v l).spare) v (row_full v l f.long))
-      ∙ ap (λ (xs : List ℕ). all (λ x. ltb x n) xs && once xs) (live_is v l f.count)
-
-  pub numbers_no : {r : Bool} → r ≡ all (λ x. ltb x n) (take (get_or l 0 0) (mid_of 1 (length l - 1) l)) → r ≡ false → false ≡ numbers n v (row_at v l)
-  numbers_no e z = sym (numbers_is ∙ ap (λ (b : Bool). b && once (take (get_or l 0 0) (mid_of 1 (length l - 1) l))) (sym e ∙ z))
-
-  pub numbers_more : {r s : Bool} → r ≡ all (λ x. ltb x n) (take (get_or l 0 0) (mid_of 1 (length l - 1) l)) → r ≡ true → s ≡ once (take (get_or l 0 0) (mid_of 1 (length l - 1) l))
-      → s ≡ numbers n v (row_at v l)
-  numbers_more e z h = h ∙ sym (numbers_is ∙ ap (λ (b : Bool). b && once (take (get_or l 0 0) (mid_of 1 (length l - 1) l))) (sym e ∙ z))
-
 -- ---- row c of n
 module _ (v n : ℕ) (l : List ℕ) (c : ℕ) where
-  pub row_in : c < n → get_or (rows_of v n l) c none ≡ row_at v (mid_of (c * (v + 1)) (length l - c * (v + 1)) l)
-  row_in h = cut_at (row_at v) (v + 1) n l c none h ∙ ap (row_at v) (sym (tail_is (c * (v + 1)) l))
-
   -- the part of the table that holds it
-  pub row_part : Rowed v (v + 1) n l → c < n → mid_of (c * (v + 1)) (c * (v + 1) + v + 1 - c * (v + 1)) l ≡ row_nums (get_or (rows_of v n l) c none)
+  pub row_part : Rowed v (v + 1) n l → c < n → mid_of (c * (v + 1)) (c * (v + 1) + (v + 1) - c * (v + 1)) l ≡ row_nums (get_or (rows_of v n l) c none)
   row_part R h =
       let a = c * (v + 1) in
-      let k : a + v + 1 - a ≡ v + 1 = omega arith in
+      let k : a + (v + 1) - a ≡ v + 1 = omega arith in
       ap (λ (j : ℕ). mid_of a j l) k
       ∙ sym (row_read v (drop a l) (counted_at v (v + 1) n l c R.counts h) (let e = length-drop a l in let q = rowed_in R c h in omega arith))
       ∙ ap row_nums (sym (cut_at (row_at v) (v + 1) n l c none h))
 
-  pub row_out : n ≤ c → get_or (rows_of v n l) c none ≡ none
-  row_out h = get_or-eq_default (rows_of v n l) none (let e = cut_long (row_at v) (v + 1) n l in omega arith)
+  -- it has all its places
+  pub row_whole : Rowed v (v + 1) n l → c < n → length (live_at (rows_of v n l) c) + length (get_or (rows_of v n l) c none).spare ≡ v
+  row_whole R h =
+      ap (λ (r : Row ℕ). length r.live + length r.spare) (cut_at (row_at v) (v + 1) n l c none h)
+      ∙ row_full v (drop (c * (v + 1)) l) (let e = length-drop (c * (v + 1)) l in let q = rowed_in R c h in omega arith)
 
   pub lists_out : (x : ℕ) → n ≤ c → false ≡ has x (live_at (rows_of v n l) c)
   unfolding has
-  lists_out x h = sym (ap (λ (r : Row ℕ). has x r.live) (row_out h))
+  lists_out x h = sym (ap (λ (r : Row ℕ). has x r.live) (get_or-eq_default (rows_of v n l) none (let e = cut_long (row_at v) (v + 1) n l in omega arith)))
+
+  -- the test of its numbers is that of those in use
+  pub numbers_by : Rowed v (v + 1) n l → c < n → (m : ℕ) {live : List ℕ} {b o : Bool} → live ≡ live_at (rows_of v n l) c → b ≡ all (λ x. ltb x m) live → o ≡ once live
+      → (b && o) ≡ numbers m v (get_or (rows_of v n l) c none)
+  numbers_by R h m e f g = rw (eq-eqb _ v (row_whole R h), f, g, e)

@@ -1,29 +1,30 @@
 -- The stages of check 10 and of the whole check, as the code answers them; what a passed check 2 says; rows as they are lent. Assumes nothing.
-use mathlib.Core.Path.{◌≡◌, refl, sym, ap, ◌∙◌, subst}
-use Prim.Native.Nat.{ℕ, ◌+◌, ◌-◌, ◌≤◌}
+use mathlib.Core.Path.{◌≡◌, refl, sym, ap, ◌∙◌}
+use Prim.Native.Nat.{ℕ, ◌+◌, ◌*◌, ◌≤◌}
 use native.Mathlib.Omega.{arith}
 use mathlib.Core.List.{List}
 use mathlib.Core.Bool.{Bool, true, false, ◌&&◌}
 use lib.Dec.{leb}
-use lib.ListN.{length, length-drop}
+use lib.ListN.{length, take, length-drop}
+use lib.Seq.{length-take-le}
 use lib.Ieee.{Float}
 use borrow.Author.Tests.{leb-true, le-leb}
-use borrow.Rule.Slice.PartMut.{mid_of}
 use Rattle.layout.specs.Widths.{lists_head_wide, home_room, member_room, home_wide, members_wide, home_from, queue_wide, order_wide}
 use Rattle.model.specs.declared.refusal.Halt.{Halt}
 use Rattle.model.specs.declared.refusal.Halt.TheVariants.{NotFinite, QueueFull, ListFull, AlreadyListed, OnlyCell}
 use Rattle.model.specs.Refusals.{halt_number}
 use Rattle.model.specs.Sizes.{most_grains, least_room, most_room, fewest_cells, most_cells, counts_ok, cells_ok, rated}
+use Rattle.model.specs.declared.Place.{Place}
 use Rattle.model.specs.State.{Row}
 use Rattle.model.specs.Check.{linked, queued, halt}
 use Rattle.halting.proofs.Bools.{and_l, and_r}
 use Rattle.tables.specs.declared.Sizes.{Sizes}
-use Rattle.tables.specs.Decode.{Tables, mark, sizes_of, clock_in, rows_of, queues_of}
+use Rattle.tables.specs.Decode.{Tables, mark, sizes_of, clock_in, rows_of, queues_of, homes_part, members_part}
 use Rattle.checks.specs.Check.{ranged, sized_by, sized, legible_by, standing, checked}
 use Rattle.checks.specs.Inside.{Sized, Legible, Rowed}
 use Rattle.tables.specs.Lengths.{lists_need, grains_need, queue_need, events_need, long}
-use Rattle.chunks.proofs.Laws.{tail_is}
-use Rattle.checks.proofs.Same.{homes_in, settled_in, linked_in, queued_in, heaped_in, parts_are}
+use Rattle.checks.proofs.Chunks.{counts_taken, rows_taken, queues_taken}
+use Rattle.checks.proofs.Same.{homes_in, members_in, settled_in, linked_in, queued_in, heaped_in, parts_are}
 
 -- ---- 2
 pub ranged_means : (z : Sizes) → ranged z ≡ true → (z.grains ≤ 256) × (9 ≤ z.cells) × (z.cells ≤ 256) × (16 ≤ z.room) × (z.room ≤ 256)
@@ -90,18 +91,25 @@ means_sized t S =
       le-leb _ _ S.order_long,
     )
 
--- ---- rows as they are lent
+-- ---- the rows of numbers and of events, in the parts of the tables that are as long as they are
 module _ (z : Sizes) (t : Tables) (S : Sized z t) (L : Legible z t.lists t.queue) where
-  pub homes_rowed : Rowed home_room home_wide z.grains (mid_of lists_head_wide (length t.lists - lists_head_wide) t.lists)
-  homes_rowed = subst (Rowed home_room home_wide z.grains) (sym (tail_is lists_head_wide t.lists))
-      (record { counts = L.homes; long = let h = S.lists_long in let e = length-drop lists_head_wide t.lists in omega arith })
+  pub homes_rowed : Rowed home_room home_wide z.grains (take (z.grains * home_wide) (homes_part t.lists))
+  homes_rowed = record {
+    counts = counts_taken home_room home_wide (omega arith) z.grains (homes_part t.lists) ∙ L.homes;
+    whole = length-take-le _ _ (let h = S.lists_long in let e = length-drop lists_head_wide t.lists in omega arith);
+  }
 
-  pub members_rowed : Rowed member_room members_wide z.cells (mid_of (lists_head_wide + home_from z.grains) (length t.lists - (lists_head_wide + home_from z.grains)) t.lists)
-  members_rowed = subst (Rowed member_room members_wide z.cells) (sym (tail_is (lists_head_wide + home_from z.grains) t.lists))
-      (record { counts = L.members; long = let h = S.lists_long in let e = length-drop (lists_head_wide + home_from z.grains) t.lists in omega arith })
+  pub members_rowed : Rowed member_room members_wide z.cells (take (z.cells * members_wide) (members_part z.grains t.lists))
+  members_rowed = record {
+    counts = counts_taken member_room members_wide (omega arith) z.cells (members_part z.grains t.lists) ∙ L.members;
+    whole = length-take-le _ _ (let h = S.lists_long in let e = length-drop (lists_head_wide + home_from z.grains) t.lists in omega arith);
+  }
 
-  pub queue_rowed : Rowed z.room (queue_wide z.room) z.cells t.queue
-  queue_rowed = record { counts = L.events; long = S.queue_long }
+  pub queue_rowed : Rowed z.room (queue_wide z.room) z.cells (take (queue_need z) t.queue)
+  queue_rowed = record {
+    counts = counts_taken z.room (queue_wide z.room) (omega arith) z.cells t.queue ∙ L.events;
+    whole = length-take-le _ _ S.queue_long;
+  }
 
 -- ---- 10, up to the first test that fails
 module _ (z : Sizes) (t : Tables) (S : Sized z t) where
@@ -123,23 +131,21 @@ module _ (z : Sizes) (t : Tables) (S : Sized z t) where
   pub part_5 : {r : Bool} → a ≡ true → settled_in z t ≡ true → linked_in z t ≡ true → queued_in z t ≡ true → r ≡ heaped_in z t → r ≡ standing t
   part_5 e f g h i = rw (sym (parts_are z t S), e, f, g, h) i
 
--- with the rows as they are lent
+-- with the rows as the code cuts them out
 module _ (z : Sizes) (t : Tables) where
-  abbrev lent : ℕ → List ℕ
-  lent k = mid_of k (length t.lists - k) t.lists
+  pub linked_lent : {r : Bool} {h m : List ℕ} → h ≡ take (z.grains * home_wide) (homes_part t.lists) → m ≡ take (z.cells * members_wide) (members_part z.grains t.lists)
+      → r ≡ linked z.grains z.cells (rows_of home_room z.grains h) (rows_of member_room z.cells m) → r ≡ linked_in z t
+  linked_lent {m = m} a b e =
+      e ∙ ap (λ (x : List (Row ℕ)). linked z.grains z.cells x (rows_of member_room z.cells m)) (ap (λ (l : List ℕ). rows_of home_room z.grains l) a ∙ rows_taken home_room z.grains (homes_part t.lists))
+      ∙ ap (λ (x : List (Row ℕ)). linked z.grains z.cells (homes_in z t) x) (ap (λ (l : List ℕ). rows_of member_room z.cells l) b ∙ rows_taken member_room z.cells (members_part z.grains t.lists))
 
-  pub linked_lent : {r : Bool} → r ≡ linked z.grains z.cells (rows_of home_room z.grains (lent lists_head_wide)) (rows_of member_room z.cells (lent (lists_head_wide + home_from z.grains))) → linked_in z t ≡ r
-  linked_lent e =
-      sym (e ∙ ap (λ (l : List ℕ). linked z.grains z.cells (rows_of home_room z.grains l) (rows_of member_room z.cells (lent (lists_head_wide + home_from z.grains)))) (tail_is lists_head_wide t.lists)
-      ∙ ap (λ (l : List ℕ). linked z.grains z.cells (homes_in z t) (rows_of member_room z.cells l)) (tail_is (lists_head_wide + home_from z.grains) t.lists))
-
-  abbrev queued_by : Float → List (Row ℕ) → Bool
-  queued_by c ms = queued c z.room z.cells ms (queues_of z.room z.cells t.queue t.events)
-
-  pub queued_lent : {r : Bool} {c : Float} → c ≡ clock_in t.grains → r ≡ queued_by c (rows_of member_room z.cells (lent (lists_head_wide + home_from z.grains))) → queued_in z t ≡ r
-  queued_lent h e =
-      sym (e ∙ ap (λ (x : Float). queued_by x (rows_of member_room z.cells (lent (lists_head_wide + home_from z.grains)))) h
-      ∙ ap (λ (l : List ℕ). queued_by (clock_in t.grains) (rows_of member_room z.cells l)) (tail_is (lists_head_wide + home_from z.grains) t.lists))
+  pub queued_lent : {r : Bool} {c : Float} {m q : List ℕ} {k : ℕ} → c ≡ clock_in t.grains → m ≡ take (z.cells * members_wide) (members_part z.grains t.lists) → q ≡ take (queue_need z) t.queue → k ≡ events_need z
+      → r ≡ queued c z.room z.cells (rows_of member_room z.cells m) (queues_of z.room z.cells q (take k t.events)) → r ≡ queued_in z t
+  queued_lent {m = m} {q = q} {k = k} h a b d e =
+      e ∙ ap (λ (x : Float). queued x z.room z.cells (rows_of member_room z.cells m) (queues_of z.room z.cells q (take k t.events))) h
+      ∙ ap (λ (x : List (Row ℕ)). queued (clock_in t.grains) z.room z.cells x (queues_of z.room z.cells q (take k t.events))) (ap (λ (l : List ℕ). rows_of member_room z.cells l) a ∙ rows_taken member_room z.cells (members_part z.grains t.lists))
+      ∙ ap (λ (x : List (Row Place)). queued (clock_in t.grains) z.room z.cells (members_in z t) x)
+      (ap (λ (l : List ℕ). queues_of z.room z.cells l (take k t.events)) b ∙ ap (λ (j : ℕ). queues_of z.room z.cells (take (queue_need z) t.queue) (take j t.events)) d ∙ queues_taken z.room z.cells t.queue t.events)
 
 -- the marks are the numbers of the halts
 pub halt_marks : (h : Halt) → halt (halt_number h) ≡ true

@@ -20,31 +20,19 @@ const MOST_CELLS: usize = 256;
 pub fn counts_ok(grains: u64, room: u64) -> bool
     ensures { result ≡ counts_ok room grains }
 {
-    if MOST_GRAINS < grains {
-        return false;
-    }
-    if room < LEAST_ROOM {
-        return false;
-    }
-    room <= MOST_ROOM
+    grains <= MOST_GRAINS && LEAST_ROOM <= room && room <= MOST_ROOM
 }
 
 // Is a count of cells in range?
 fn cells_ok(cells: usize) -> bool
     ensures { result ≡ cells_ok cells }
 {
-    if cells < FEWEST_CELLS {
-        return false;
-    }
-    cells <= MOST_CELLS
+    FEWEST_CELLS <= cells && cells <= MOST_CELLS
 }
 
 // Are the counts of some tables in range?
 pub(crate) fn ranged(z: Sizes) -> bool
     ensures { result ≡ ranged z }
 {
-    if !counts_ok(z.grains as u64, z.room as u64) {
-        return false;
-    }
-    cells_ok(z.cells)
+    counts_ok(z.grains as u64, z.room as u64) && cells_ok(z.cells)
 }

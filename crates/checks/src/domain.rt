@@ -9,8 +9,5 @@ use model::Domain;
 pub fn boxed(domain: Domain, n: usize) -> bool
     ensures { result ≡ box_with domain n }
 {
-    if !cell::box_ok(domain) {
-        return false;
-    }
-    Grid::new(domain).cells() == n
+    cell::box_ok(domain) && Grid::new(domain).cells() == n
 }

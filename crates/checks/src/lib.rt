@@ -1,22 +1,23 @@
 // What a run tests before it does anything, over the lent tables: 2, the halt mark, 3, 10.
 #![tactic(auto)]
 
-ghost use Rattle.std.specs.Prelude.{◌≡◌, ◌≤◌, length, take, drop};
-ghost use Rattle.layout.specs.Widths.{lists_head_wide, members_wide, queue_wide, events_from, heap_wide, order_wide, member_room};
+ghost use Rattle.std.specs.Prelude.{◌≡◌, ◌*◌, take, drop};
+ghost use Rattle.layout.specs.Widths.{heap_wide, home_wide, members_wide};
 ghost use Rattle.model.specs.Sizes.{rated};
 ghost use Rattle.scheduler.specs.Inside.{head_in};
-ghost use Rattle.model.specs.Check.{settled, queued, heaped};
+ghost use Rattle.model.specs.Check.{settled, heaped};
 ghost use Rattle.model.specs.Refusals.{check_number};
-ghost use Rattle.tables.specs.Decode.{tables, mark, box_in, clock_in, grains_part, grains_of, rows_of, queues_of};
+ghost use Rattle.tables.specs.Decode.{tables, mark, box_in, clock_in, grains_part, grains_of, homes_part, members_part};
+ghost use Rattle.tables.specs.Lengths.{queue_need};
 ghost use Rattle.checks.specs.Check.{sized_by, legible_by, standing};
-ghost use Rattle.tables.specs.Lengths.{lists_need, grains_need, queue_need};
 ghost use Rattle.checks.specs.Answered.{Answered};
-ghost use Rattle.checks.specs.Inside.{Sized, Rowed};
+ghost use Rattle.checks.specs.Inside.{Sized};
 
-use layout::{
-    GRAINS_HEAD, HEAP, HOME, HOME_ROOM, LISTS_HEAD, MEMBER_ROOM, MEMBERS, ORDER, PLACE_NUMS, PLACES,
-};
+use layout::{GRAIN, GRAINS_HEAD, HEAP, HOME, HOME_ROOM, LISTS_HEAD, MEMBER_ROOM, MEMBERS, ORDER};
 use model::{Halt, RunError};
+use places::Queues;
+use rows::Rows;
+use scheduler::head::Heads;
 use tables::{Sizes, headers};
 
 mod counts;
@@ -36,10 +37,7 @@ pub fn sized(lists: &[u64], grains: usize, queue: usize, events: usize, order: u
         return false;
     }
     let z = headers::sizes_of(lists);
-    if !counts::ranged(z) {
-        return false;
-    }
-    tables::lengths::long(z, lists.len(), grains, queue, events, order)
+    counts::ranged(z) && tables::lengths::long(z, lists.len(), grains, queue, events, order)
 }
 
 // Check 3: is the sync rate in range?
@@ -49,101 +47,124 @@ pub fn rated(rate: f64) -> bool
     cell::within(0.00000095367431640625, 1048576.0, rate)
 }
 
-// Are the flags 0 or 1, and is every list count within its room?
-fn legible(lists: &[u64], queue: &[u64], z: Sizes) -> bool
-    requires { (lists_need z ≤ length lists.now) × (queue_need z ≤ length queue.now) × (z.grains ≤ 256) × (z.cells ≤ 256) × (z.room ≤ 256) }
-    ensures { result ≡ legible_by z lists.now queue.now }
-{
-    if !headers::flags_fine(lists) {
-        return false;
-    }
-    let g = z.grains;
-    let n = z.cells;
-    let room = z.room;
-    if !rows::counted(&lists[LISTS_HEAD..], HOME_ROOM, HOME, g) {
-        return false;
-    }
-    let a = LISTS_HEAD + g * HOME;
-    if !rows::counted(&lists[a..], MEMBER_ROOM, MEMBERS, n) {
-        return false;
-    }
-    let w = room * PLACE_NUMS + PLACES;
-    rows::counted(queue, room, w, n)
+// The lent tables, with the counts that they give: as long as these need.
+#[derive(Clone, Copy)]
+pub struct Lent<'a> {
+    pub lists: &'a [u64],
+    pub grains: &'a [f64],
+    pub queue: &'a [u64],
+    pub events: &'a [f64],
+    pub order: &'a [u8],
+    pub sizes: Sizes,
+    ghost sized: { Sized sizes (tables lists.now grains.now queue.now events.now order.now) },
 }
 
-// The headers and the grains: no mark, a finite clock, a box in range with these cells, and grains that are finite and not past the clock.
-fn settled(lists: &[u64], grains: &[f64], z: Sizes) -> bool
-    requires { (lists_head_wide ≤ length lists.now) × (grains_need z ≤ length grains.now) }
-    ensures { result ≡ settled (mark lists.now) (clock_in grains.now) (box_in lists.now grains.now) z.cells (grains_of z.grains (grains_part grains.now)) }
-{
-    if headers::mark(lists) != 0 {
-        return false;
-    }
-    let clock = headers::clock(grains);
-    if !particle::is_finite(clock) {
-        return false;
-    }
-    if !domain::boxed(headers::domain_of(lists, grains), z.cells) {
-        return false;
-    }
-    grains::settled(&grains[GRAINS_HEAD..], z.grains, clock)
-}
+impl<'a> Lent<'a> {
+    ghost use Rattle.checks.specs.Held.{tables_in};
 
-// The queues: each as it should be, and one synchronisation in cell 0's.
-fn queued(queue: &[u64], events: &[f64], members: &[u64], z: Sizes, clock: f64) -> bool
-    requires { Rowed z.room (queue_wide z.room) z.cells queue.now × (events_from z.room z.cells ≤ length events.now) × (z.room ≤ 256) × Rowed member_room members_wide z.cells members.now × (z.cells ≤ 256) × (9 ≤ z.cells) }
-    ensures { result ≡ queued clock z.room z.cells (rows_of member_room z.cells members.now) (queues_of z.room z.cells queue.now events.now) }
-{
-    let n = z.cells;
-    let room = z.room;
-    if !places::queues_ok(queue, events, room, n, members, n, 0, clock) {
-        return false;
+    // The rows of the grains' cells, and those of the cells' grains.
+    fn homes(&self) -> &'a [u64]
+        ensures { result.now ≡ take (self.now.sizes.grains * home_wide) (homes_part self.now.lists.now) }
+    {
+        &self.lists[LISTS_HEAD..LISTS_HEAD + self.sizes.grains * HOME]
     }
-    let k = tables::rows::count_of(queue);
-    places::syncs(&queue[PLACES..], k) == 1
-}
 
-// The heap: inverse to its lookups on the cells, and in order.
-fn heaped(order: &[u8], queue: &[u64], events: &[f64], z: Sizes) -> bool
-    requires { (order_wide ≤ length order.now) × (z.room ≤ 256) × (z.cells ≤ 256) }
-    ensures { result ≡ heaped (head_in events.now queue.now z.room) z.cells (take heap_wide order.now) (take heap_wide (drop heap_wide order.now)) }
-{
-    let n = z.cells;
-    if !heap::inverse(&order[..HEAP], &order[HEAP..ORDER], n) {
-        return false;
+    fn members(&self) -> &'a [u64]
+        ensures { result.now ≡ take (self.now.sizes.cells * members_wide) (members_part self.now.sizes.grains self.now.lists.now) }
+    {
+        let from = LISTS_HEAD + self.sizes.grains * HOME;
+        &self.lists[from..from + self.sizes.cells * MEMBERS]
     }
-    if !heap::inverse(&order[HEAP..ORDER], &order[..HEAP], n) {
-        return false;
-    }
-    heap::ordered(&order[..HEAP], queue, events, z.room, n)
-}
 
-// Check 10: do the standing facts hold?
-pub fn standing(
-    lists: &[u64],
-    grains: &[f64],
-    queue: &[u64],
-    events: &[f64],
-    order: &[u8],
-    z: Sizes,
-) -> bool
-    requires { Sized z (tables lists.now grains.now queue.now events.now order.now) }
-    ensures { result ≡ standing (tables lists.now grains.now queue.now events.now order.now) }
-{
-    if !legible(lists, queue, z) {
-        return false;
+    // The rows of the cells' events.
+    fn queue(&self) -> &'a [u64]
+        ensures { result.now ≡ take (queue_need self.now.sizes) self.now.queue.now }
+    {
+        &self.queue[..layout::queue_from(self.sizes.room, self.sizes.cells)]
     }
-    if !settled(lists, grains, z) {
-        return false;
+
+    // Are the flags 0 or 1, and is every list count within its room?
+    fn legible(&self) -> bool
+        ensures { result ≡ legible_by self.now.sizes self.now.lists.now self.now.queue.now }
+    {
+        let Sizes {
+            grains,
+            cells,
+            room,
+        } = self.sizes;
+        headers::flags_fine(self.lists)
+            && rows::counted(&self.lists[LISTS_HEAD..], HOME, HOME_ROOM, grains)
+            && rows::counted(
+                &self.lists[LISTS_HEAD + grains * HOME..],
+                MEMBERS,
+                MEMBER_ROOM,
+                cells,
+            )
+            && rows::counted(self.queue, layout::queue_wide(room), room, cells)
     }
-    let a = LISTS_HEAD + z.grains * HOME;
-    if !rows::linked(&lists[LISTS_HEAD..], &lists[a..], z.grains, z.cells) {
-        return false;
+
+    // The headers and the grains: no mark, a finite clock, a box in range with these cells, and grains that are finite and not past the clock.
+    fn settled(&self) -> bool
+        ensures { result ≡ settled (mark self.now.lists.now) (clock_in self.now.grains.now) (box_in self.now.lists.now self.now.grains.now) self.now.sizes.cells (grains_of self.now.sizes.grains (grains_part self.now.grains.now)) }
+    {
+        let clock = headers::clock(self.grains);
+        headers::mark(self.lists) == 0
+            && (particle::is_finite(clock)
+                && (domain::boxed(
+                    headers::domain_of(self.lists, self.grains),
+                    self.sizes.cells,
+                ) && grains::settled(&self.grains[GRAINS_HEAD..], self.sizes.grains, clock)))
     }
-    if !queued(queue, events, &lists[a..], z, headers::clock(grains)) {
-        return false;
+
+    // The heap: inverse to its lookups on the cells, and in order.
+    fn heaped(&self) -> bool
+        ensures { result ≡ heaped (head_in self.now.events.now self.now.queue.now self.now.sizes.room) self.now.sizes.cells (take heap_wide self.now.order.now) (take heap_wide (drop heap_wide self.now.order.now)) }
+    {
+        let heap = &self.order[..HEAP];
+        let lookups = &self.order[HEAP..ORDER];
+        let heads = Heads {
+            times: self.events,
+            held: self.queue,
+            room: self.sizes.room,
+        };
+        let n = self.sizes.cells;
+        heap::inverse(heap, lookups, n)
+            && heap::inverse(lookups, heap, n)
+            && heap::ordered(heap, heads, n)
     }
-    heaped(order, queue, events, z)
+
+    // Check 10: do the standing facts hold?
+    pub fn standing(&self) -> bool
+        ensures { result ≡ standing (tables_in self.now) }
+    {
+        if !self.legible() {
+            return false;
+        }
+        let Sizes {
+            grains,
+            cells,
+            room,
+        } = self.sizes;
+        let homes = Rows {
+            numbers: self.homes(),
+            room: HOME_ROOM,
+            count: grains,
+        };
+        let members = Rows {
+            numbers: self.members(),
+            room: MEMBER_ROOM,
+            count: cells,
+        };
+        let queues = Queues {
+            numbers: self.queue(),
+            reals: &self.events[..layout::events_from(room, cells)],
+            room,
+            count: cells,
+        };
+        self.settled()
+            && (homes.linked(&members)
+                && (queues.queued(&members, headers::clock(self.grains)) && self.heaped()))
+    }
 }
 
 // What refuses a run: short tables, an earlier halt, a rate out of range or a broken standing fact, in that order.
@@ -166,8 +187,15 @@ pub fn check(
     if !rated(rate) {
         return Err(RunError::RateOutOfRange);
     }
-    let z = headers::sizes_of(lists);
-    if !standing(lists, grains, queue, events, order, z) {
+    let lent = Lent {
+        lists,
+        grains,
+        queue,
+        events,
+        order,
+        sizes: headers::sizes_of(lists),
+    };
+    if !lent.standing() {
         return Err(RunError::Broken);
     }
     Ok(())

@@ -1,29 +1,28 @@
 // Tests of rows of events: a count and the places' numbers in one table, their floats in another.
-ghost use Rattle.std.specs.Prelude.{◌≡◌, ℕ, ◌+◌, ◌*◌, ◌≤◌, List, not, ◌&&◌, eqb, length, get_or, take, Float};
-ghost use Rattle.layout.specs.Widths.{members_wide, place_nums_wide, place_reals_wide, queue_wide, events_wide, events_from, member_room};
-ghost use Rattle.model.specs.State.{has, live_at};
-ghost use Rattle.model.specs.Standing.{syncs};
-ghost use Rattle.model.specs.Check.{all, walk, rising, named, held, queue_ok};
-ghost use Rattle.tables.specs.Decode.{row_at, rows_of, place_at, places_of, queue_at, queues_of};
-ghost use Rattle.checks.specs.Inside.{First, Rowed};
+ghost use Rattle.std.specs.Prelude.{◌≡◌, ℕ, ◌*◌, ◌≤◌, ◌<◌, List, [], not, ◌&&◌, eqb, length, get_or, Float};
+ghost use Rattle.layout.specs.Widths.{place_nums_wide, place_reals_wide, queue_wide, events_from, member_room};
+ghost use Rattle.model.specs.Events.{event_of};
+ghost use Rattle.model.specs.State.{has, live_at, none};
+ghost use Rattle.model.specs.Standing.{syncs, one_if};
+ghost use Rattle.model.specs.Check.{all, rising, named, held, queue_ok, queued};
+ghost use Rattle.tables.specs.Decode.{place_at, places_of};
+ghost use Rattle.checks.specs.Inside.{Rowed, Used};
 
-use layout::{MEMBERS, PLACE_NUMS, PLACE_REALS, PLACES};
+use crate::rows::Rows;
+use layout::{PLACE_NUMS, PLACE_REALS, PLACES};
 use model::Event;
+use tables::places;
+use tables::rows::{count_of, has};
 
-// Are the times of the first k places in order, from t on?
-fn rising(reals: &[f64], k: usize, t: f64) -> bool
-    requires { k * place_reals_wide ≤ length reals.now }
-    ensures { (q : List ℕ) → result ≡ rising t (places_of k q reals.now) }
+// Are the times of some places in order, from t on?
+fn rising(reals: &[f64], t: f64) -> bool
+    ensures { (k : ℕ) (q : List ℕ) → length reals.now ≡ k * place_reals_wide → result ≡ rising t (places_of k q reals.now) }
 {
-    let mut rest = reals;
-    let mut left = k;
     let mut from = t;
-    while 0 < left {
-        let u = tables::places::first_time(rest);
-        if from <= u {
-            rest = &rest[PLACE_REALS..];
-            left -= 1;
-            from = u;
+    for place in reals.chunks_exact(PLACE_REALS) {
+        let time = places::first_time(place);
+        if from <= time {
+            from = time;
         } else {
             return false;
         }
@@ -31,150 +30,105 @@ fn rising(reals: &[f64], k: usize, t: f64) -> bool
     true
 }
 
-// Two different grains among the first k of `members`?
-fn both_named(members: &[u64], k: usize, p: u64, q: u64) -> bool
-    requires { k ≤ length members.now }
-    ensures { result ≡ (has p (take k members.now) && (has q (take k members.now) && not (eqb p q))) }
+// Are two different grains among some members?
+fn both_named(members: &[u64], p: u64, q: u64) -> bool
+    ensures { result ≡ (has p members.now && (has q members.now && not (eqb p q))) }
 {
-    if !tables::rows::has(members, k, p) {
-        return false;
-    }
-    if !tables::rows::has(members, k, q) {
-        return false;
-    }
-    p != q
+    has(members, p) && has(members, q) && p != q
 }
 
-// An event of cell c of n, which lists the first k of `members`: does it name only grains and cells that it may?
-fn named(e: Event, members: &[u64], k: usize, n: u64, c: u64) -> bool
-    requires { k ≤ length members.now }
-    ensures { result ≡ named n c (take k members.now) e }
+// An event of cell c of n, which lists these members: does it name only grains and cells that it may?
+fn named(e: Event, members: &[u64], n: u64, c: u64) -> bool
+    ensures { result ≡ named n c members.now e }
 {
     match e {
-        Event::InterParticleCollision {
-            p,
-            q,
-            p_pos: _,
-            q_pos: _,
-            p_vel: _,
-            q_vel: _,
-            val: _,
-        } => both_named(members, k, p, q),
-        Event::MoveToNeighbour { p, pos: _, cell } => tables::rows::has(members, k, p) && cell < n,
-        Event::MoveOutOfCell { p, pos: _, cell } => tables::rows::has(members, k, p) && cell == c,
-        Event::WallReflection {
-            p,
-            pos: _,
-            vel: _,
-            val: _,
-        } => tables::rows::has(members, k, p),
+        Event::InterParticleCollision { p, q, .. } => both_named(members, p, q),
+        Event::MoveToNeighbour { p, cell, .. } => has(members, p) && cell < n,
+        Event::MoveOutOfCell { p, cell, .. } => has(members, p) && cell == c,
+        Event::WallReflection { p, .. } => has(members, p),
         Event::Synchronisation => c == 0,
     }
 }
 
-// The first place: its kind is one, its floats are fine, and it names what it may.
-fn held(nums: &[u64], reals: &[f64], members: &[u64], k: usize, n: u64, c: u64) -> bool
-    requires { (place_nums_wide ≤ length nums.now) × (place_reals_wide ≤ length reals.now) × (k ≤ length members.now) }
-    ensures { result ≡ held n c (take k members.now) (place_at nums.now reals.now) }
+// One place: its kind is one, its floats are fine, and it names what it may.
+fn held(nums: &[u64], reals: &[f64], members: &[u64], n: u64, c: u64) -> bool
+    requires { (length nums.now ≡ place_nums_wide) × (length reals.now ≡ place_reals_wide) }
+    ensures { result ≡ held n c members.now (place_at nums.now reals.now) }
 {
-    let s = tables::places::get_head(&nums[0..PLACE_NUMS], &reals[0..PLACE_REALS]);
-    if !tables::places::known_kind(s) {
-        return false;
-    }
-    if !tables::places::fine_place(s) {
-        return false;
-    }
-    named(tables::places::event_of(s), members, k, n, c)
+    let s = places::get_head(nums, reals);
+    places::known_kind(s) && places::fine_place(s) && named(places::event_of(s), members, n, c)
 }
 
-// The same for each of the first j places.
-fn all_held(
-    nums: &[u64],
-    reals: &[f64],
-    j: usize,
-    members: &[u64],
-    k: usize,
-    n: u64,
-    c: u64,
-) -> bool
-    requires { (j * place_nums_wide ≤ length nums.now) × (j * place_reals_wide ≤ length reals.now) × (k ≤ length members.now) }
-    ensures { result ≡ all (held n c (take k members.now)) (places_of j nums.now reals.now) }
+// The same for each of some places.
+fn all_held(nums: &[u64], reals: &[f64], members: &[u64], n: u64, c: u64) -> bool
+    requires { (k : ℕ) × (length nums.now ≡ k * place_nums_wide) × (length reals.now ≡ k * place_reals_wide) }
+    ensures { (k : ℕ) → length nums.now ≡ k * place_nums_wide → length reals.now ≡ k * place_reals_wide
+        → result ≡ all (held n c members.now) (places_of k nums.now reals.now) }
 {
-    let mut places = nums;
-    let mut floats = reals;
-    let mut left = j;
-    while 0 < left {
-        if !held(places, floats, members, k, n, c) {
-            return false;
-        }
-        places = &places[PLACE_NUMS..];
-        floats = &floats[PLACE_REALS..];
-        left -= 1;
-    }
-    true
+    nums.chunks_exact(PLACE_NUMS)
+        .zip(reals.chunks_exact(PLACE_REALS))
+        .all(|(nums, reals)| held(nums, reals, members, n, c))
 }
 
-// The first row, of cell c of n, whose grains are the first row of `members`: in time order from t on, and each event held.
-fn queue_ok(
-    queue: &[u64],
-    events: &[f64],
-    room: usize,
-    members: &[u64],
-    n: u64,
-    c: u64,
-    t: f64,
-) -> bool
-    requires { (get_or queue.now 0 0 ≤ room) × (queue_wide room ≤ length queue.now) × (events_wide room ≤ length events.now) × First member_room members.now }
-    ensures { result ≡ queue_ok t room n c (row_at member_room members.now).live (queue_at room queue.now events.now) }
+// Does a place hold a synchronisation?
+fn is_sync(nums: &[u64]) -> bool
+    requires { length nums.now ≡ place_nums_wide }
+    ensures { result ≡ eqb (one_if (event_of (get_or nums.now 0 0) (place_at nums.now []))) 1 }
 {
-    let j = tables::rows::count_of(queue);
-    if !rising(events, j, t) {
-        return false;
-    }
-    let k = tables::rows::count_of(members);
-    all_held(&queue[PLACES..], events, j, &members[PLACES..], k, n, c)
+    places::first_sync(nums) == 1
 }
 
-// The same for each of m rows, the first of which is cell c's.
-pub fn queues_ok(
-    queue: &[u64],
-    events: &[f64],
-    room: usize,
-    m: usize,
-    members: &[u64],
-    n: usize,
-    c: usize,
-    t: f64,
-) -> bool
-    requires { Rowed room (queue_wide room) m queue.now × (events_from room m ≤ length events.now) × (room ≤ 256) × Rowed member_room members_wide n members.now × (n ≤ 256) × (c + m ≡ n) }
-    ensures { result ≡ walk (λ i q. queue_ok t room n i (live_at (rows_of member_room n members.now) i) q) c (queues_of room m queue.now events.now) }
+// How many of some places hold one.
+fn syncs(nums: &[u64]) -> usize
+    ensures { (k : ℕ) (e : List Float) → length nums.now ≡ k * place_nums_wide → result ≡ syncs (places_of k nums.now e) }
 {
-    let w = room * PLACE_NUMS + PLACES;
-    let v = room * PLACE_REALS;
-    let mut rows = queue;
-    let mut floats = events;
-    let mut left = m;
-    let mut at = c;
-    while 0 < left {
-        let a = at * MEMBERS;
-        if !queue_ok(rows, floats, room, &members[a..], n as u64, at as u64, t) {
-            return false;
-        }
-        rows = &rows[w..];
-        floats = &floats[v..];
-        left -= 1;
-        at += 1;
-    }
-    true
+    nums.chunks_exact(PLACE_NUMS)
+        .filter(|place| is_sync(place))
+        .count()
 }
 
-// Synchronisations among the first k places.
-pub fn syncs(nums: &[u64], k: usize) -> usize
-    requires { k * place_nums_wide ≤ length nums.now }
-    ensures { (e : List Float) → result ≡ syncs (places_of k nums.now e) }
-{
-    if k == 0 {
-        return 0;
+// The rows of events of so many cells, each with room for so many, and each count within it.
+#[derive(Clone, Copy)]
+pub struct Queues<'a> {
+    pub numbers: &'a [u64],
+    pub reals: &'a [f64],
+    pub room: usize,
+    pub count: usize,
+    ghost rowed: { Rowed room (queue_wide room) count numbers.now },
+    ghost reals_whole: { length reals.now ≡ events_from room count },
+    ghost room_most: { room ≤ 256 },
+    ghost count_most: { count ≤ 256 },
+}
+
+impl<'a> Queues<'a> {
+    ghost use Rattle.checks.specs.Held.{rows_in, queues_in};
+
+    // The numbers and the floats of the places in use of cell c.
+    fn live(&self, c: usize) -> (&'a [u64], &'a [f64])
+        requires { c < self.now.count }
+        ensures { Used result.0.now result.1.now (live_at (queues_in self.now) c) }
+    {
+        let from = layout::queue_from(self.room, c);
+        let used = count_of(&self.numbers[from..]);
+        let nums = &self.numbers[from + PLACES..];
+        let reals = &self.reals[layout::events_from(self.room, c)..];
+        (&nums[..used * PLACE_NUMS], &reals[..used * PLACE_REALS])
     }
-    tables::places::first_sync(nums) + syncs(&nums[PLACE_NUMS..], k - 1)
+
+    // The row of cell c: in time order from t on, and each event held.
+    fn queue_ok(&self, members: &Rows, c: usize, t: f64) -> bool
+        requires { (c < self.now.count) × (members.now.count ≡ self.now.count) }
+        ensures { result ≡ queue_ok t self.now.room self.now.count c (live_at (rows_in members.now) c) (get_or (queues_in self.now) c none) }
+    {
+        let (nums, reals) = self.live(c);
+        rising(reals, t) && all_held(nums, reals, members.live(c), self.count as u64, c as u64)
+    }
+
+    // The same for each cell, and one synchronisation, in cell 0.
+    pub fn queued(&self, members: &Rows, t: f64) -> bool
+        requires { (0 < self.now.count) × (members.now.count ≡ self.now.count) }
+        ensures { result ≡ queued t self.now.room self.now.count (rows_in members.now) (queues_in self.now) }
+    {
+        (0..self.count).all(|c| self.queue_ok(members, c, t)) && syncs(self.live(0).0) == 1
+    }
 }

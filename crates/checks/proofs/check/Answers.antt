@@ -34,15 +34,16 @@ returns-then-not-rated c =
       floats = record { grains_fit = c.type_inv.grains; events_fit = c.type_inv.events };
     }
 
-pub sizes_of-z-requires : goal.sizes_of-z-requires
-sizes_of-z-requires c =
+pub sizes_of-requires : goal.sizes_of-requires
+sizes_of-requires c =
     let S = sized_means (tables c.args.lists.now c.args.grains.now c.args.queue.now c.args.events.now c.args.order.now) (sym c.sized.ensures ∙ c.if-not-sized.false) in
     let h = S.lists_long in
     omega arith
 
-pub standing-requires : goal.standing-requires
-standing-requires c =
-    rw c.sizes_of-z.ensures (sized_means (tables c.args.lists.now c.args.grains.now c.args.queue.now c.args.events.now c.args.order.now) (sym c.sized.ensures ∙ c.if-not-sized.false))
+pub invariant_of-lent : goal.invariant_of-lent
+invariant_of-lent c =
+    let S = sized_means (tables c.args.lists.now c.args.grains.now c.args.queue.now c.args.events.now c.args.order.now) (sym c.sized.ensures ∙ c.if-not-sized.false) in
+    record { sized = rw c.sizes_of.ensures S }
 
 pub returns-then-not-standing : goal.returns-then-not-standing
 returns-then-not-standing c =

@@ -1,21 +1,15 @@
-use mathlib.Core.Path.{sym, ◌∙◌}
-use Rattle.halting.proofs.Tests.{passed, failed, ended}
+use mathlib.Core.Path.{◌∙◌}
+use Rattle.std.proofs.Common.{rules}
+use borrow.Author.Tests.{tests}
+use Rattle.std.proofs.lemmas.Iterator.{YieldsList-from_range}
+use Rattle.std.proofs.lemmas.Iterator.Search.{all_from_yields_List}
 use Rattle.model.specs.Check.{leads_back}
+use Rattle.checks.proofs.Lists.{every_range}
 use native.Mathlib.Omega.{arith}
 use Rattle.checks.proofs.heap.inverse.Goals as goal
 
-pub returns-then-not-leads_back : goal.returns-then-not-leads_back
-returns-then-not-leads_back c =
-    let g = c.args in
-    sym (failed (leads_back g.a.now g.b.now g.n) _ _ c.loop-i-test.true (sym c.leads_back.ensures ∙ c.if-not-leads_back.true)) ∙ c.loop-i.invariant.1
-
-pub loop-i-preserved : goal.loop-i-preserved
-loop-i-preserved c =
-    let g = c.args in
-    let h = c.loop-i-test.true in
-    (omega (arith, h), sym (passed (leads_back g.a.now g.b.now g.n) _ _ h (sym c.leads_back.ensures ∙ c.if-not-leads_back.false)) ∙ c.loop-i.invariant.1)
-
 pub returns : goal.returns
 returns c =
-    let g = c.args in
-    sym (ended (leads_back g.a.now g.b.now g.n) _ _ c.loop-i-test.false) ∙ c.loop-i.invariant.1
+    let test = leads_back c.args.a.now c.args.b.now c.args.n in
+    all_from_yields_List test _ _ c.all.result c.all.ensures.ran (YieldsList-from_range 0 c.args.n c.args.n (cc) (omega arith)) (λ x b q k. search (rules, tests))
+    ∙ every_range test c.args.n 0

@@ -1,22 +1,16 @@
-use mathlib.Core.Path.{sym, ◌∙◌}
-use Rattle.halting.proofs.Tests.{passed, failed, ended}
+use mathlib.Core.Path.{◌∙◌}
+use Rattle.std.proofs.Common.{rules}
+use borrow.Author.Tests.{tests}
+use Rattle.std.proofs.lemmas.Iterator.{YieldsList-from_range}
+use Rattle.std.proofs.lemmas.Iterator.Search.{all_from_yields_List}
+use Rattle.scheduler.specs.Inside.{heads_of}
 use Rattle.model.specs.Check.{in_order}
-use Rattle.scheduler.specs.Inside.{head_in}
+use Rattle.checks.proofs.Lists.{every_range}
 use native.Mathlib.Omega.{arith}
 use Rattle.checks.proofs.heap.ordered.Goals as goal
 
-pub returns-then-not-in_order : goal.returns-then-not-in_order
-returns-then-not-in_order c =
-    let g = c.args in
-    sym (failed (in_order (head_in g.events.now g.queue.now g.room) g.heap.now g.n) _ _ c.loop-i-test.true (sym c.in_order.ensures ∙ c.if-not-in_order.true)) ∙ c.loop-i.invariant.1
-
-pub loop-i-preserved : goal.loop-i-preserved
-loop-i-preserved c =
-    let g = c.args in
-    let h = c.loop-i-test.true in
-    (omega (arith, h), sym (passed (in_order (head_in g.events.now g.queue.now g.room) g.heap.now g.n) _ _ h (sym c.in_order.ensures ∙ c.if-not-in_order.false)) ∙ c.loop-i.invariant.1)
-
 pub returns : goal.returns
 returns c =
-    let g = c.args in
-    sym (ended (in_order (head_in g.events.now g.queue.now g.room) g.heap.now g.n) _ _ c.loop-i-test.false) ∙ c.loop-i.invariant.1
+    let test = in_order (heads_of c.args.heads) c.args.heap.now c.args.n in
+    all_from_yields_List test _ _ c.all.result c.all.ensures.ran (YieldsList-from_range 0 c.args.n c.args.n (cc) (omega arith)) (λ x b q k. search (rules, tests))
+    ∙ every_range test c.args.n 0

@@ -1,31 +1,31 @@
-use borrow.Rule.Slice.PartMut.{mid_of}
-use mathlib.Core.Bool.{true, false}
-use Prim.Native.Nat.{◌-◌}
-use lib.ListN.{length}
-use Rattle.layout.specs.Widths.{place_nums_wide, place_reals_wide}
-use Rattle.tables.specs.Decode.{place_at}
-use Rattle.chunks.proofs.Laws.{some}
-use Rattle.checks.proofs.Cut.{rest_long, both_none, both_step}
-use Rattle.checks.proofs.OnePlace.{rising_none, rising_no, rising_more}
+use mathlib.Core.Path.{sym, ap, ◌∙◌, subst}
+use mathlib.Core.List.{List, []}
+use lib.Ieee.{Float}
+use Rattle.std.specs.Slice.Iter.{chunks_exact_rest, chunks_exact_size}
 use native.Mathlib.Omega.{arith}
+use Rattle.checks.proofs.OnePlace.{Left, left_all, left_none, left_no, left_next}
 use Rattle.checks.proofs.places.rising.Goals as goal
 
-pub loop-left-preserved : goal.loop-left-preserved
-loop-left-preserved c =
-    let l = c.loop-left in
-    let z = some c.loop-left-test.true in (
-      rest_long l.left place_reals_wide l.rest.now z l.invariant.0,
-      λ r e. l.invariant.1 r (λ q. rising_more l.from _ _ (both_step place_at place_nums_wide place_reals_wide l.left q l.rest.now z)
-          (c.first_time-u.ensures q) c.if-from-u.true (e (mid_of place_nums_wide (length q - place_nums_wide) q))),
-    )
+pub loop-place-init : goal.loop-place-init
+loop-place-init c =
+    let h = c.into_iter-place-iterator.ensures.into_iter_gives in
+    let g = c.chunks_exact-place-items.ensures in
+    (ap (λ (s : _). chunks_exact_size s) h ∙ g.size, subst (λ (l : List Float). Left c.args.t c.args.t c.args.reals.now l) (sym (ap (λ (s : _). chunks_exact_rest s) h ∙ g.rest)) (left_all c.args.t c.args.reals.now))
 
-pub returns-else-from-u : goal.returns-else-from-u
-returns-else-from-u c =
-    let l = c.loop-left in
-    let z = some c.loop-left-test.true in
-    l.invariant.1 false (λ q. rising_no l.from _ _ (both_step place_at place_nums_wide place_reals_wide l.left q l.rest.now z) (c.first_time-u.ensures q) c.if-from-u.false)
+pub loop-place-preserved : goal.loop-place-preserved
+loop-place-preserved c =
+    let s = c.in-Some.ensures.steps in
+    let size = c.loop-place.invariant.0 in
+    (s.0 ∙ size, left_next c.loop-place.invariant.1 c.in-Some.place.now (chunks_exact_rest c.next.new.self) s.1.0 (s.1.1 ∙ size) (c.first_time-time.ensures []) c.if-from-time.true)
+
+pub returns-else-from-time : goal.returns-else-from-time
+returns-else-from-time c =
+    let s = c.in-Some.ensures.steps in
+    let size = c.loop-place.invariant.0 in
+    left_no c.loop-place.invariant.1 c.in-Some.place.now (chunks_exact_rest c.next.new.self) s.1.0 (s.1.1 ∙ size) (c.first_time-time.ensures []) c.if-from-time.false
 
 pub returns : goal.returns
 returns c =
-    let l = c.loop-left in
-    l.invariant.1 true (λ q. rising_none l.from (both_none place_at place_nums_wide place_reals_wide l.left q l.rest.now (omega arith)))
+    let s = c.in-None.ensures.steps in
+    let size = c.loop-place.invariant.0 in
+    left_none c.loop-place.invariant.1 (omega (arith, s.1.0, size))

@@ -1,21 +1,19 @@
-use mathlib.Core.Bool.{true, false}
-use Rattle.chunks.proofs.Laws.{some, tail_long}
-use Rattle.checks.proofs.Cut.{rest_long, counted_none, counted_no, counted_more}
-use native.Mathlib.Omega.{arith}
+use mathlib.Core.Path.{◌∙◌}
+use mathlib.Core.List.{List}
+use Prim.Native.Nat.{ℕ, ◌*◌}
+use lib.Dec.{leb}
+use lib.ListN.{get_or, take}
+use lib.Seq.{length-take-le}
+use Rattle.std.proofs.Common.{rules}
+use borrow.Author.Tests.{tests}
+use Rattle.std.proofs.lemmas.Iterator.Search.{all_from_yields_List}
+use Rattle.checks.proofs.Chunks.{parts_walked, counts_read, counts_taken}
 use Rattle.checks.proofs.rows.counted.Goals as goal
-
-pub returns-then-v-rest : goal.returns-then-v-rest
-returns-then-v-rest c =
-    let l = c.loop-left in
-    l.invariant.2 false (counted_no _ _ _ _ (some c.loop-left-test.true) c.if-v-rest.true)
-
-pub loop-left-preserved : goal.loop-left-preserved
-loop-left-preserved c =
-    let l = c.loop-left in
-    let z = some c.loop-left-test.true in
-    (rest_long l.left _ l.rest.now z l.invariant.0, (let e = tail_long c.args.w l.rest.now in omega arith), λ r e. l.invariant.2 r (counted_more _ _ l.left l.rest.now r z c.if-v-rest.false e))
 
 pub returns : goal.returns
 returns c =
-    let l = c.loop-left in
-    l.invariant.2 true (counted_none _ _ _ _ (omega arith))
+    let a = c.args in
+    let l = take (a.n * a.width) a.rows.now in
+    all_from_yields_List (λ (p : List ℕ). leb (get_or p 0 0) a.room) _ _ c.all.result c.all.ensures.ran
+    (parts_walked a.width c.requires.0 a.n l c.chunks_exact.ensures.rest c.chunks_exact.ensures.size (length-take-le (a.n * a.width) a.rows.now c.requires.1)) (λ x b q k. search (rules, tests))
+    ∙ counts_read a.room a.width c.requires.0 a.n l ∙ counts_taken a.room a.width c.requires.0 a.n a.rows.now
