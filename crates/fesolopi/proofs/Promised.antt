@@ -5,18 +5,16 @@ use mathlib.Core.Path.{◌≡◌, refl, sym, ap, ◌∙◌}
 use mathlib.Core.List.{List}
 use lib.Ieee.{Float}
 use Rattle.model.specs.declared.Domain.{Domain}
-use Rattle.model.specs.declared.Started.{Started}
 use Rattle.model.specs.declared.Report.{Report}
-use Rattle.model.specs.declared.Report.TheVariants.{Synchronised, Spent, Refused}
 use Rattle.model.specs.Check.{Fits}
-use Rattle.model.specs.Run.{How, synchronised, spent, refused}
-use Rattle.model.specs.Reports.{start_number, grain_named}
+use Rattle.model.specs.Reports.{start_number, grain_named, how_of}
 use Rattle.tables.specs.Decode.{Tables}
-use Rattle.running.specs.Going.{clock_of}
-use Rattle.simulator.specs.Start.{StartedWith, with, start_all, StartPromise}
+use Rattle.simulator.specs.Start.{Started, StartedWith, with, start_all, StartPromise}
 use Rattle.simulator.specs.Run.{run_tables, Owned, RunPromise}
 use Rattle.simulator.proofs.Exactly.{answer_tells}
-use Rattle.fesolopi.specs.Codes.{StartGiven, start_given, start_given_by, run_number, Ended, ended, ended_by, report_number, events_told}
+use Rattle.simulator.proofs.Numbers.{run_number_lem, how_back}
+use Rattle.simulator.proofs.Ran.{end_of}
+use Rattle.fesolopi.specs.Codes.{StartGiven, start_given, start_given_by, run_number, Ended, ended, ended_by, report_number}
 
 pub start_promised : (b : Domain) (n room : ℕ) (inputs : List Float) (t : Tables) (r g : ℕ) (u : Tables) → Fits b → start_given r g u ≡ start_given_by (start_all b n room inputs t)
     → (a : Started) × (r ≡ start_number a) × (g ≡ grain_named a) × StartPromise b n room inputs t a u
@@ -30,16 +28,17 @@ start_promised b n room inputs t r g u f e =
     )
 
 module _ (rate : Float) (budget : ℕ) (t : Tables) (r : ℕ) (c : Float) (k : ℕ) (u : Tables) (o : Owned budget t) (e : ended r c k u ≡ ended_by (run_tables rate budget t)) where
-  number : (h : How) → (run_tables rate budget t).how ≡ h → r ≡ run_number h
-  number h q = ap (λ (x : Ended). x.number) e ∙ ap run_number q
+  told : Report
+  told = record { end = end_of (run_tables rate budget t).how; clock = c; events = k }
 
-  ran : (h : How) → (run_tables rate budget t).how ≡ h → record { how = h; clock = c; count = k; after = u } ≡ run_tables rate budget t
-  ran h q = λ i. record { how = sym q i; clock = (e i).clock; count = (e i).count; after = (e i).after }
+  how_is : how_of told.end ≡ (run_tables rate budget t).how
+  how_is = how_back (run_tables rate budget t).how (run_number_lem rate budget t)
 
-  pub run_promised : (a : Report) × (r ≡ report_number a) × (c ≡ clock_of a) × (k ≡ events_told a) × RunPromise rate budget t a u
-  run_promised = by (run_tables rate budget t).how refl
-    where
-      by : (h : How) → (run_tables rate budget t).how ≡ h → (a : Report) × (r ≡ report_number a) × (c ≡ clock_of a) × (k ≡ events_told a) × RunPromise rate budget t a u
-      by synchronised q = (Synchronised c k, number synchronised q, refl, refl, record { owned = o; is = ran synchronised q })
-      by spent q = (Spent c k, number spent q, refl, refl, record { owned = o; is = ran spent q })
-      by (refused n) q = (Refused n c k, number (refused n) q, refl, refl, record { owned = o; is = ran (refused n) q })
+  pub run_promised : (a : Report) × (r ≡ report_number a) × (c ≡ a.clock) × (k ≡ a.events) × RunPromise rate budget t a u
+  run_promised = (
+    told,
+    ap (λ (x : Ended). x.number) e ∙ ap run_number (sym how_is),
+    refl,
+    refl,
+    record { owned = o; is = λ i. record { how = how_is i; clock = (e i).clock; count = (e i).count; after = (e i).after } },
+  )

@@ -49,15 +49,15 @@ pub extern "C" fn fesolopi_start(
         periodic0,
         periodic1,
     };
-    let answer = simulator::start::start(
+    *grain = 0;
+    match simulator::start::start(
         domain, count, room, inputs, lists, grains, queue, events, order,
-    );
-    *grain = match answer {
-        Err(StartError::BadGrain(bad)) => bad,
-        _ => 0,
-    };
-    match answer {
+    ) {
         Ok(()) => 0,
+        Err(StartError::BadGrain(bad)) => {
+            *grain = bad;
+            4
+        }
         Err(e) => u64::from(e),
     }
 }

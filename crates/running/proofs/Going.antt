@@ -7,26 +7,31 @@ use native.Mathlib.Nat.{sub-zero}
 use native.Mathlib.Numerals.{add-one}
 use native.Mathlib.Omega.{arith}
 use lib.Ieee.{Float}
-use Rattle.cell.specs.declared.Grid.{Grid}
-use Rattle.model.specs.declared.Domain.{Domain}
+use Rattle.std.specs.Prelude.{Result, Ok, Err, IfOk}
 use Rattle.model.specs.declared.Event.{Event}
 use Rattle.model.specs.declared.Event.TheVariants.{InterParticleCollision, MoveToNeighbour, MoveOutOfCell, WallReflection, Synchronisation}
-use Rattle.model.specs.declared.Report.TheVariants.{Synchronised, Spent, Refused}
+use Rattle.model.specs.declared.End.TheVariants.{Synchronised, Spent}
+use Rattle.model.specs.declared.refusal.Halt.{Halt}
+use Rattle.model.specs.declared.refusal.RunError.TheVariants.{Halted}
+use Rattle.model.specs.Refusals.{halt_number, number_of}
 use Rattle.model.specs.Sizes.{rated}
 use Rattle.model.specs.State.{State, marked}
-use Rattle.model.proofs.Sound.{Stands}
 use Rattle.model.specs.Execute.{Moved, moved_to, done, halted, finish, head_event, event, step}
 use Rattle.model.specs.Execute as doing
 use Rattle.model.specs.Run.{spent, refused, onward, run_from}
 use Rattle.model.specs.Run as run
 use Rattle.model.specs.Reports.{ran_of}
 use Rattle.halting.proofs.Bools.{clash}
-use Rattle.model.proofs.Stands.{stands}
+use Rattle.model.proofs.HaltNumbers.{halt_no_zero}
+use Rattle.model.proofs.Sound.{Stands}
+use Rattle.model.proofs.Stands.{stands, standing, sound_fitted}
 use Rattle.model.proofs.Steps.{Whole, step_stands}
 use Rattle.model.proofs.Whole.{rated_later}
 use Rattle.tables.specs.declared.Sizes.{Sizes}
 use Rattle.tables.specs.Holds.{Holds}
-use Rattle.step.specs.World.{Held, is_sync, world_at}
+use Rattle.acts.specs.declared.queue.Queues.{Queues}
+use Rattle.step.specs.declared.World.{World}
+use Rattle.step.specs.World.{Held, Steady, SameBox, Does, is_sync}
 use Rattle.running.specs.Going.{Lent, Gone}
 
 -- ---- a step, by its event's number and kind
@@ -50,16 +55,20 @@ halt_is : (r k : ℕ) (u : State) (e : Event) → k ≡ r → (k ≡ 0 → ⊥) 
 halt_is zero k u e p n = absurd (n p)
 halt_is (suc r) k u e p n = rw p
 
--- ---- what is left to do: parts and clock are those of a state that stands, from which the run goes on as from the first
-pub record Left (z : Sizes) (b : Domain) (g : Grid) (rate : Float) (budget : ℕ) (s : State) (lists : List ℕ) (grains : List Float) (queue : List ℕ) (events : List Float) (order : List ℕ) (t : Float) (d : ℕ) : Type 0 where
+-- ---- what is left to do: the parts hold a state that stands, of this world, from which the run goes on as from the first
+pub record Left (o : World) (rate : Float) (budget : ℕ) (s : State) (w : World) (lists : List ℕ) (grains : List Float) (q : Queues) (d : ℕ) : Type 0 where
   pub now : State
-  pub held : Held z (world_at b g t) lists grains queue events order now
+  pub same : SameBox o w
+  pub held : Held w lists grains q now
   pub stands : Stands now
   pub left : run_from rate (budget - d) d now ≡ run_from rate budget 0 s
 
-pub holds_of : {z : Sizes} {b : Domain} {g : Grid} {t : Float} {lists : List ℕ} {grains : List Float} {queue : List ℕ} {events : List Float} {order : List ℕ} {s : State}
-    → Held z (world_at b g t) lists grains queue events order s → Holds z lists grains queue events order s
+pub holds_of : {w : World} {lists : List ℕ} {grains : List Float} {q : Queues} {s : State} → Held w lists grains q s → Holds w.sizes lists grains q.queue.now q.events.now q.order.now s
 holds_of h = record { listed = h.listed; grained = h.seen.grained; queued = h.seen.queued }
+
+pub steady_of : {o : World} {rate : Float} {budget : ℕ} {s : State} {w : World} {lists : List ℕ} {grains : List Float} {q : Queues} {d : ℕ}
+    (N : Left o rate budget s w lists grains q d) → Steady w lists grains q N.now
+steady_of N = record { holds = holds_of N.held; box = N.held.seen.at.0; standing = standing N.now N.stands; fitted = sound_fitted N.now N.stands.sound }
 
 -- the parts do not hold the mark
 marked_holds : {z : Sizes} {lists : List ℕ} {grains : List Float} {queue : List ℕ} {events : List Float} {order : List ℕ} (s : State) (r : ℕ)
@@ -77,69 +86,87 @@ turn rate budget d u m h e =
     let k : budget - d ≡ suc (budget - suc d) = omega arith in
     ap (λ (n : ℕ). run_from rate n d u) k ∙ ap (λ (x : Moved). onward x.how x.state d (run_from rate (budget - suc d))) e
 
-module _ {z : Sizes} {b : Domain} {g : Grid} {rate : Float} {budget : ℕ} {s : State} where
-  pub left_first : {lists : List ℕ} {grains : List Float} {queue : List ℕ} {events : List Float} {order : List ℕ} {t : Float}
-      → Lent z b t lists grains queue events order s → Left z b g rate budget s lists grains queue events order t 0
+module _ {o : World} {rate : Float} {budget : ℕ} {s : State} where
+  pub left_first : {lists : List ℕ} {grains : List Float} {q : Queues} → Lent o lists grains q s → Left o rate budget s o lists grains q 0
   left_first h = record {
     now = s;
-    held = record { listed = h.holds.listed; seen = record { at = (h.box, h.clock); grained = h.holds.grained; queued = h.holds.queued } };
-    stands = stands s h.fitted h.stands;
+    same = record { sizes = refl; domain = refl; grid = refl };
+    held = record { listed = h.steady.holds.listed; seen = record { at = (h.steady.box, h.clock); grained = h.steady.holds.grained; queued = h.steady.holds.queued } };
+    stands = stands s h.steady.fitted h.steady.standing;
     left = ap (λ (n : ℕ). run_from rate n 0 s) (sub-zero budget);
   }
 
-  module _ {lists lists' : List ℕ} {grains grains' : List Float} {queue queue' : List ℕ} {events events' : List Float} {order order' : List ℕ} {t t' : Float} {d : ℕ}
-      (R : rated rate ≡ true) (h : d < budget) (N : Left z b g rate budget s lists grains queue events order t d) {code : ℕ} {sync : Bool}
-      (number : code ≡ (event rate N.now).num) (held : Held z (world_at b g t') lists' grains' queue' events' order' (event rate N.now).st) (kind : sync ≡ is_sync (head_event N.now)) where
-    whole : (m : Moved) → Whole m.how → step rate N.now ≡ m → Stands m.state
-    whole m w e = subst (λ (x : Moved). Stands x.state) e (step_stands rate (rated_later rate R) N.now N.stands (subst (λ (x : Moved). Whole x.how) (sym e) w))
+  module _ {lists lists' : List ℕ} {grains grains' : List Float} {q q' : Queues} {w w' : World} {d : ℕ} {r : Result Bool Halt}
+      (R : rated rate ≡ true) (h : d < budget) (N : Left o rate budget s w lists grains q d) (same : SameBox w w')
+      (does : Does (Steady w lists grains q) (Held w' lists' grains' q') (number_of r) (event rate)) (kind : (u : State) → Steady w lists grains q u → IfOk r (λ (sync : Bool). sync ≡ is_sync (head_event u))) where
+    u : State
+    u = (event rate N.now).st
 
-    pub left-more : code ≡ 0 → sync ≡ false → Left z b g rate budget s lists' grains' queue' events' order' t' (d + 1)
-    left-more zero' not_sync =
-        let e : step rate N.now ≡ moved_to done (event rate N.now).st = unfold step in done_is (event rate N.now).num (event rate N.now).st (head_event N.now) (sym number ∙ zero') (sym kind ∙ not_sync) in
+    number : number_of r ≡ (event rate N.now).num
+    number = (does.says N.now (steady_of N)).0
+
+    held : Held w' lists' grains' q' (event rate N.now).st
+    held = (does.says N.now (steady_of N)).1
+
+    kind_is : (sync : Bool) → r ≡ Ok sync → sync ≡ is_sync (head_event N.now)
+    kind_is sync e = subst (λ (x : Result Bool Halt). IfOk x (λ (b : Bool). b ≡ is_sync (head_event N.now))) e (kind N.now (steady_of N))
+
+    boxed : SameBox o w'
+    boxed = record { sizes = same.sizes ∙ N.same.sizes; domain = same.domain ∙ N.same.domain; grid = same.grid ∙ N.same.grid }
+
+    whole : (m : Moved) → Whole m.how → step rate N.now ≡ m → Stands m.state
+    whole m v e = subst (λ (x : Moved). Stands x.state) e (step_stands rate (rated_later rate R) N.now N.stands (subst (λ (x : Moved). Whole x.how) (sym e) v))
+
+    placed : {u : State} → Holds w'.sizes lists' grains' q'.queue.now q'.events.now q'.order.now u → Holds o.sizes lists' grains' q'.queue.now q'.events.now q'.order.now u
+    placed {u} k = subst (λ (z : Sizes). Holds z lists' grains' q'.queue.now q'.events.now q'.order.now u) boxed.sizes k
+
+    pub left-more : r ≡ Ok false → Left o rate budget s w' lists' grains' q' (d + 1)
+    left-more ok =
+        let e : step rate N.now ≡ moved_to done u = unfold step in done_is (event rate N.now).num u (head_event N.now) (sym number ∙ ap number_of ok) (sym (kind_is false ok)) in
         record {
-          now = (event rate N.now).st;
+          now = u;
+          same = boxed;
           held = held;
-          stands = whole (moved_to done (event rate N.now).st) tt e;
-          left = ap (λ (k : ℕ). run_from rate (budget - k) k (event rate N.now).st) (add-one d) ∙ sym (turn rate budget d N.now (moved_to done (event rate N.now).st) h e) ∙ N.left;
+          stands = whole (moved_to done u) tt e;
+          left = ap (λ (k : ℕ). run_from rate (budget - k) k u) (add-one d) ∙ sym (turn rate budget d N.now (moved_to done u) h e) ∙ N.left;
         }
 
-    pub gone-sync : code ≡ 0 → sync ≡ true → Gone z b lists' grains' queue' events' order' (Synchronised t' (d + 1)) (run_from rate budget 0 s)
-    gone-sync zero' is-sync =
-        let u = (event rate N.now).st in
-        let e : step rate N.now ≡ moved_to doing.synchronised u = unfold step in sync_is (event rate N.now).num u (head_event N.now) (sym number ∙ zero') (sym kind ∙ is-sync) in
-        subst (Gone z b lists' grains' queue' events' order' (Synchronised t' (d + 1))) (sym (turn rate budget d N.now (moved_to doing.synchronised u) h e) ∙ N.left)
+    pub gone-sync : r ≡ Ok true → Gone o lists' grains' q' (record { end = Ok Synchronised; clock = w'.clock; events = d + 1 }) (run_from rate budget 0 s)
+    gone-sync ok =
+        let e : step rate N.now ≡ moved_to doing.synchronised u = unfold step in sync_is (event rate N.now).num u (head_event N.now) (sym number ∙ ap number_of ok) (sym (kind_is true ok)) in
+        subst (Gone o lists' grains' q' (record { end = Ok Synchronised; clock = w'.clock; events = d + 1 })) (sym (turn rate budget d N.now (moved_to doing.synchronised u) h e) ∙ N.left)
         (record {
           answer = λ i. ran_of run.synchronised (sym held.seen.at.1 i) (add-one d i) u;
-          holds = holds_of held;
-          box = held.seen.at.0;
+          holds = placed (holds_of held);
+          box = held.seen.at.0 ∙ boxed.domain;
           clock = held.seen.at.1;
           mark = (whole (moved_to doing.synchronised u) tt e).free;
         })
 
-    pub gone-halted : (code ≡ 0 → ⊥) → Gone z b lists' grains' queue' events' order' (Refused code t' d) (run_from rate budget 0 s)
-    gone-halted some =
-        let u = (event rate N.now).st in
-        let e : step rate N.now ≡ moved_to (halted code) (marked code u) = unfold step in halt_is (event rate N.now).num code u (head_event N.now) number some in
-        subst (Gone z b lists' grains' queue' events' order' (Refused code t' d)) (sym (turn rate budget d N.now (moved_to (halted code) (marked code u)) h e) ∙ N.left)
+    pub gone-halted : (k : Halt) → r ≡ Err k → Gone o lists' grains' q' (record { end = Err (Halted k); clock = w'.clock; events = d }) (run_from rate budget 0 s)
+    gone-halted k err =
+        let n = halt_number k in
+        let e : step rate N.now ≡ moved_to (halted n) (marked n u) = unfold step in halt_is (event rate N.now).num n u (head_event N.now) (sym (ap number_of err) ∙ number) (halt_no_zero k) in
+        subst (Gone o lists' grains' q' (record { end = Err (Halted k); clock = w'.clock; events = d })) (sym (turn rate budget d N.now (moved_to (halted n) (marked n u)) h e) ∙ N.left)
         (record {
-          answer = λ i. ran_of (refused code) (sym held.seen.at.1 i) d (marked code u);
-          holds = marked_holds u code (holds_of held);
-          box = held.seen.at.0;
+          answer = λ i. ran_of (refused n) (sym held.seen.at.1 i) d (marked n u);
+          holds = marked_holds u n (placed (holds_of held));
+          box = held.seen.at.0 ∙ boxed.domain;
           clock = held.seen.at.1;
           mark = refl;
         })
 
   -- the budget is spent
-  pub gone_spent : {lists : List ℕ} {grains : List Float} {queue : List ℕ} {events : List Float} {order : List ℕ} {t : Float} {d : ℕ}
-      → Left z b g rate budget s lists grains queue events order t d → budget ≤ d → Gone z b lists grains queue events order (Spent t d) (run_from rate budget 0 s)
+  pub gone_spent : {lists : List ℕ} {grains : List Float} {q : Queues} {w : World}
+      → Left o rate budget s w lists grains q budget → Gone o lists grains q (record { end = Ok Spent; clock = w.clock; events = budget }) (run_from rate budget 0 s)
   unfolding run_from
-  gone_spent {lists = lists} {grains = grains} {queue = queue} {events = events} {order = order} {t = t} {d = d} N h =
-      let k : budget - d ≡ 0 = omega arith in
-      subst (Gone z b lists grains queue events order (Spent t d)) (ap (λ (n : ℕ). run_from rate n d N.now) (sym k) ∙ N.left)
+  gone_spent {lists = lists} {grains = grains} {q = q} {w = w} N =
+      let k : budget - budget ≡ 0 = omega arith in
+      subst (Gone o lists grains q (record { end = Ok Spent; clock = w.clock; events = budget })) (ap (λ (n : ℕ). run_from rate n budget N.now) (sym k) ∙ N.left)
       (record {
-        answer = λ i. ran_of spent (sym N.held.seen.at.1 i) d N.now;
-        holds = holds_of N.held;
-        box = N.held.seen.at.0;
+        answer = λ i. ran_of spent (sym N.held.seen.at.1 i) budget N.now;
+        holds = subst (λ (z : Sizes). Holds z lists grains q.queue.now q.events.now q.order.now N.now) N.same.sizes (holds_of N.held);
+        box = N.held.seen.at.0 ∙ N.same.domain;
         clock = N.held.seen.at.1;
         mark = N.stands.free;
       })

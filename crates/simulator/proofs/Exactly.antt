@@ -11,11 +11,12 @@ use native.Mathlib.Nat.{eq-or-lt_of_le}
 use lib.Dec.{leb}
 use lib.ListN.{length}
 use lib.Ieee.{Float}
+use Rattle.std.specs.Prelude.{Err}
 use borrow.Author.Tests.{leb-true}
 use Rattle.layout.specs.Widths.{input_wide}
 use Rattle.model.specs.declared.Domain.{Domain}
 use Rattle.model.specs.declared.Particle.{Particle}
-use Rattle.model.specs.declared.Started.TheVariants as answer
+use Rattle.model.specs.declared.refusal.StartError.TheVariants.{BoxOutOfRange, TooShort, BadGrain}
 use Rattle.model.specs.Sizes.{box_ok, rated, first_bad}
 use Rattle.model.specs.Start.{Begun, started_at, begin}
 use Rattle.model.specs.Run.{refused}
@@ -116,8 +117,8 @@ module _ (b : Domain) (n room : ℕ) (inputs : List Float) (t : Tables) where
       omega (arith, a, e, q)
 
   -- a fact of each outcome, by its tests, is a fact of the start
-  pub start_case : (P : StartedWith → Type 0) → (box_ok b ≡ false → P (with (answer.Refused 1) t)) → (box_ok b ≡ true → fit ≡ false → P (with (answer.Refused 2) t))
-      → (box_ok b ≡ true → fit ≡ true → (first_bad b (inputs_of n inputs) ≡ n → ⊥) → P (with (answer.BadGrain (first_bad b (inputs_of n inputs))) t))
+  pub start_case : (P : StartedWith → Type 0) → (box_ok b ≡ false → P (with (Err BoxOutOfRange) t)) → (box_ok b ≡ true → fit ≡ false → P (with (Err TooShort) t))
+      → (box_ok b ≡ true → fit ≡ true → (first_bad b (inputs_of n inputs) ≡ n → ⊥) → P (with (Err (BadGrain (first_bad b (inputs_of n inputs)))) t))
       → (box_ok b ≡ true → fit ≡ true → first_bad b (inputs_of n inputs) ≡ n → P (started_over (started_at (begin b room (inputs_of n inputs))) t)) → P (start_all b n room inputs t)
   start_case P one two four none = by (box_ok b) refl fit refl
     where
@@ -160,19 +161,19 @@ module _ (b : Domain) (n room : ℕ) (inputs : List Float) (t : Tables) where
   }
 
   -- and that grain is named
-  not_named : (m g : ℕ) → mark_told m ≡ answer.BadGrain g → ⊥
-  not_named zero g e = let z : ◌≡◌ {A = ℕ} 0 1 = cc in omega arith
-  not_named (suc m) g e = let z : ◌≡◌ {A = ℕ} 0 1 = cc in omega arith
+  not_named : (m g : ℕ) → mark_told m ≡ Err (BadGrain g) → ⊥
+  not_named zero g e = cc
+  not_named (suc m) g e = cc
 
-  pub start_names : (g : ℕ) → Exactly ((start_all b n room inputs t).answer ≡ answer.BadGrain g) ((box_ok b ≡ true) × (fit ≡ true) × (g < n) × LowestBad b (inputs_of n inputs) g)
+  pub start_names : (g : ℕ) → Exactly ((start_all b n room inputs t).answer ≡ Err (BadGrain g)) ((box_ok b ≡ true) × (fit ≡ true) × (g < n) × LowestBad b (inputs_of n inputs) g)
   start_names g = record {
-    only = start_case (λ w. w.answer ≡ answer.BadGrain g → (box_ok b ≡ true) × (fit ≡ true) × (g < n) × LowestBad b gs g)
-        (λ e h. absurd (let z : ◌≡◌ {A = ℕ} 0 1 = cc in omega arith)) (λ e f h. absurd (let z : ◌≡◌ {A = ℕ} 0 1 = cc in omega arith))
+    only = start_case (λ w. w.answer ≡ Err (BadGrain g) → (box_ok b ≡ true) × (fit ≡ true) × (g < n) × LowestBad b gs g)
+        (λ e h. cc) (λ e f h. cc)
         (λ e f q h. let is : first_bad b gs ≡ g = cc in let w = subst (λ (k : ℕ). (k < n) × LowestBad b gs k) is (found q) in (e, f, w.0, w.1)) (λ e f q h. absurd (not_named (begin b room gs).num g h));
-    so = λ e. start_case (λ w. w.answer ≡ answer.BadGrain g) (λ x. differ e.0 x) (λ x f. differ e.1 f) (λ x f q. ap answer.BadGrain ((lowest_is g).so (e.2, e.3)).0) (λ x f q. none_found g (e.2, e.3) q);
+    so = λ e. start_case (λ w. w.answer ≡ Err (BadGrain g)) (λ x. differ e.0 x) (λ x f. differ e.1 f) (λ x f q. ap (λ (k : ℕ). Err (BadGrain k)) ((lowest_is g).so (e.2, e.3)).0) (λ x f q. none_found g (e.2, e.3) q);
   }
 
   -- the answer tells the number and the grain
   pub answer_tells : with (start_all b n room inputs t).answer (start_all b n room inputs t).after ≡ start_all b n room inputs t
   answer_tells = start_case (λ w. with w.answer w.after ≡ w) (λ e. refl) (λ e f. refl) (λ e f q. refl)
-      (λ e f q. let o = begin b room gs in λ i. record { number = mark_number o.num i; grain = mark_grain o.num i; answer = mark_told o.num; after = (started_over (started_at o) t).after })
+      (λ e f q. let o = begin b room gs in λ i. record { number = mark_number o.num (begin_halts e f q) i; grain = mark_grain o.num i; answer = mark_told o.num; after = (started_over (started_at o) t).after })

@@ -4,7 +4,9 @@ use Prim.Native.Nat.{ℕ}
 use mathlib.Core.Path.{◌≡◌, sym, ap, ◌∙◌, subst}
 use mathlib.Core.Bool.{true}
 use lib.Ieee.{Float}
-use Rattle.model.specs.declared.Report.TheVariants.{Refused}
+use Rattle.std.specs.Prelude.{Err}
+use Rattle.model.specs.declared.refusal.RunError.{RunError}
+use Rattle.model.specs.Refusals.{run_error_number}
 use Rattle.model.specs.State.{State}
 use Rattle.model.proofs.Sound.{Sound, Stands}
 use Rattle.model.specs.Acts.{taken}
@@ -79,8 +81,9 @@ module _ (t : Tables) (stood : Stands (decoded t)) (rate : Float) (C : checked r
   halts_standing r e = subst (λ (x : RanTables). HaltsBy r rate t x.count x.after) (sym run_is) (halts_over r (ap (λ (x : RanTables). x.how) (sym run_is) ∙ e) (run_passed_halts rate b t C r e))
 
 -- any tables, and any run on them that passes its checks and is refused
-pub halts_any_tables : (t : Tables) (rate : Float) (b r n : ℕ) (c : Float) (u : Tables) → RunPromise rate b t (Refused r c n) u → checked rate t ≡ 0 → HaltsBy r rate t n u
-halts_any_tables t rate b r n c u p C =
+pub halts_any_tables : (t : Tables) (rate : Float) (b : ℕ) (e : RunError) (n : ℕ) (c : Float) (u : Tables) → RunPromise rate b t (record { end = Err e; clock = c; events = n }) u → checked rate t ≡ 0
+    → HaltsBy (run_error_number e) rate t n u
+halts_any_tables t rate b e n c u p C =
     let m : model.standing (decoded t) ≡ true = unfold standing in and_r (legible t) (model.standing (decoded t)) (checked_means rate t C).stands in
     let st = (says_stands (decoded t) (fitted t p.owned.floats)).means m in
-    subst (λ (x : RanTables). HaltsBy r rate t x.count x.after) (sym p.is) (halts_standing t st rate C b r (ap (λ (x : RanTables). x.how) (sym p.is)))
+    subst (λ (x : RanTables). HaltsBy (run_error_number e) rate t x.count x.after) (sym p.is) (halts_standing t st rate C b (run_error_number e) (ap (λ (x : RanTables). x.how) (sym p.is)))

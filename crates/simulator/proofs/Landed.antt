@@ -9,14 +9,16 @@ use native.Mathlib.Omega.{arith}
 use lib.Dec.{eqb, leb}
 use lib.ListN.{length, get_or, length-replicate}
 use lib.Ieee.{Float}
+use Rattle.std.specs.Prelude.{Err}
 use borrow.Author.Tests.{leb-true}
 use Rattle.layout.specs.Widths.{input_wide, order_wide}
 use Rattle.order.specs.Numbers.{fzero}
 use Rattle.model.specs.declared.Domain.{Domain}
 use Rattle.model.specs.declared.Particle.{Particle}
 use Rattle.model.specs.declared.Report.{Report}
-use Rattle.model.specs.declared.Started.{Started}
-use Rattle.model.specs.declared.Started.TheVariants as answer
+use Rattle.model.specs.declared.refusal.Halt.{Halt}
+use Rattle.model.specs.declared.refusal.StartError.TheVariants.{BoxOutOfRange, TooShort, BadGrain, Halted}
+use Rattle.model.specs.Refusals.{halt_number}
 use Rattle.model.specs.Grid.{cells}
 use Rattle.model.specs.Sizes.{box_ok, counts_ok, rated}
 use Rattle.model.specs.State.{State, zero_g, grain}
@@ -47,7 +49,7 @@ use Rattle.checks.proofs.Cut.{cut_long}
 use Rattle.tables.specs.Inputs.{input_at, inputs_of}
 use Rattle.tables.specs.Encode.{sizes_in, encoded}
 use Rattle.starting.specs.Cleared.{sizes_for, cleared}
-use Rattle.simulator.specs.Start.{fits, StartedWith, with, by_number, started_over, start_all, StartPromise}
+use Rattle.simulator.specs.Start.{Started, fits, StartedWith, with, by_number, started_over, start_all, StartPromise}
 use Rattle.running.specs.Ran.{RanTables, beside}
 use Rattle.simulator.specs.Run.{run_tables, RunPromise}
 use Rattle.simulator.specs.Reached.{Taken, after_calls, ReachedTables}
@@ -73,19 +75,20 @@ pub record Begins (b : Domain) (n room : ℕ) (inputs : List Float) (t u : Table
   pub is : u ≡ encoded state (cleared t)
 
 not_taken : (r g : ℕ) → Taken (by_number r g) → ⊥
-not_taken r g x = by (eqb r 4) x
+not_taken r g x = by (eqb r 4) (eqb r 1) x
   where
-    by : (c : Bool) → Taken (cond c (answer.BadGrain g) (answer.Refused r)) → ⊥
-    by true x = x
-    by false x = x
+    by : (b c : Bool) → Taken (Err (cond b (BadGrain g) (cond c BoxOutOfRange TooShort))) → ⊥
+    by true c x = x
+    by false true x = x
+    by false false x = x
 
 begins : (b : Domain) (n room : ℕ) (inputs : List Float) (t : Tables) → Taken (start_all b n room inputs t).answer → Begins b n room inputs t (start_all b n room inputs t).after
 unfolding start_all fits
 begins b n room inputs t = by (box_ok b) (counts_ok room n) (leb (n * input_wide) (length inputs)) (long (sizes_for b n room) (length t.lists) (length t.grains) (length t.queue) (length t.events) (length t.order)) refl (start b room (inputs_of n inputs)) refl
   where
     by : (x y w v : Bool) → long (sizes_for b n room) (length t.lists) (length t.grains) (length t.queue) (length t.events) (length t.order) ≡ v → (o : Begun) → start b room (inputs_of n inputs) ≡ o
-        → Taken (cond x (cond (y && (w && v)) (started_over o t) (with (answer.Refused 2) t)) (with (answer.Refused 1) t)).answer
-        → Begins b n room inputs t (cond x (cond (y && (w && v)) (started_over o t) (with (answer.Refused 2) t)) (with (answer.Refused 1) t)).after
+        → Taken (cond x (cond (y && (w && v)) (started_over o t) (with (Err TooShort) t)) (with (Err BoxOutOfRange) t)).answer
+        → Begins b n room inputs t (cond x (cond (y && (w && v)) (started_over o t) (with (Err TooShort) t)) (with (Err BoxOutOfRange) t)).after
     by true true true true e (started s) f k = record { state = s; accepted = f; fits_in = e; is = refl }
     by true true true true e (begun.refused r g) f k = absurd (not_taken r g k)
     by true true true false e o f k = absurd k
@@ -270,16 +273,16 @@ halted_again_tables t q n rate b =
     halted_tables rate b t (passes t h) (subst (λ (k : ℕ). halt k ≡ true) m (elim (reached_marked h.state h.reached) [ inl z ↦ absurd (n (sym m ∙ z)) | inr k ↦ k ]))
 
 -- a start that halts: every place was cleared, and of the start's acts in 01's order those before the refused one were done
-pub start_halts_tables : (b : Domain) (n room : ℕ) (inputs : List Float) (t : Tables) (r : ℕ) (u : Tables) → StartPromise b n room inputs t (answer.Halted r) u
-    → let gs = inputs_of n inputs in HaltIn (start_acts b gs (clear b room (length gs))) r (clear b room (length gs)) (decoded u)
-start_halts_tables b n room inputs t r u p =
+pub start_halts_tables : (b : Domain) (n room : ℕ) (inputs : List Float) (t : Tables) (h : Halt) (u : Tables) → StartPromise b n room inputs t (Err (Halted h)) u
+    → let gs = inputs_of n inputs in HaltIn (start_acts b gs (clear b room (length gs))) (halt_number h) (clear b room (length gs)) (decoded u)
+start_halts_tables b n room inputs t h u p =
     let gs = inputs_of n inputs in
     let c = clear b room (length gs) in
-    let g = begun_so b n room inputs t (answer.Halted r) u p tt in
+    let g = begun_so b n room inputs t (Err (Halted h)) u p tt in
     let s = g.state in
-    let m = halted_start b n room inputs t r (ap (λ (w : StartedWith). w.answer) (sym p.is)) s g.accepted in
-    let read : decoded u ≡ s = ap decoded g.is ∙ decoded-encoded s (begun_well b n room inputs t (answer.Halted r) u p tt).sound (cleared t) (begun_long b n room inputs t (answer.Halted r) u p tt) in
-    subst (HaltIn (start_acts b gs c) r c) (sym read) (subst (λ (x : ℕ). HaltIn (start_acts b gs c) x c s) m.0 (start_halts_in_order b room gs s g.accepted m.1))
+    let m = halted_start b n room inputs t h (ap (λ (w : StartedWith). w.answer) (sym p.is)) s g.accepted in
+    let read : decoded u ≡ s = ap decoded g.is ∙ decoded-encoded s (begun_well b n room inputs t (Err (Halted h)) u p tt).sound (cleared t) (begun_long b n room inputs t (Err (Halted h)) u p tt) in
+    subst (HaltIn (start_acts b gs c) (halt_number h) c) (sym read) (subst (λ (x : ℕ). HaltIn (start_acts b gs c) x c s) m.0 (start_halts_in_order b room gs s g.accepted m.1))
 
 -- ---- 6. what the calls promise leads to reached tables: a start that was taken, and every run on reached tables
 after_more : (ks : List Call) (k : Call) (t : Tables) → after_calls (ks ++ k ∷ []) t ≡ (run_tables k.rate k.budget (after_calls ks t)).after

@@ -1,7 +1,7 @@
 -- THE NUMBERS GIVEN, for any tables and arguments: a start gives 0, 1, 2, 4 or a halt's; a run ends synchronised, spent, or refused by 2, 3, 10 or a halt's; 2, 3 and 10
 -- change nothing, and 10 is given exactly if a standing fact does not hold. Assumes nothing.
 use Prim.Native.Nat.{ℕ, zero, suc, ◌≤◌}
-use mathlib.Core.Path.{◌≡◌, refl, sym, ap, ◌∙◌}
+use mathlib.Core.Path.{◌≡◌, refl, sym, ap, subst, ◌∙◌}
 use mathlib.Core.Bool.{Bool, true, false, ◌&&◌}
 use mathlib.Core.List.{List, [], ◌∷◌}
 use mathlib.Core.Logic.{◌⊎◌, inl, inr}
@@ -9,10 +9,13 @@ use native.Mathlib.Omega.{arith}
 use native.Mathlib.Nat.{eq-or-lt_of_le}
 use native.Mathlib.Decide.{ℕ_discrete}
 use lib.Ieee.{Float}
+use Rattle.halting.specs.Every.{All}
 use Rattle.order.specs.Numbers.{fzero}
 use Rattle.model.specs.declared.Domain.{Domain}
 use Rattle.model.specs.declared.Report.{Report}
 use Rattle.model.specs.Sizes.{rated}
+use Rattle.model.specs.Refusals.{run_error_number}
+use Rattle.model.specs.Reports.{how_of}
 use Rattle.model.specs.Start.{begin}
 use Rattle.model.specs.Run.{How, synchronised, spent, refused, run_from}
 use Rattle.model.specs.Standing.{Standing}
@@ -29,6 +32,7 @@ use Rattle.tables.specs.Inputs.{inputs_of}
 use Rattle.running.specs.Ran.{RanTables, told_tables}
 use Rattle.simulator.specs.Start.{start_all}
 use Rattle.simulator.specs.Run.{by_check, run_tables, RunPromise}
+use Rattle.simulator.proofs.Ran.{error_of, end_of}
 use Rattle.simulator.proofs.Exactly.{check_case, halt_most, begin_halts, start_case, run_gives_10}
 
 -- n is one of these
@@ -65,10 +69,26 @@ start_number_lem b n room inputs t =
 no_halt : (r : ℕ) → OneOf r (2 ∷ 3 ∷ 10 ∷ []) → 5 ≤ r → r ≤ 9 → ⊥
 no_halt r o h k = elim o [ inl e ↦ omega (arith, e, h) | inr p ↦ elim p [ inl e ↦ omega (arith, e, h) | inr q ↦ elim q [ inl e ↦ omega (arith, e, k) | inr z ↦ z ] ] ]
 
+-- what holds of each of a list holds of one of it
+of_each : (P : ℕ → Type 0) (r : ℕ) (xs : List ℕ) → All P xs → OneOf r xs → P r
+of_each P r [] h o = absurd o
+of_each P r (x ∷ xs) h (inl e) = subst P (sym e) h.0
+of_each P r (x ∷ xs) h (inr o) = of_each P r xs h.1 o
+
+-- a refusal's number is the one it is found by
+error_back : (r : ℕ) → OneOf r (2 ∷ 3 ∷ 10 ∷ halts) → run_error_number (error_of r) ≡ r
+error_back r o = of_each (λ (k : ℕ). run_error_number (error_of k) ≡ k) r (2 ∷ 3 ∷ 10 ∷ halts) (refl, refl, refl, refl, refl, refl, refl, refl, tt) o
+
 abbrev pub Given : How → Type 0
 Given synchronised = Unit {0}
 Given spent = Unit {0}
 Given (refused r) = OneOf r (2 ∷ 3 ∷ 10 ∷ halts)
+
+-- each end that can be given is that of a report
+pub how_back : (h : How) → Given h → how_of (end_of h) ≡ h
+how_back synchronised g = refl
+how_back spent g = refl
+how_back (refused r) g = ap refused (error_back r g)
 
 -- a refusal that changes nothing: the number, the clock +0, 0 events, the tables as they were
 abbrev pub unchanged : ℕ → Tables → RanTables

@@ -1,10 +1,11 @@
 -- THE PUBLIC RUN IS THE MODEL'S: on tables that pass check 2 and are legible it answers as the model's run of the state that they are read as, and leaves tables
 -- that hold the state which that leaves; on tables that hold a sound state it is that run. Only one outcome fits. Assumes nothing.
-use Prim.Native.Nat.{ℕ, zero, suc, ◌+◌}
+use Prim.Native.Nat.{ℕ, zero, suc}
 use mathlib.Core.Path.{◌≡◌, refl, sym, ap, ◌∙◌, subst}
 use mathlib.Core.Bool.{Bool, true, false, ◌&&◌, cond}
-use native.Mathlib.Omega.{arith}
+use lib.Dec.{eqb}
 use lib.Ieee.{Float}
+use Rattle.std.specs.Prelude.{Result, Ok, Err}
 use Rattle.layout.specs.Widths.{grain_wide}
 use Rattle.model.specs.Grid.{cells}
 use Rattle.model.specs.Sizes.{rated}
@@ -28,7 +29,13 @@ use Rattle.simulator.specs.Run.{by_check, run_tables, RunPromise}
 use Rattle.simulator.proofs.Kept.{Kept, run_kept}
 use Rattle.simulator.proofs.Encoded.{Long, decoded-encoded, encoded-mark, encoded-standing, encoded-sized, encoded_again}
 use Rattle.model.specs.declared.Report.{Report}
-use Rattle.model.specs.declared.Report.TheVariants as report
+use Rattle.model.specs.declared.End.{End}
+use Rattle.model.specs.declared.End.TheVariants.{Synchronised, Spent}
+use Rattle.model.specs.declared.refusal.Halt.TheVariants.{NotFinite, QueueFull, ListFull, AlreadyListed, OnlyCell}
+use Rattle.model.specs.declared.refusal.RunError.{RunError}
+use Rattle.model.specs.declared.refusal.RunError.TheVariants.{TooShort, Halted, RateOutOfRange, Broken}
+use Rattle.model.specs.Reports.{how_of}
+use Rattle.simulator.specs.Start.{halt_of}
 use Rattle.checks.proofs.Stages.{sized_means}
 use Rattle.checks.proofs.Accepts.{fitted, sized_model}
 
@@ -138,27 +145,32 @@ module _ (s : State) (t : Tables) (K : Sound s) (F : Long (sizes_in s) t) (rate 
       by false e false f m g = refl
 
 -- ---- 4. ONLY ONE OUTCOME FITS what a call promises: the report, and every table afterwards
-abbrev number_of : How → ℕ
-number_of synchronised = 0
-number_of spent = 1
-number_of (refused r) = 2 + r
+-- the refusal by its number
+abbrev pub error_of : ℕ → RunError
+error_of r = cond (eqb r 2) TooShort (cond (eqb r 3) RateOutOfRange (cond (eqb r 10) Broken (Halted (halt_of r))))
 
-apart : {A : Type 0} (x y : RanTables) → (number_of x.how ≡ number_of y.how → ⊥) → x ≡ y → A
-apart x y n e = absurd (n (ap (λ (z : RanTables). number_of z.how) e))
+-- how a report says that a run ended so
+abbrev pub end_of : How → Result End RunError
+end_of synchronised = Ok Synchronised
+end_of spent = Ok Spent
+end_of (refused r) = Err (error_of r)
+
+end_back : (x : Result End RunError) → end_of (how_of x) ≡ x
+end_back (Ok Synchronised) = refl
+end_back (Ok Spent) = refl
+end_back (Err TooShort) = refl
+end_back (Err RateOutOfRange) = refl
+end_back (Err Broken) = refl
+end_back (Err (Halted NotFinite)) = refl
+end_back (Err (Halted QueueFull)) = refl
+end_back (Err (Halted ListFull)) = refl
+end_back (Err (Halted AlreadyListed)) = refl
+end_back (Err (Halted OnlyCell)) = refl
 
 pub one_report : (r q : Report) (a b : Tables) → told_tables r a ≡ told_tables q b → r ≡ q
-one_report (report.Synchronised x n) (report.Synchronised y m) a b e = λ i. report.Synchronised (e i).clock (e i).count
-one_report (report.Synchronised x n) (report.Spent y m) a b e = apart _ _ (λ z. omega (arith, z)) e
-one_report (report.Synchronised x n) (report.Refused k y m) a b e = apart _ _ (λ z. omega (arith, z)) e
-one_report (report.Spent x n) (report.Synchronised y m) a b e = apart _ _ (λ z. omega (arith, z)) e
-one_report (report.Spent x n) (report.Spent y m) a b e = λ i. report.Spent (e i).clock (e i).count
-one_report (report.Spent x n) (report.Refused k y m) a b e = apart _ _ (λ z. omega (arith, z)) e
-one_report (report.Refused j x n) (report.Synchronised y m) a b e = apart _ _ (λ z. omega (arith, z)) e
-one_report (report.Refused j x n) (report.Spent y m) a b e = apart _ _ (λ z. omega (arith, z)) e
-one_report (report.Refused j x n) (report.Refused k y m) a b e =
-    let z : 2 + j ≡ 2 + k = ap (λ (u : RanTables). number_of u.how) e in
-    let w : j ≡ k = omega (arith, z) in
-    λ i. report.Refused (w i) (e i).clock (e i).count
+one_report r q a b e =
+    let end : r.end ≡ q.end = sym (end_back r.end) ∙ ap (λ (x : RanTables). end_of x.how) e ∙ end_back q.end in
+    λ i. record { end = end i; clock = (e i).clock; events = (e i).count }
 
 pub one_outcome : (rate : Float) (b : ℕ) (t : Tables) (r q : Report) (a c : Tables) → told_tables r a ≡ run_tables rate b t → told_tables q c ≡ run_tables rate b t → (r ≡ q) × (a ≡ c)
 one_outcome rate b t r q a c e f = (one_report r q a c (e ∙ sym f), ap (λ (x : RanTables). x.after) (e ∙ sym f))

@@ -3,14 +3,20 @@ use Prim.Native.Nat.{ℕ, zero, suc, ◌*◌, ◌≤◌}
 use mathlib.Core.Path.{◌≡◌, refl, sym, ap, ◌∙◌}
 use mathlib.Core.Bool.{Bool, true, false, ◌&&◌}
 use mathlib.Core.List.{List}
+use native.Mathlib.Nat.{suc-ne-zero}
+use native.Mathlib.Omega.{arith}
 use lib.Dec.{leb}
 use lib.ListN.{length}
 use lib.Ieee.{Float}
 use borrow.Author.Tests.{leb-true, eq-eqb, ne_eqb}
+use Rattle.std.proofs.Common.{nat_tests, Result, Ok, Err}
 use Rattle.layout.specs.Widths.{input_wide}
 use Rattle.model.specs.declared.Domain.{Domain}
 use Rattle.model.specs.declared.Particle.{Particle}
-use Rattle.model.specs.declared.Started.TheVariants as answer
+use Rattle.model.specs.declared.refusal.Halt.{Halt}
+use Rattle.model.specs.declared.refusal.Halt.TheVariants.{NotFinite, QueueFull, ListFull, AlreadyListed, OnlyCell}
+use Rattle.model.specs.declared.refusal.StartError.TheVariants.{BoxOutOfRange, TooShort, BadGrain, Halted}
+use Rattle.model.specs.Refusals.{halt_number, number_of}
 use Rattle.model.specs.Sizes.{box_ok, counts_ok, first_bad}
 use Rattle.model.specs.Grid.{cells}
 use Rattle.model.specs.State.{marked}
@@ -26,7 +32,7 @@ use Rattle.checks.proofs.Cut.{cut_long}
 use Rattle.tables.specs.Inputs.{input_at, inputs_of}
 use Rattle.tables.specs.Encode.{encoded}
 use Rattle.starting.specs.Cleared.{sizes_for, cleared}
-use Rattle.simulator.specs.Start.{fits, with, mark_told, started_over, start_all}
+use Rattle.simulator.specs.Start.{Started, fits, with, halt_of, mark_told, started_over, start_all}
 use Rattle.starting.specs.Begin.{Startable, Began}
 
 -- ---- counts in range
@@ -92,10 +98,21 @@ module _ (b : Domain) (room : ℕ) (gs : List Particle) (box : box_ok b ≡ true
   unfolding start
   start_good u = rw (box, counts, eq-eqb (first_bad b gs) (length gs) u)
 
--- ---- the number of a start that was not refused is its mark, and no grain is named
-pub mark_number : (m : ℕ) → start_number (mark_told m) ≡ m
-mark_number zero = refl
-mark_number (suc m) = refl
+-- ---- a halt by its number
+told_halt : (h : Halt) → ◌≡◌ {A = Started} (Err (Halted h)) (mark_told (halt_number h))
+told_halt NotFinite = refl
+told_halt QueueFull = refl
+told_halt ListFull = refl
+told_halt AlreadyListed = refl
+told_halt OnlyCell = refl
+
+pub number_back : (r : ℕ) → 5 ≤ r → r ≤ 9 → halt_number (halt_of r) ≡ r
+number_back r h k = grind (arith, nat_tests)
+
+-- ---- the number of a start that was not refused is its mark, 0 or a halt's, and no grain is named
+pub mark_number : (m : ℕ) → ((m ≡ 0 → ⊥) → (5 ≤ m) × (m ≤ 9)) → start_number (mark_told m) ≡ m
+mark_number zero h = refl
+mark_number (suc m) h = let k = h suc-ne-zero in number_back (suc m) k.0 k.1
 
 pub mark_grain : (m : ℕ) → grain_named (mark_told m) ≡ 0
 mark_grain zero = refl
@@ -103,7 +120,7 @@ mark_grain (suc m) = refl
 
 -- ---- refused by 1; by 2; by 4; accepted
 module _ (b : Domain) (n room : ℕ) (inputs : List Float) (t : Tables) where
-  pub start_1 : box_ok b ≡ false → with (answer.Refused 1) t ≡ start_all b n room inputs t
+  pub start_1 : box_ok b ≡ false → with (Err BoxOutOfRange) t ≡ start_all b n room inputs t
   unfolding start_all
   start_1 e = rw e
 
@@ -111,7 +128,7 @@ module _ (b : Domain) (n room : ℕ) (inputs : List Float) (t : Tables) where
   passed = fits (sizes_for b n room) (length inputs) (length t.lists) (length t.grains) (length t.queue) (length t.events) (length t.order)
 
   module _ (box : box_ok b ≡ true) where
-    pub start-2 : passed ≡ false → with (answer.Refused 2) t ≡ start_all b n room inputs t
+    pub start-2 : passed ≡ false → with (Err TooShort) t ≡ start_all b n room inputs t
     unfolding start_all
     start-2 e = rw (box, e)
 
@@ -125,20 +142,24 @@ module _ (b : Domain) (n room : ℕ) (inputs : List Float) (t : Tables) where
           ap (counts_ok room) (cut_long input_at input_wide n inputs)
           ∙ counts_pass (sizes_for b n room) (length inputs) (length t.lists) (length t.grains) (length t.queue) (length t.events) (length t.order) e
 
-      pub start-4 : (bad : ℕ) → bad ≡ first_bad b (inputs_of n inputs) → (bad ≡ n → ⊥) → with (answer.BadGrain bad) t ≡ start_all b n room inputs t
+      pub start-4 : (bad : ℕ) → bad ≡ first_bad b (inputs_of n inputs) → (bad ≡ n → ⊥) → with (Err (BadGrain bad)) t ≡ start_all b n room inputs t
       start-4 bad f u =
-          ap (λ (k : ℕ). with (answer.BadGrain k) t) f
+          ap (λ (k : ℕ). with (Err (BadGrain k)) t) f
           ∙ sym (start_is ∙ ap (λ (r : Begun). started_over r t) (start_bad b room (inputs_of n inputs) box counts-ok (λ q. u (f ∙ q ∙ cut_long input_at input_wide n inputs))))
 
-      start-begun : (r : ℕ) (u : Tables) → first_bad b (inputs_of n inputs) ≡ n → Began (begin b room (inputs_of n inputs)) r t u → with (mark_told r) u ≡ start_all b n room inputs t
-      start-begun r u f B =
-          (λ i. with (mark_told (B.number i)) (B.left i))
-          ∙ (let o = begin b room (inputs_of n inputs) in λ i. record { number = mark_number o.num i; grain = mark_grain o.num i; answer = mark_told o.num; after = encoded (marked o.num o.st) (cleared t) })
+      -- not refused: by what the start's acts answered
+      begun_is : (r : ℕ) (u : Tables) → first_bad b (inputs_of n inputs) ≡ n → Began (begin b room (inputs_of n inputs)) r t u
+          → record { number = r; grain = 0; answer = mark_told r; after = u } ≡ start_all b n room inputs t
+      begun_is r u f B =
+          (λ i. record { number = B.number i; grain = 0; answer = mark_told (B.number i); after = B.left i })
           ∙ sym (start_is ∙ ap (λ (r : Begun). started_over r t) (start_good b room (inputs_of n inputs) box counts-ok (f ∙ sym (cut_long input_at input_wide n inputs))))
 
-      pub start_accepted : (r : ℕ) (u : Tables) → first_bad b (inputs_of n inputs) ≡ n → Began (begin b room (inputs_of n inputs)) r t u → r ≡ 0 → with answer.Accepted u ≡ start_all b n room inputs t
-      start_accepted r u f B z = ap (λ (k : ℕ). with (mark_told k) u) (sym z) ∙ start-begun r u f B
+      pub start_accepted : (r : Result (Unit {0}) Halt) (u : Tables) → first_bad b (inputs_of n inputs) ≡ n → Began (begin b room (inputs_of n inputs)) (number_of r) t u → number_of r ≡ 0
+          → with (Ok tt) u ≡ start_all b n room inputs t
+      start_accepted r u f B z = ap (λ (k : ℕ). record { number = k; grain = 0; answer = mark_told k; after = u }) (sym z) ∙ begun_is (number_of r) u f B
 
-      pub start-halted : (r : ℕ) (u : Tables) → first_bad b (inputs_of n inputs) ≡ n → Began (begin b room (inputs_of n inputs)) r t u → (r ≡ 0 → ⊥) → with (answer.Halted r) u ≡ start_all b n room inputs t
-      start-halted zero u f B z = absurd (z refl)
-      start-halted (suc r) u f B z = start-begun (suc r) u f B
+      pub start-halted : (r : Result (Unit {0}) Halt) (h : Halt) (u : Tables) → first_bad b (inputs_of n inputs) ≡ n → Began (begin b room (inputs_of n inputs)) (number_of r) t u → number_of r ≡ halt_number h
+          → with (Err (Halted h)) u ≡ start_all b n room inputs t
+      start-halted r h u f B e =
+          (λ i. record { number = sym e i; grain = 0; answer = (told_halt h ∙ ap mark_told (sym e)) i; after = u })
+          ∙ begun_is (number_of r) u f B

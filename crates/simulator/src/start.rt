@@ -62,8 +62,7 @@ pub fn start(
     ) {
         return Err(StartError::TooShort);
     }
-    let bad = starting::inputs::first_bad(domain, inputs, z.grains);
-    if bad != z.grains {
+    if let Some(bad) = starting::inputs::first_bad(domain, inputs, z.grains) {
         return Err(StartError::BadGrain(bad as u64));
     }
     starting::begin(inputs, lists, grains, queue, events, order, z, domain, grid)?;
