@@ -96,10 +96,10 @@ module _ {o : World} {rate : Float} {budget : ℕ} {s : State} where
     left = ap (λ (n : ℕ). run_from rate n 0 s) (sub-zero budget);
   }
 
-  module _ {lists lists' : List ℕ} {grains grains' : List Float} {q q' : Queues} {w w' : World} {d : ℕ} {r : Result Bool Halt}
+  module _ {lists lists' : List ℕ} {grains grains' : List Float} {q q' : Queues} {w w' : World} {d : ℕ} (r : Result Bool Halt)
       (R : rated rate ≡ true) (h : d < budget) (N : Left o rate budget s w lists grains q d) (same : SameBox w w')
       (does : Does (Steady w lists grains q) (Held w' lists' grains' q') (number_of r) (event rate)) (kind : (u : State) → Steady w lists grains q u → IfOk r (λ (sync : Bool). sync ≡ is_sync (head_event u))) where
-    u : State
+    abbrev u : State
     u = (event rate N.now).st
 
     number : number_of r ≡ (event rate N.now).num
@@ -117,12 +117,12 @@ module _ {o : World} {rate : Float} {budget : ℕ} {s : State} where
     whole : (m : Moved) → Whole m.how → step rate N.now ≡ m → Stands m.state
     whole m v e = subst (λ (x : Moved). Stands x.state) e (step_stands rate (rated_later rate R) N.now N.stands (subst (λ (x : Moved). Whole x.how) (sym e) v))
 
-    placed : {u : State} → Holds w'.sizes lists' grains' q'.queue.now q'.events.now q'.order.now u → Holds o.sizes lists' grains' q'.queue.now q'.events.now q'.order.now u
-    placed {u} k = subst (λ (z : Sizes). Holds z lists' grains' q'.queue.now q'.events.now q'.order.now u) boxed.sizes k
+    placed : Holds o.sizes lists' grains' q'.queue.now q'.events.now q'.order.now (event rate N.now).st
+    placed = subst (λ (z : Sizes). Holds z lists' grains' q'.queue.now q'.events.now q'.order.now u) boxed.sizes (holds_of held)
 
-    pub left-more : r ≡ Ok false → Left o rate budget s w' lists' grains' q' (d + 1)
-    left-more ok =
-        let e : step rate N.now ≡ moved_to done u = unfold step in done_is (event rate N.now).num u (head_event N.now) (sym number ∙ ap number_of ok) (sym (kind_is false ok)) in
+    pub left-more : (b : Bool) → r ≡ Ok b → b ≡ false → Left o rate budget s w' lists' grains' q' (d + 1)
+    left-more b ok more =
+        let e : step rate N.now ≡ moved_to done u = unfold step in done_is (event rate N.now).num u (head_event N.now) (sym number ∙ ap number_of ok) (sym (kind_is b ok) ∙ more) in
         record {
           now = u;
           same = boxed;
@@ -131,40 +131,40 @@ module _ {o : World} {rate : Float} {budget : ℕ} {s : State} where
           left = ap (λ (k : ℕ). run_from rate (budget - k) k u) (add-one d) ∙ sym (turn rate budget d N.now (moved_to done u) h e) ∙ N.left;
         }
 
-    pub gone-sync : r ≡ Ok true → Gone o lists' grains' q' (record { end = Ok Synchronised; clock = w'.clock; events = d + 1 }) (run_from rate budget 0 s)
-    gone-sync ok =
-        let e : step rate N.now ≡ moved_to doing.synchronised u = unfold step in sync_is (event rate N.now).num u (head_event N.now) (sym number ∙ ap number_of ok) (sym (kind_is true ok)) in
-        subst (Gone o lists' grains' q' (record { end = Ok Synchronised; clock = w'.clock; events = d + 1 })) (sym (turn rate budget d N.now (moved_to doing.synchronised u) h e) ∙ N.left)
+    pub gone-sync : (b : Bool) (n : ℕ) → r ≡ Ok b → b ≡ true → n ≡ d → Gone o lists' grains' q' (record { end = Ok Synchronised; clock = w'.clock; events = n + 1 }) (run_from rate budget 0 s)
+    gone-sync b n ok last ne =
+        let e : step rate N.now ≡ moved_to doing.synchronised u = unfold step in sync_is (event rate N.now).num u (head_event N.now) (sym number ∙ ap number_of ok) (sym (kind_is b ok) ∙ last) in
+        subst (Gone o lists' grains' q' (record { end = Ok Synchronised; clock = w'.clock; events = n + 1 })) (sym (turn rate budget d N.now (moved_to doing.synchronised u) h e) ∙ N.left)
         (record {
-          answer = λ i. ran_of run.synchronised (sym held.seen.at.1 i) (add-one d i) u;
-          holds = placed (holds_of held);
+          answer = λ i. ran_of run.synchronised (sym held.seen.at.1 i) ((ap (λ (k : ℕ). k + 1) ne ∙ add-one d) i) u;
+          holds = placed;
           box = held.seen.at.0 ∙ boxed.domain;
           clock = held.seen.at.1;
           mark = (whole (moved_to doing.synchronised u) tt e).free;
         })
 
-    pub gone-halted : (k : Halt) → r ≡ Err k → Gone o lists' grains' q' (record { end = Err (Halted k); clock = w'.clock; events = d }) (run_from rate budget 0 s)
-    gone-halted k err =
+    pub gone-halted : (k : Halt) (m : ℕ) → r ≡ Err k → m ≡ d → Gone o lists' grains' q' (record { end = Err (Halted k); clock = w'.clock; events = m }) (run_from rate budget 0 s)
+    gone-halted k m err me =
         let n = halt_number k in
         let e : step rate N.now ≡ moved_to (halted n) (marked n u) = unfold step in halt_is (event rate N.now).num n u (head_event N.now) (sym (ap number_of err) ∙ number) (halt_no_zero k) in
-        subst (Gone o lists' grains' q' (record { end = Err (Halted k); clock = w'.clock; events = d })) (sym (turn rate budget d N.now (moved_to (halted n) (marked n u)) h e) ∙ N.left)
+        subst (Gone o lists' grains' q' (record { end = Err (Halted k); clock = w'.clock; events = m })) (sym (turn rate budget d N.now (moved_to (halted n) (marked n u)) h e) ∙ N.left)
         (record {
-          answer = λ i. ran_of (refused n) (sym held.seen.at.1 i) d (marked n u);
-          holds = marked_holds u n (placed (holds_of held));
+          answer = λ i. ran_of (refused n) (sym held.seen.at.1 i) (me i) (marked n u);
+          holds = marked_holds u n placed;
           box = held.seen.at.0 ∙ boxed.domain;
           clock = held.seen.at.1;
           mark = refl;
         })
 
   -- the budget is spent
-  pub gone_spent : {lists : List ℕ} {grains : List Float} {q : Queues} {w : World}
-      → Left o rate budget s w lists grains q budget → Gone o lists grains q (record { end = Ok Spent; clock = w.clock; events = budget }) (run_from rate budget 0 s)
+  pub gone_spent : {lists : List ℕ} {grains : List Float} {q : Queues} {w : World} {d : ℕ} (n : ℕ)
+      → Left o rate budget s w lists grains q d → budget ≤ d → n ≡ d → Gone o lists grains q (record { end = Ok Spent; clock = w.clock; events = n }) (run_from rate budget 0 s)
   unfolding run_from
-  gone_spent {lists = lists} {grains = grains} {q = q} {w = w} N =
-      let k : budget - budget ≡ 0 = omega arith in
-      subst (Gone o lists grains q (record { end = Ok Spent; clock = w.clock; events = budget })) (ap (λ (n : ℕ). run_from rate n budget N.now) (sym k) ∙ N.left)
+  gone_spent {lists = lists} {grains = grains} {q = q} {w = w} {d = d} n N h ne =
+      let k : budget - d ≡ 0 = omega arith in
+      subst (Gone o lists grains q (record { end = Ok Spent; clock = w.clock; events = n })) (ap (λ (n : ℕ). run_from rate n d N.now) (sym k) ∙ N.left)
       (record {
-        answer = λ i. ran_of spent (sym N.held.seen.at.1 i) budget N.now;
+        answer = λ i. ran_of spent (sym N.held.seen.at.1 i) (ne i) N.now;
         holds = subst (λ (z : Sizes). Holds z lists grains q.queue.now q.events.now q.order.now N.now) N.same.sizes (holds_of N.held);
         box = N.held.seen.at.0 ∙ N.same.domain;
         clock = N.held.seen.at.1;

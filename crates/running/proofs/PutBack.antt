@@ -82,13 +82,13 @@ module _ {rate : Float} {t : Tables} (A : Answered rate t 0) where
   abbrev ran : ℕ → Ran
   ran budget = run_from rate budget 0 (decoded t)
 
-  put_back : (budget : ℕ) {r : Report} {l : List ℕ} {g : List Float} {q : List ℕ} {e : List Float} {o : List ℕ} {m : ℕ} {x : Float} {l' : List ℕ} {g' : List Float}
+  put_back : (budget : ℕ) (r : Report) {l : List ℕ} {g : List Float} {q : List ℕ} {e : List Float} {o : List ℕ} {m : ℕ} {x : Float} {l' : List ℕ} {g' : List Float}
       → length l ≡ length (lists_body (z A) t.lists) → length g ≡ length (grains_body (z A) t.grains) → length q ≡ length (queue_body (z A) t.queue) → length e ≡ length (events_body (z A) t.events) → length o ≡ length (order_body t.order)
       → l' ≡ with_mark m (put_mid lists_head_wide (lists_need (z A) - lists_head_wide) t.lists l) → g' ≡ with_clock x (put_mid grains_head_wide (grains_need (z A) - grains_head_wide) t.grains g)
       → told r (ran budget).state ≡ ran budget → Holds (z A) l g q e o (ran budget).state → (ran budget).state.box ≡ box_in t.lists t.grains → (ran budget).state.mark ≡ m → (ran budget).state.clock ≡ x
       → told_tables r (tables l' g' (q ++ drop (queue_need (z A)) t.queue) (e ++ drop (events_need (z A)) t.events) (o ++ drop order_wide t.order)) ≡ ran_over (ran budget) t
   unfolding encoded
-  put_back budget {r = r} {l = l} {g = g} {q = q} {e = e} {o = o} {m = m} {x = x} {l' = l'} {g' = g'} ll lg lq le lo el eg answer holds box mark clock =
+  put_back budget r {l = l} {g = g} {q = q} {e = e} {o = o} {m = m} {x = x} {l' = l'} {g' = g'} ll lg lq le lo el eg answer holds box mark clock =
       ap (λ (u : Ran). beside u left) answer ∙ ap (beside (ran budget)) (λ i. tables (lists-is i) (grains-is i) (queue_is i) (events_is i) (order_is i))
     where
       s : State
@@ -120,11 +120,11 @@ module _ {rate : Float} {t : Tables} (A : Answered rate t 0) where
       order_is = front_back t.order o _ order_wide (lo ∙ length-take-le order_wide t.order (long A).order_long) holds.queued.heap.is
 
   -- with the counts, the ends and the box as they were read
-  pub worked : (budget : ℕ) {w : World} {n : Lengths} {r : Report} {l : List ℕ} {g : List Float} {q : Queues} {m : ℕ} {x : Float} {l' : List ℕ} {g' : List Float}
+  pub worked : (budget : ℕ) {w : World} {n : Lengths} (r : Report) {l : List ℕ} {g : List Float} {q : Queues} {m : ℕ} {x : Float} {l' : List ℕ} {g' : List Float}
       → w.sizes ≡ sizes_of t.lists → n ≡ lengths_for w.sizes → w.domain ≡ box_in t.lists t.grains
       → length l ≡ length (mid_of lists_head_wide (n.lists - lists_head_wide) t.lists) → length g ≡ length (mid_of grains_head_wide (n.grains - grains_head_wide) t.grains)
       → length q.queue.now ≡ length (take n.queue t.queue) → length q.events.now ≡ length (take n.events t.events) → length q.order.now ≡ length (take order_wide t.order)
       → l' ≡ with_mark m (put_mid lists_head_wide (n.lists - lists_head_wide) t.lists l) → g' ≡ with_clock x (put_mid grains_head_wide (n.grains - grains_head_wide) t.grains g) → m ≡ check_number r.end → x ≡ r.clock → Gone w l g q r (ran budget)
       → told_tables r (tables l' g' (q.queue.now ++ drop n.queue t.queue) (q.events.now ++ drop n.events t.events) (q.order.now ++ drop order_wide t.order)) ≡ ran_over (ran budget) t
-  worked budget ze ne be ll lg lq le lo el eg em ex G =
-      rw (ne, ze) (put_back budget (rw (ne, ze) at ll) (rw (ne, ze) at lg) (rw (ne, ze) at lq) (rw (ne, ze) at le) lo (rw (ne, ze) at el) (rw (ne, ze) at eg) G.answer (rw ze at G.holds) (G.box ∙ be) (G.mark ∙ sym em) (G.clock ∙ sym ex))
+  worked budget r ze ne be ll lg lq le lo el eg em ex G =
+      rw (ne, ze) (put_back budget r (rw (ne, ze) at ll) (rw (ne, ze) at lg) (rw (ne, ze) at lq) (rw (ne, ze) at le) lo (rw (ne, ze) at el) (rw (ne, ze) at eg) G.answer (rw ze at G.holds) (G.box ∙ be) (G.mark ∙ sym em) (G.clock ∙ sym ex))

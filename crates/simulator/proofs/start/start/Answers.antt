@@ -31,3 +31,16 @@ returns-then-not-fits c =
     let sized = sized_as a.domain a.count c.cells.result a.room _ _ _ _ _ _ count (sym c.fits.ensures ∙ c.if-not-fits.true) in
     record { box_fits = record { first = search rules; second = search rules }; is = start-2 a.domain a.count a.room a.inputs.now t box sized }
 
+pub first_bad-requires : goal.first_bad-requires
+first_bad-requires c =
+    let a = c.args in
+    let box = sym c.box_ok.ensures ∙ c.if-not-box_ok.false in
+    let count = cells_counted a.domain c.new-grid.result c.cells.result c.new-grid.ensures c.cells.ensures in
+    (startable (record { grains = a.count; cells = c.cells.result; room = a.room }) _ _ _ _ _ _ (sym c.fits.ensures ∙ c.if-not-fits.false) a.domain c.new-grid.result box c.new-grid.ensures count).inputs_long
+
+pub begin-requires : goal.begin-requires
+begin-requires c =
+    let a = c.args in
+    let box = sym c.box_ok.ensures ∙ c.if-not-box_ok.false in
+    let count = cells_counted a.domain c.new-grid.result c.cells.result c.new-grid.ensures c.cells.ensures in
+    startable (record { grains = a.count; cells = c.cells.result; room = a.room }) _ _ _ _ _ _ (sym c.fits.ensures ∙ c.if-not-fits.false) a.domain c.new-grid.result box c.new-grid.ensures count
