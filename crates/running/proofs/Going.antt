@@ -87,12 +87,12 @@ turn rate budget d u m h e =
     ap (λ (n : ℕ). run_from rate n d u) k ∙ ap (λ (x : Moved). onward x.how x.state d (run_from rate (budget - suc d))) e
 
 module _ {o : World} {rate : Float} {budget : ℕ} {s : State} where
-  pub left_first : {lists : List ℕ} {grains : List Float} {q : Queues} → Lent o lists grains q s → Left o rate budget s o lists grains q 0
+  pub left_first : {lists : List ℕ} {grains : List Float} {q : Queues} → Lent o lists grains q.queue.now q.events.now q.order.now s → Left o rate budget s o lists grains q 0
   left_first h = record {
     now = s;
     same = record { sizes = refl; domain = refl; grid = refl };
-    held = record { listed = h.steady.holds.listed; seen = record { at = (h.steady.box, h.clock); grained = h.steady.holds.grained; queued = h.steady.holds.queued } };
-    stands = stands s h.steady.fitted h.steady.standing;
+    held = record { listed = h.holds.listed; seen = record { at = (h.box, h.clock); grained = h.holds.grained; queued = h.holds.queued } };
+    stands = stands s h.fitted h.stands;
     left = ap (λ (n : ℕ). run_from rate n 0 s) (sub-zero budget);
   }
 
@@ -131,10 +131,10 @@ module _ {o : World} {rate : Float} {budget : ℕ} {s : State} where
           left = ap (λ (k : ℕ). run_from rate (budget - k) k u) (add-one d) ∙ sym (turn rate budget d N.now (moved_to done u) h e) ∙ N.left;
         }
 
-    pub gone-sync : (b : Bool) (n : ℕ) → r ≡ Ok b → b ≡ true → n ≡ d → Gone o lists' grains' q' (record { end = Ok Synchronised; clock = w'.clock; events = n + 1 }) (run_from rate budget 0 s)
+    pub gone-sync : (b : Bool) (n : ℕ) → r ≡ Ok b → b ≡ true → n ≡ d → Gone o lists' grains' q'.queue.now q'.events.now q'.order.now (record { end = Ok Synchronised; clock = w'.clock; events = n + 1 }) (run_from rate budget 0 s)
     gone-sync b n ok last ne =
         let e : step rate N.now ≡ moved_to doing.synchronised u = unfold step in sync_is (event rate N.now).num u (head_event N.now) (sym number ∙ ap number_of ok) (sym (kind_is b ok) ∙ last) in
-        subst (Gone o lists' grains' q' (record { end = Ok Synchronised; clock = w'.clock; events = n + 1 })) (sym (turn rate budget d N.now (moved_to doing.synchronised u) h e) ∙ N.left)
+        subst (Gone o lists' grains' q'.queue.now q'.events.now q'.order.now (record { end = Ok Synchronised; clock = w'.clock; events = n + 1 })) (sym (turn rate budget d N.now (moved_to doing.synchronised u) h e) ∙ N.left)
         (record {
           answer = λ i. ran_of run.synchronised (sym held.seen.at.1 i) ((ap (λ (k : ℕ). k + 1) ne ∙ add-one d) i) u;
           holds = placed;
@@ -143,11 +143,11 @@ module _ {o : World} {rate : Float} {budget : ℕ} {s : State} where
           mark = (whole (moved_to doing.synchronised u) tt e).free;
         })
 
-    pub gone-halted : (k : Halt) (m : ℕ) → r ≡ Err k → m ≡ d → Gone o lists' grains' q' (record { end = Err (Halted k); clock = w'.clock; events = m }) (run_from rate budget 0 s)
+    pub gone-halted : (k : Halt) (m : ℕ) → r ≡ Err k → m ≡ d → Gone o lists' grains' q'.queue.now q'.events.now q'.order.now (record { end = Err (Halted k); clock = w'.clock; events = m }) (run_from rate budget 0 s)
     gone-halted k m err me =
         let n = halt_number k in
         let e : step rate N.now ≡ moved_to (halted n) (marked n u) = unfold step in halt_is (event rate N.now).num n u (head_event N.now) (sym (ap number_of err) ∙ number) (halt_no_zero k) in
-        subst (Gone o lists' grains' q' (record { end = Err (Halted k); clock = w'.clock; events = m })) (sym (turn rate budget d N.now (moved_to (halted n) (marked n u)) h e) ∙ N.left)
+        subst (Gone o lists' grains' q'.queue.now q'.events.now q'.order.now (record { end = Err (Halted k); clock = w'.clock; events = m })) (sym (turn rate budget d N.now (moved_to (halted n) (marked n u)) h e) ∙ N.left)
         (record {
           answer = λ i. ran_of (refused n) (sym held.seen.at.1 i) (me i) (marked n u);
           holds = marked_holds u n placed;
@@ -158,11 +158,11 @@ module _ {o : World} {rate : Float} {budget : ℕ} {s : State} where
 
   -- the budget is spent
   pub gone_spent : {lists : List ℕ} {grains : List Float} {q : Queues} {w : World} {d : ℕ} (n : ℕ)
-      → Left o rate budget s w lists grains q d → budget ≤ d → n ≡ d → Gone o lists grains q (record { end = Ok Spent; clock = w.clock; events = n }) (run_from rate budget 0 s)
+      → Left o rate budget s w lists grains q d → budget ≤ d → n ≡ d → Gone o lists grains q.queue.now q.events.now q.order.now (record { end = Ok Spent; clock = w.clock; events = n }) (run_from rate budget 0 s)
   unfolding run_from
   gone_spent {lists = lists} {grains = grains} {q = q} {w = w} {d = d} n N h ne =
       let k : budget - d ≡ 0 = omega arith in
-      subst (Gone o lists grains q (record { end = Ok Spent; clock = w.clock; events = n })) (ap (λ (n : ℕ). run_from rate n d N.now) (sym k) ∙ N.left)
+      subst (Gone o lists grains q.queue.now q.events.now q.order.now (record { end = Ok Spent; clock = w.clock; events = n })) (ap (λ (n : ℕ). run_from rate n d N.now) (sym k) ∙ N.left)
       (record {
         answer = λ i. ran_of spent (sym N.held.seen.at.1 i) (ne i) N.now;
         holds = subst (λ (z : Sizes). Holds z lists grains q.queue.now q.events.now q.order.now N.now) N.same.sizes (holds_of N.held);

@@ -1,6 +1,6 @@
 -- The parts behind the headers put back, the clock and the halt mark written: the tables hold the state that the run left. Assumes nothing.
 use Prim.Native.Nat.{ℕ, ◌-◌}
-use mathlib.Core.Path.{◌≡◌, refl, sym, ap, ◌∙◌}
+use mathlib.Core.Path.{◌≡◌, refl, sym, ap, ◌∙◌, subst}
 use mathlib.Core.Bool.{true}
 use mathlib.Core.List.{List, ◌++◌}
 use native.Mathlib.Omega.{arith}
@@ -8,6 +8,8 @@ use lib.ListN.{length, take, drop}
 use lib.Ieee.{Float}
 use lib.Seq.{length-take-le}
 use borrow.Rule.Slice.PartMut.{mid_of, put_mid, mid_len}
+use Rattle.std.specs.Prelude.{Result, Ok, Err, Option, MatchOption}
+use Rattle.std.specs.Result.{result_err}
 use Rattle.layout.specs.Widths.{lists_head_wide, grains_head_wide, order_wide}
 use Rattle.model.specs.declared.Domain.{Domain}
 use Rattle.model.specs.declared.Report.{Report}
@@ -15,7 +17,9 @@ use Rattle.model.specs.Sizes.{box_ok, rated}
 use Rattle.model.specs.Grid.{cells}
 use Rattle.model.specs.State.{State}
 use Rattle.model.specs.Run.{Ran, run_from}
-use Rattle.model.specs.Refusals.{check_number}
+use Rattle.model.specs.declared.End.{End}
+use Rattle.model.specs.declared.refusal.RunError.{RunError}
+use Rattle.model.specs.Refusals.{run_error_number, check_number}
 use Rattle.model.specs.Reports.{told}
 use Rattle.cell.specs.declared.Grid.{Grid}
 use Rattle.cell.specs.Cell.{grid_of}
@@ -27,7 +31,6 @@ use Rattle.tables.specs.Holds.{Holds}
 use Rattle.tables.specs.Lengths.{lengths_for, lists_need, grains_need, queue_need, events_need}
 use Rattle.tables.specs.Bodies.{lists_body, grains_body, queue_body, events_body, order_body}
 use Rattle.checks.specs.Answered.{Answered}
-use Rattle.acts.specs.declared.queue.Queues.{Queues}
 use Rattle.step.specs.Placed.{Placed}
 use Rattle.step.specs.declared.World.{World}
 use Rattle.tables.specs.Encode.{over, lists_head, grains_head, sizes_in, with_mark, with_clock, encoded}
@@ -58,13 +61,9 @@ module _ {rate : Float} {t : Tables} (A : Answered rate t 0) where
   body ze ne = rw (ne, ze) whole.hold.body
 
   -- with the box and the clock as they were read
-  pub lent : {w : World} {n : Lengths} {q : Queues} → w.sizes ≡ sizes_of t.lists → n ≡ lengths_for w.sizes → w.domain ≡ box_in t.lists t.grains → w.clock ≡ clock_in t.grains
-      → q.queue.now ≡ take n.queue t.queue → q.events.now ≡ take n.events t.events → q.order.now ≡ take order_wide t.order
-      → Lent w (mid_of lists_head_wide (n.lists - lists_head_wide) t.lists) (mid_of grains_head_wide (n.grains - grains_head_wide) t.grains) q (decoded t)
-  lent ze ne be xe qe ee oe = record {
-    steady = record { holds = rw (qe, ee, oe) (body ze ne); box = sym be; standing = standing (decoded t) whole.stands; fitted = sound_fitted (decoded t) whole.stands.sound };
-    clock = sym xe;
-  }
+  pub lent : {w : World} {n : Lengths} → w.sizes ≡ sizes_of t.lists → n ≡ lengths_for w.sizes → w.domain ≡ box_in t.lists t.grains → w.clock ≡ clock_in t.grains
+      → Lent w (mid_of lists_head_wide (n.lists - lists_head_wide) t.lists) (mid_of grains_head_wide (n.grains - grains_head_wide) t.grains) (take n.queue t.queue) (take n.events t.events) (take order_wide t.order) (decoded t)
+  lent ze ne be xe = record { holds = body ze ne; box = sym be; clock = sym xe; stands = standing (decoded t) whole.stands; fitted = sound_fitted (decoded t) whole.stands.sound }
 
   pub placed : {w : Sizes} {b : Domain} {g : Grid} → w ≡ sizes_of t.lists → b ≡ box_in t.lists t.grains → g ≡ grid_of b → Placed w b g
   placed ze be e =
@@ -72,6 +71,11 @@ module _ {rate : Float} {t : Tables} (A : Answered rate t 0) where
 
   pub rate_in : rated rate ≡ true
   rate_in = (checked_means rate t (sym A.is)).rate_in
+
+-- ---- the mark, by the library's words
+pub mark_is : (x : Result End RunError) (o : Option RunError) (r : ℕ) → o ≡ result_err x → MatchOption o (r ≡ 0) (λ (e : RunError). r ≡ run_error_number e) → r ≡ check_number x
+mark_is (Ok a) o r e h = subst (λ (o : Option RunError). MatchOption o (r ≡ 0) (λ (e : RunError). r ≡ run_error_number e)) e h
+mark_is (Err k) o r e h = subst (λ (o : Option RunError). MatchOption o (r ≡ 0) (λ (e : RunError). r ≡ run_error_number e)) e h
 
 -- ---- a part in front put back
 front_back : {A : Type 0} (l xs ys : List A) (k : ℕ) → length xs ≡ k → xs ≡ ys → xs ++ drop k l ≡ over ys l
@@ -120,11 +124,11 @@ module _ {rate : Float} {t : Tables} (A : Answered rate t 0) where
       order_is = front_back t.order o _ order_wide (lo ∙ length-take-le order_wide t.order (long A).order_long) holds.queued.heap.is
 
   -- with the counts, the ends and the box as they were read
-  pub worked : (budget : ℕ) {w : World} {n : Lengths} (r : Report) {l : List ℕ} {g : List Float} {q : Queues} {m : ℕ} {x : Float} {l' : List ℕ} {g' : List Float}
+  pub worked : (budget : ℕ) {w : World} {n : Lengths} (r : Report) {l : List ℕ} {g : List Float} {q : List ℕ} {e : List Float} {o : List ℕ} {m : ℕ} {x : Float} {l' : List ℕ} {g' : List Float}
       → w.sizes ≡ sizes_of t.lists → n ≡ lengths_for w.sizes → w.domain ≡ box_in t.lists t.grains
       → length l ≡ length (mid_of lists_head_wide (n.lists - lists_head_wide) t.lists) → length g ≡ length (mid_of grains_head_wide (n.grains - grains_head_wide) t.grains)
-      → length q.queue.now ≡ length (take n.queue t.queue) → length q.events.now ≡ length (take n.events t.events) → length q.order.now ≡ length (take order_wide t.order)
-      → l' ≡ with_mark m (put_mid lists_head_wide (n.lists - lists_head_wide) t.lists l) → g' ≡ with_clock x (put_mid grains_head_wide (n.grains - grains_head_wide) t.grains g) → m ≡ check_number r.end → x ≡ r.clock → Gone w l g q r (ran budget)
-      → told_tables r (tables l' g' (q.queue.now ++ drop n.queue t.queue) (q.events.now ++ drop n.events t.events) (q.order.now ++ drop order_wide t.order)) ≡ ran_over (ran budget) t
+      → length q ≡ length (take n.queue t.queue) → length e ≡ length (take n.events t.events) → length o ≡ length (take order_wide t.order)
+      → l' ≡ with_mark m (put_mid lists_head_wide (n.lists - lists_head_wide) t.lists l) → g' ≡ with_clock x (put_mid grains_head_wide (n.grains - grains_head_wide) t.grains g) → m ≡ check_number r.end → x ≡ r.clock → Gone w l g q e o r (ran budget)
+      → told_tables r (tables l' g' (q ++ drop n.queue t.queue) (e ++ drop n.events t.events) (o ++ drop order_wide t.order)) ≡ ran_over (ran budget) t
   worked budget r ze ne be ll lg lq le lo el eg em ex G =
       rw (ne, ze) (put_back budget r (rw (ne, ze) at ll) (rw (ne, ze) at lg) (rw (ne, ze) at lq) (rw (ne, ze) at le) lo (rw (ne, ze) at el) (rw (ne, ze) at eg) G.answer (rw ze at G.holds) (G.box ∙ be) (G.mark ∙ sym em) (G.clock ∙ sym ex))

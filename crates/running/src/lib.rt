@@ -28,9 +28,10 @@ fn go(
     rate: f64,
     budget: u32,
 ) -> Report
-    requires { Some (Lent w lists.old grains.old queues.old) × (rated rate ≡ true) }
+    requires { Some (Lent w lists.old grains.old queues.old.queue.now queues.old.events.now queues.old.order.now) × (rated rate ≡ true) }
     ensures same { SameTables queues.old queues.new }
-    ensures gone { (s : State) → Lent w lists.old grains.old queues.old s → Gone w lists.new grains.new queues.new result (run_from rate budget 0 s) }
+    ensures gone { (s : State) → Lent w lists.old grains.old queues.old.queue.now queues.old.events.now queues.old.order.now s
+        → Gone w lists.new grains.new queues.new.queue.now queues.new.events.now queues.new.order.now result (run_from rate budget 0 s) }
 {
     for done in 0..budget {
         match step::step(lists, grains, queues, &mut w, rate) {
@@ -58,6 +59,29 @@ fn go(
     }
 }
 
+// The same over the parts that are lent.
+fn steps(
+    lists: &mut [u64],
+    grains: &mut [f64],
+    queue: &mut [u64],
+    events: &mut [f64],
+    order: &mut [u8],
+    w: World,
+    rate: f64,
+    budget: u32,
+) -> Report
+    requires { Some (Lent w lists.old grains.old queue.old events.old order.old) × (rated rate ≡ true) }
+    ensures { (s : State) → Lent w lists.old grains.old queue.old events.old order.old s
+        → Gone w lists.new grains.new queue.new events.new order.new result (run_from rate budget 0 s) }
+{
+    let mut queues = Queues {
+        queue,
+        events,
+        order,
+    };
+    go(lists, grains, &mut queues, w, rate, budget)
+}
+
 // The tables have passed the checks: the steps are done on the parts behind the headers, and then the clock and the halt mark are written.
 pub fn work(
     lists: &mut [u64],
@@ -82,15 +106,12 @@ pub fn work(
         clock: headers::clock(grains),
     };
     let need = tables::lengths::needed(sizes);
-    let mut queues = Queues {
-        queue: &mut queue[..need.queue],
-        events: &mut events[..need.events],
-        order: &mut order[..ORDER],
-    };
-    let report = go(
+    let report = steps(
         &mut lists[LISTS_HEAD..need.lists],
         &mut grains[GRAINS_HEAD..need.grains],
-        &mut queues,
+        &mut queue[..need.queue],
+        &mut events[..need.events],
+        &mut order[..ORDER],
         w,
         rate,
         budget,
