@@ -7,5 +7,5 @@ use Rattle.running.proofs.go.Given as goal
 abbrev pub invariant-loop-done : goal.invariant-loop-done
 invariant-loop-done l = record {
   same : SameTables l.initial.queues l.queues;
-  left : (s : State) → Lent l.initial.w l.initial.lists l.initial.grains l.initial.queues.queue.now l.initial.queues.events.now l.initial.queues.order.now s → Left l.initial.w l.rate l.budget s l.w l.lists l.grains l.queues l.done
+  left : (s : State) → Lent l.initial.w l.initial.lists l.initial.grains l.initial.queues.queue.now l.initial.queues.events.now l.initial.queues.order.now s → Left l.initial.w l.rate l.budget s l.w l.lists l.grains l.queues l.done;
 }
