@@ -3,7 +3,7 @@ use Prim.Native.Nat.{ℕ, ◌+◌, ◌-◌, ◌*◌, ◌≤◌}
 use mathlib.Core.Path.{◌≡◌, refl, sym, ap, ◌∙◌, subst}
 use mathlib.Core.List.{List, [], ◌++◌}
 use native.Mathlib.Omega.{arith}
-use lib.ListN.{length, replicate, length-replicate}
+use lib.ListN.{length, replicate, drop, length-replicate}
 use lib.Ieee.{Float}
 use borrow.Rule.Slice.PartMut.{mid_of, put_mid}
 use Rattle.layout.specs.Widths.{lists_head_wide, grains_head_wide, grain_wide, input_wide, members_wide, home_from, queue_wide, events_wide, order_wide}
@@ -32,8 +32,9 @@ use Rattle.tables.specs.Lengths.{lengths_for}
 use Rattle.checks.proofs.Cut.{cut_long}
 use Rattle.checks.proofs.Needs.{Ends, ends_of}
 use Rattle.acts.specs.declared.queue.Queues.{Queues}
-use Rattle.acts.specs.Tell.{InQueues}
 use Rattle.acts.proofs.InTurn.{told_halt, told_next}
+use Rattle.acts.proofs.Queues.{queue_long, events_long}
+use Rattle.tables.proofs.HeapLaws.{heaped_long}
 use Rattle.step.specs.declared.World.{World}
 use Rattle.step.specs.Placed.{Placed}
 use Rattle.step.specs.World.{Held, Says, Does}
@@ -41,7 +42,7 @@ use Rattle.tables.specs.Inputs.{input_at, inputs_of}
 use Rattle.starting.specs.Grains.{InBoth, BothTold, Going}
 use Rattle.tables.specs.Encode.{lists_head, grains_head, over, sizes_in, with_mark, encoded}
 use Rattle.starting.specs.Cleared.{headed}
-use Rattle.starting.specs.Begin.{Startable, Filling, Began}
+use Rattle.starting.specs.Begin.{Startable, Filling, Filled, Began}
 use Rattle.tables.proofs.Over.{over_part, over_put, over_again, over_front, same_part}
 use Rattle.starting.proofs.Zeros.{start_long, cleared_held}
 use Rattle.starting.proofs.OnlyIn.{OnlyIn, all_only, in_along}
@@ -53,12 +54,19 @@ blank w = clear w.domain w.sizes.room w.sizes.grains
 abbrev all_go_in : World → List Float → Out State
 all_go_in w inputs = each (goes_in (inputs_of w.sizes.grains inputs)) w.sizes.grains 0 (blank w)
 
-module _ {w : World} (inputs : List Float) {l : List ℕ} {t : List Float} {q : Queues} (F : Filling w (length inputs) l t q) where
+-- as the step's functions have it
+pub held_of : {w : World} {l : List ℕ} {t : List Float} {q : Queues} {s : State} → Filled w l t q.queue.now q.events.now q.order.now s → Held w l t q s
+held_of f = record { listed = f.holds.listed; seen = record { at = f.at; grained = f.holds.grained; queued = f.holds.queued } }
+
+filled_of : {w : World} {l : List ℕ} {t : List Float} {q : Queues} {s : State} → Held w l t q s → Filled w l t q.queue.now q.events.now q.order.now s
+filled_of h = record { at = h.seen.at; holds = record { listed = h.listed; grained = h.seen.grained; queued = h.seen.queued } }
+
+module _ {w : World} (inputs : List Float) {l : List ℕ} {t : List Float} {q : List ℕ} {e : List Float} {o : List ℕ} (F : Filling w (length inputs) l t q e o) where
   fill_both : InBoth w l t (blank w)
-  fill_both = record { lists = F.held.listed; grains = F.held.seen.grained; box = F.held.seen.at.0 }
+  fill_both = record { lists = F.held.holds.listed; grains = F.held.holds.grained; box = F.held.at.0 }
 
   pub fill_going : Going w inputs l t
-  fill_going = record { held = (blank w, fill_both); ranged = F.held.seen.queued.ranged; inputs_long = F.inputs_long }
+  fill_going = record { held = (blank w, fill_both); ranged = F.held.holds.queued.ranged; inputs_long = F.inputs_long }
 
   begin_is : begin w.domain w.sizes.room (inputs_of w.sizes.grains inputs) ≡ then (all_go_in w inputs) (λ s. each init_cell w.sizes.cells 0 s)
   unfolding beginning
@@ -68,39 +76,46 @@ module _ {w : World} (inputs : List Float) {l : List ℕ} {t : List Float} {q : 
       ∙ ap (λ (n : ℕ). then (all_go_in w inputs) (λ s. each init_cell n 0 s)) w.placed.cells_are
 
   module _ {l' : List ℕ} {t' : List Float} {r : ℕ} (told : (s : State) → InBoth w l t s → BothTold w l' t' r (each (goes_in (inputs_of w.sizes.grains inputs)) w.sizes.grains 0 s)) where
-    all_in : Says (Held w l' t' q) r (all_go_in w inputs)
+    all_in : Says (Filled w l' t' q e o) r (all_go_in w inputs)
     all_in =
         let d = told (blank w) fill_both in
         let u = (all_go_in w inputs).st in
         let k : OnlyIn (blank w) u = all_only (inputs_of w.sizes.grains inputs) w.sizes.grains 0 (blank w) in
-        let p = F.held.seen.queued in (
+        let p = F.held.holds.queued in (
           d.0,
           record {
-            listed = d.1.lists;
-            seen = record {
-              at = (d.1.box, in_along (λ (v : State). v.clock ≡ w.clock) (blank w) u k F.held.seen.at.1);
+            at = (d.1.box, in_along (λ (v : State). v.clock ≡ w.clock) (blank w) u k F.held.at.1);
+            holds = record {
+              listed = d.1.lists;
               grained = d.1.grains;
-              queued = in_along (InQueues w.sizes q) (blank w) u k (record { ranged = p.ranged; tables = p.tables; heap = p.heap; room_is = p.room_is });
+              queued = in_along (Queued w.sizes q e o) (blank w) u k (record { ranged = p.ranged; tables = p.tables; heap = p.heap; room_is = p.room_is });
             };
           },
         )
 
     -- some state is held when the events are scheduled
-    pub fill-some : (s : State) × Held w l' t' q s
+    pub fill-some : (s : State) × Filled w l' t' q e o s
     fill-some = ((all_go_in w inputs).st, all_in.1)
 
   pub fill_halts : {A : Type 0} {l' : List ℕ} {t' : List Float} (r : Result A Halt) (h : Halt) → IsErrAnd r (λ (x : Halt). x ≡ h)
       → ((s : State) → InBoth w l t s → BothTold w l' t' (halt_number h) (each (goes_in (inputs_of w.sizes.grains inputs)) w.sizes.grains 0 s))
-      → Says (Held w l' t' q) (number_of r) (begin w.domain w.sizes.room (inputs_of w.sizes.grains inputs))
+      → Says (Filled w l' t' q e o) (number_of r) (begin w.domain w.sizes.room (inputs_of w.sizes.grains inputs))
   fill_halts {l' = l'} {t' = t'} r h b told =
-      subst (λ (a : Out State). Says (Held w l' t' q) (number_of r) a) (sym begin_is)
-      (told_halt (Held w l' t' q) (all_go_in w inputs) (λ s. each init_cell w.sizes.cells 0 s) r h b (all_in told))
+      subst (λ (a : Out State). Says (Filled w l' t' q e o) (number_of r) a) (sym begin_is)
+      (told_halt (Filled w l' t' q e o) (all_go_in w inputs) (λ s. each init_cell w.sizes.cells 0 s) r h b (all_in told))
 
-  pub fill_on : {l' : List ℕ} {t' : List Float} {q' : Queues} {r' : ℕ} → ((s : State) → InBoth w l t s → BothTold w l' t' 0 (each (goes_in (inputs_of w.sizes.grains inputs)) w.sizes.grains 0 s))
-      → Does (Held w l' t' q) (Held w l' t' q') r' (each init_cell w.sizes.cells 0) → Says (Held w l' t' q') r' (begin w.domain w.sizes.room (inputs_of w.sizes.grains inputs))
-  fill_on {l'} {t'} {q'} {r'} told d =
-      subst (λ (a : Out State). Says (Held w l' t' q') r' a) (sym begin_is)
-      (told_next (Held w l' t' q) (Held w l' t' q') (all_go_in w inputs) (λ s. each init_cell w.sizes.cells 0 s) (all_in told) (d.says (all_go_in w inputs).st (all_in told).1))
+-- the events of the cells, over the queues that these tables are
+pub fill_on : {w : World} (inputs : List Float) {l l' : List ℕ} {t t' : List Float} (qs : Queues) {qs' : Queues} {r' : ℕ} (F : Filling w (length inputs) l t qs.queue.now qs.events.now qs.order.now)
+    → ((s : State) → InBoth w l t s → BothTold w l' t' 0 (each (goes_in (inputs_of w.sizes.grains inputs)) w.sizes.grains 0 s))
+    → Does (Held w l' t' qs) (Held w l' t' qs') r' (each init_cell w.sizes.cells 0)
+    → Says (Filled w l' t' qs'.queue.now qs'.events.now qs'.order.now) r' (begin w.domain w.sizes.room (inputs_of w.sizes.grains inputs))
+fill_on {w} inputs {l' = l'} {t' = t'} qs {qs'} {r'} F told d =
+    let s = all_go_in w inputs in
+    let before = all_in inputs F told in
+    let after = d.says s.st (held_of {q = qs} before.1) in
+    subst (λ (a : Out State). Says (Filled w l' t' qs'.queue.now qs'.events.now qs'.order.now) r' a) (sym (begin_is inputs F))
+    (told_next (Filled w l' t' qs.queue.now qs.events.now qs.order.now) (Filled w l' t' qs'.queue.now qs'.events.now qs'.order.now) s (λ u. each init_cell w.sizes.cells 0 u) before
+    (after.0, filled_of {q = qs'} after.1))
 
 -- ---- the tables around the parts
 module _ {z : Sizes} {b : Domain} {g : Grid} {ni nl ng nq ne no : ℕ} (S : Startable z b g ni nl ng nq ne no) where
@@ -142,10 +157,10 @@ module _ {z : Sizes} {b : Domain} {g : Grid} {ni : ℕ} (tab : Tables) (S : Star
   grains_for = grains_head_wide + z.grains * grain_wide - grains_head_wide
 
   abbrev queue_for : ℕ
-  queue_for = z.cells * (queue_wide z.room) - 0
+  queue_for = z.cells * (queue_wide z.room)
 
   abbrev events_for : ℕ
-  events_for = z.cells * (events_wide z.room) - 0
+  events_for = z.cells * (events_wide z.room)
 
   order_full : length (order_bytes (start_heap z.cells)) ≡ order_wide
   order_full = start_long z.cells (few_cells S)
@@ -161,13 +176,13 @@ module _ {z : Sizes} {b : Domain} {g : Grid} {ni : ℕ} (tab : Tables) (S : Star
       over_part (grains_head b fzero) (replicate ng fzero) grains_head_wide grains_for refl ∙ same_part fzero ng grains_head_wide grains_for (let h = S.grains_long in omega arith) ∙ ap (λ (n : ℕ). replicate n fzero) k
 
   queue_part_lem : mid_of 0 queue_for (replicate {A = ℕ} nq 0) ≡ replicate (z.cells * (queue_wide z.room)) 0
-  queue_part_lem = let h = S.queue_long in same_part 0 nq 0 queue_for (omega arith) ∙ ap (λ (n : ℕ). replicate n 0) (let k : queue_for ≡ z.cells * (queue_wide z.room) = omega arith in k)
+  queue_part_lem = let h = S.queue_long in same_part 0 nq 0 queue_for (omega arith)
 
   events_part_lem : mid_of 0 events_for (replicate ne fzero) ≡ replicate (z.cells * (events_wide z.room)) fzero
-  events_part_lem = let h = S.events_long in same_part fzero ne 0 events_for (omega arith) ∙ ap (λ (n : ℕ). replicate n fzero) (let k : events_for ≡ z.cells * (events_wide z.room) = omega arith in k)
+  events_part_lem = let h = S.events_long in same_part fzero ne 0 events_for (omega arith)
 
-  order_part : mid_of 0 (order_wide - 0) order₀ ≡ order_bytes (start_heap z.cells)
-  order_part = over_front (order_bytes (start_heap z.cells)) (replicate no 0) (order_wide - 0) order_full
+  order_part : mid_of 0 order_wide order₀ ≡ order_bytes (start_heap z.cells)
+  order_part = over_front (order_bytes (start_heap z.cells)) (replicate no 0) order_wide order_full
 
   module _ {l : List ℕ} {t : List Float} {q : List ℕ} {e : List Float} {o : List ℕ} (H : tables l t q e o ≡ headed z b tab) where
     el : l ≡ lists₀
@@ -198,7 +213,7 @@ module _ {z : Sizes} {b : Domain} {g : Grid} {ni : ℕ} (tab : Tables) (S : Star
     E = mid_of 0 events_for e
 
     abbrev O : List ℕ
-    O = mid_of 0 (order_wide - 0) o
+    O = mid_of 0 order_wide o
 
     part-l : L ≡ replicate (home_from z.grains + z.cells * members_wide) 0
     part-l = ap (mid_of lists_head_wide lists_for) el ∙ lists_part
@@ -213,61 +228,65 @@ module _ {z : Sizes} {b : Domain} {g : Grid} {ni : ℕ} (tab : Tables) (S : Star
     part-e = ap (mid_of 0 events_for) ee ∙ events_part_lem
 
     part-o : O ≡ order_bytes (start_heap z.cells)
-    part-o = ap (mid_of 0 (order_wide - 0)) eo ∙ order_part
+    part-o = ap (mid_of 0 order_wide) eo ∙ order_part
 
-    world-held : (l : List ℕ) (t : List Float) (q : List ℕ) (e : List Float) (o : List ℕ) → Holds z l t q e o (clear b z.room z.grains) → Held z (world_at b g fzero) l t q e o (clear b z.room z.grains)
+    -- the world of a start
+    abbrev fresh : Placed z b g → World
+    fresh P = record { sizes = z; domain = b; grid = g; clock = fzero; placed = P }
+
+    world-held : (P : Placed z b g) (l : List ℕ) (t : List Float) (q : List ℕ) (e : List Float) (o : List ℕ) → Holds z l t q e o (clear b z.room z.grains) → Filled (fresh P) l t q e o (clear b z.room z.grains)
     unfolding clear
-    world-held l t q e o H = record { listed = H.listed; seen = record { at = (refl, refl); grained = H.grained; queued = H.queued } }
+    world-held P l t q e o H = record { at = (refl, refl); holds = record { listed = H.listed; grained = H.grained; queued = H.queued } }
 
-    pub begin-filling : Filling z (world_at b g fzero) ni L G Q E O
-    begin-filling = record {
-      held = world-held L G Q E O
-          (cleared_held z b S.cells_are S.laid.box S.room_least S.room_most S.grains_most part-l part-g part-q part-e part-o);
-      placed = record { laid = S.laid; cells_are = sym S.cells_are };
-      inputs_long = S.inputs_long;
-    }
+    module _ (P : Placed z b g) where
+      pub begin-filling : Filling (fresh P) ni L G Q E O
+      begin-filling = record {
+        held = world-held P L G Q E O
+            (cleared_held z b S.cells_are S.laid.box S.room_least S.room_most S.grains_most part-l part-g part-q part-e part-o);
+        inputs_long = S.inputs_long;
+      }
 
-    -- the parts put back, and the mark
-    module _ {l' : List ℕ} {t' : List Float} {q' : List ℕ} {e' : List Float} {o' : List ℕ} (kl : length l' ≡ length L) (kg : length t' ≡ length G) (kq : length q' ≡ length Q) (ke : length e' ≡ length E) (ko : length o' ≡ length O)
-        {r : ℕ} (a : Out State) (told : Says (Held z (world_at b g fzero) l' t' q' e' o') r a) where
-      abbrev end : State
-      end = marked a.num a.st
+      -- the parts put back, and the mark
+      module _ {l' : List ℕ} {t' : List Float} {q' : List ℕ} {e' : List Float} {o' : List ℕ} (kl : length l' ≡ length L) (kg : length t' ≡ length G)
+          {r : ℕ} (a : Out State) (told : Says (Filled (fresh P) l' t' q' e' o') r a) where
+        abbrev end : State
+        end = marked a.num a.st
 
-      sizes-end : z ≡ sizes_in end
-      sizes-end =
-          let h = told.1.seen in
-          λ i. record { grains = (sym h.grained.many) i; cells = (sym h.queued.heap.cells_is) i; room = (sym h.queued.room_is) i }
+        sizes-end : z ≡ sizes_in end
+        sizes-end =
+            let h = told.1.holds in
+            λ i. record { grains = (sym h.grained.many) i; cells = (sym h.queued.heap.cells_is) i; room = (sym h.queued.room_is) i }
 
-      lists-end : with_mark r (put_mid lists_head_wide lists_for l l') ≡ over (lists_head a.num (sizes_in end) end.box ++ (flat row_nums end.homes ++ flat row_nums end.members)) (replicate nl 0)
-      lists-end =
-          ap (λ (m : List ℕ). with_mark r (put_mid lists_head_wide lists_for m l')) el
-          ∙ ap (with_mark r) (over_put (lists_head 0 z b) l' (replicate nl 0) lists_head_wide lists_for refl (kl ∙ ap length part-l ∙ length-replicate (home_from z.grains + z.cells * members_wide) 0 ∙ (let k : home_from z.grains + z.cells * members_wide ≡ lists_for = omega arith in k)))
-          ∙ λ i. over (lists_head (told.0 i) (sizes-end i) (sym told.1.seen.at.0 i) ++ told.1.listed.is i) (replicate nl 0)
+        lists-end : with_mark r (put_mid lists_head_wide lists_for l l') ≡ over (lists_head a.num (sizes_in end) end.box ++ (flat row_nums end.homes ++ flat row_nums end.members)) (replicate nl 0)
+        lists-end =
+            ap (λ (m : List ℕ). with_mark r (put_mid lists_head_wide lists_for m l')) el
+            ∙ ap (with_mark r) (over_put (lists_head 0 z b) l' (replicate nl 0) lists_head_wide lists_for refl (kl ∙ ap length part-l ∙ length-replicate (home_from z.grains + z.cells * members_wide) 0 ∙ (let k : home_from z.grains + z.cells * members_wide ≡ lists_for = omega arith in k)))
+            ∙ λ i. over (lists_head (told.0 i) (sizes-end i) (sym told.1.at.0 i) ++ told.1.holds.listed.is i) (replicate nl 0)
 
-      grains-end : put_mid grains_head_wide grains_for t t' ≡ over (grains_head end.box end.clock ++ flat grain_reals end.grains) (replicate ng fzero)
-      grains-end =
-          ap (λ (m : List Float). put_mid grains_head_wide grains_for m t') et
-          ∙ over_put (grains_head b fzero) t' (replicate ng fzero) grains_head_wide grains_for refl (kg ∙ ap length part-g ∙ length-replicate (z.grains * grain_wide) fzero ∙ (let k : z.grains * grain_wide ≡ grains_for = omega arith in k))
-          ∙ λ i. over (grains_head (sym told.1.seen.at.0 i) (sym told.1.seen.at.1 i) ++ told.1.seen.grained.is i) (replicate ng fzero)
+        grains-end : put_mid grains_head_wide grains_for t t' ≡ over (grains_head end.box end.clock ++ flat grain_reals end.grains) (replicate ng fzero)
+        grains-end =
+            ap (λ (m : List Float). put_mid grains_head_wide grains_for m t') et
+            ∙ over_put (grains_head b fzero) t' (replicate ng fzero) grains_head_wide grains_for refl (kg ∙ ap length part-g ∙ length-replicate (z.grains * grain_wide) fzero ∙ (let k : z.grains * grain_wide ≡ grains_for = omega arith in k))
+            ∙ λ i. over (grains_head (sym told.1.at.0 i) (sym told.1.at.1 i) ++ told.1.holds.grained.is i) (replicate ng fzero)
 
-      queue-end : put_mid 0 queue_for q q' ≡ over (flat queue_nums end.queues) (replicate nq 0)
-      queue-end =
-          ap (λ (m : List ℕ). put_mid 0 queue_for m q') eq
-          ∙ over_put [] q' (replicate nq 0) 0 queue_for refl (kq ∙ ap length part-q ∙ length-replicate (z.cells * (queue_wide z.room)) 0 ∙ (let k : z.cells * (queue_wide z.room) ≡ queue_for = omega arith in k))
-          ∙ ap (λ (m : List ℕ). over m (replicate nq 0)) told.1.seen.queued.tables.queue_is
+        queue-end : q' ++ drop queue_for q ≡ over (flat queue_nums end.queues) (replicate nq 0)
+        queue-end =
+            ap (λ (m : List ℕ). q' ++ drop queue_for m) eq
+            ∙ over_put [] q' (replicate nq 0) 0 queue_for refl (queue_long told.1.holds.queued.tables)
+            ∙ ap (λ (m : List ℕ). over m (replicate nq 0)) told.1.holds.queued.tables.queue_is
 
-      events-end : put_mid 0 events_for e e' ≡ over (flat queue_reals end.queues) (replicate ne fzero)
-      events-end =
-          ap (λ (m : List Float). put_mid 0 events_for m e') ee
-          ∙ over_put [] e' (replicate ne fzero) 0 events_for refl (ke ∙ ap length part-e ∙ length-replicate (z.cells * (events_wide z.room)) fzero ∙ (let k : z.cells * (events_wide z.room) ≡ events_for = omega arith in k))
-          ∙ ap (λ (m : List Float). over m (replicate ne fzero)) told.1.seen.queued.tables.events_is
+        events-end : e' ++ drop events_for e ≡ over (flat queue_reals end.queues) (replicate ne fzero)
+        events-end =
+            ap (λ (m : List Float). e' ++ drop events_for m) ee
+            ∙ over_put [] e' (replicate ne fzero) 0 events_for refl (events_long told.1.holds.queued.tables)
+            ∙ ap (λ (m : List Float). over m (replicate ne fzero)) told.1.holds.queued.tables.events_is
 
-      order-end : put_mid 0 (order_wide - 0) o o' ≡ over (order_bytes end.sched) (replicate no 0)
-      order-end =
-          ap (λ (m : List ℕ). put_mid 0 (order_wide - 0) m o') eo
-          ∙ over_again (order_bytes (start_heap z.cells)) o' (replicate no 0) (order_wide - 0) order_full (ko ∙ ap length part-o ∙ order_full)
-          ∙ ap (λ (m : List ℕ). over m (replicate no 0)) told.1.seen.queued.heap.is
+        order-end : o' ++ drop order_wide o ≡ over (order_bytes end.sched) (replicate no 0)
+        order-end =
+            ap (λ (m : List ℕ). o' ++ drop order_wide m) eo
+            ∙ over_again (order_bytes (start_heap z.cells)) o' (replicate no 0) order_wide order_full (heaped_long told.1.holds.queued.heap)
+            ∙ ap (λ (m : List ℕ). over m (replicate no 0)) told.1.holds.queued.heap.is
 
-      pub begun : Began a r tab (tables (with_mark r (put_mid lists_head_wide lists_for l l')) (put_mid grains_head_wide grains_for t t') (put_mid 0 queue_for q q') (put_mid 0 events_for e e') (put_mid 0 (order_wide - 0) o o'))
-      unfolding encoded
-      begun = record { number = told.0; left = λ i. tables (lists-end i) (grains-end i) (queue-end i) (events-end i) (order-end i) }
+        pub begun : Began a r tab (tables (with_mark r (put_mid lists_head_wide lists_for l l')) (put_mid grains_head_wide grains_for t t') (q' ++ drop queue_for q) (e' ++ drop events_for e) (o' ++ drop order_wide o))
+        unfolding encoded
+        begun = record { number = told.0; left = λ i. tables (lists-end i) (grains-end i) (queue-end i) (events-end i) (order-end i) }

@@ -11,10 +11,10 @@ use Rattle.cell.specs.declared.Grid.{Grid}
 use Rattle.cell.specs.Cell.{Laid}
 use Rattle.tables.specs.declared.Sizes.{Sizes}
 use Rattle.tables.specs.Decode.{Tables}
+use Rattle.tables.specs.Holds.{Holds}
 use Rattle.tables.specs.Lengths.{lists_need, grains_need, queue_need, events_need}
-use Rattle.acts.specs.declared.queue.Queues.{Queues}
+use Rattle.acts.specs.Tell.{At}
 use Rattle.step.specs.declared.World.{World}
-use Rattle.step.specs.World.{Held}
 use Rattle.tables.specs.Encode.{encoded}
 use Rattle.starting.specs.Cleared.{cleared}
 
@@ -32,9 +32,14 @@ pub record Startable (z : Sizes) (b : Domain) (g : Grid) (inputs l t q e o : ℕ
   pub events_long : events_need z ≤ e
   pub order_long : order_wide ≤ o
 
--- the parts behind the headers hold the cleared state
-pub record Filling (w : World) (inputs : ℕ) (l : List ℕ) (t : List Float) (q : Queues) : Type 0 where
-  pub held : Held w l t q (clear w.domain w.sizes.room w.sizes.grains)
+-- the parts behind the headers hold a state of this box at this clock
+pub record Filled (w : World) (l : List ℕ) (t : List Float) (q : List ℕ) (e : List Float) (o : List ℕ) (s : State) : Type 0 where
+  pub at : At w.domain w.clock s
+  pub holds : Holds w.sizes l t q e o s
+
+-- they hold the cleared state
+pub record Filling (w : World) (inputs : ℕ) (l : List ℕ) (t : List Float) (q : List ℕ) (e : List Float) (o : List ℕ) : Type 0 where
+  pub held : Filled w l t q e o (clear w.domain w.sizes.room w.sizes.grains)
   pub inputs_long : w.sizes.grains * input_wide ≤ inputs
 
 -- the number of the outcome, and tables that hold its state with that mark over cleared ones

@@ -36,13 +36,7 @@ fn enter_row(lists: &mut [u64], w: World, grain: usize, x: Spans, j: usize) -> R
 }
 
 // The rows of a span.
-fn enter_rows(
-    lists: &mut [u64],
-    w: World,
-    grain: usize,
-    x: Spans,
-    rows: Span,
-) -> Result<(), Halt>
+fn enter_rows(lists: &mut [u64], w: World, grain: usize, x: Spans, rows: Span) -> Result<(), Halt>
     requires { Enters w.sizes lists.old grain (grid_cells w.grid.n0 (cells_in x) (between rows.lo rows.hi)) }
     ensures { (s : State) → InLists w.sizes lists.old s
         → ListsTold w.sizes lists.new (number_of result) (each_of (enterAct grain) (grid_cells w.grid.n0 (cells_in x) (between rows.lo rows.hi)) s) }

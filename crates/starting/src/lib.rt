@@ -1,14 +1,16 @@
 // An accepted start over the five lent tables: every place cleared, the headers, the grains one after another, the first events.
 #![tactic(auto)]
 
-ghost use Rattle.std.specs.Prelude.{length};
+ghost use Rattle.std.specs.Prelude.{◌≡◌, length};
 ghost use Rattle.model.specs.Start.{begin as beginIn};
 ghost use Rattle.model.specs.Refusals.{number_of};
-ghost use Rattle.acts.specs.Tell.{SameTables};
-ghost use Rattle.step.specs.World.{Held, Says};
+ghost use Rattle.halting.specs.Out.{each};
+ghost use Rattle.model.specs.State.{State};
+ghost use Rattle.model.specs.Doing.{init_cell};
+ghost use Rattle.step.specs.World.{Held, Says, Does};
 ghost use Rattle.tables.specs.Decode.{tables};
 ghost use Rattle.tables.specs.Inputs.{inputs_of};
-ghost use Rattle.starting.specs.Begin.{Filling, Startable, Began};
+ghost use Rattle.starting.specs.Begin.{Filling, Filled, Startable, Began};
 
 use acts::queue::Queues;
 use cell::Grid;
@@ -22,21 +24,40 @@ mod entries;
 mod grains;
 pub mod inputs;
 
+// The first events of each cell.
+fn first_events(lists: &[u64], grains: &[f64], queues: Queues, w: World) -> Result<(), Halt>
+    requires { (s : State) × Held w lists.now grains.now queues s }
+    ensures { Does (Held w lists.now grains.now queues.entry) (Filled w lists.now grains.now queues.exit.0.now queues.exit.1.0.now queues.exit.1.1.0.now) (number_of result) (each init_cell w.sizes.cells 0) }
+{
+    let mut queues = queues;
+    init::init_events(lists, grains, &mut queues, w)
+}
+
 // The grains go in, then the first events of each cell. These tables are the parts behind the headers.
 fn fill(
     inputs: &[f64],
     lists: &mut [u64],
     grains: &mut [f64],
-    queues: &mut Queues,
+    queue: &mut [u64],
+    events: &mut [f64],
+    order: &mut [u8],
     w: World,
 ) -> Result<(), Halt>
-    requires { Filling w (length inputs.now) lists.old grains.old queues.old }
-    ensures same { SameTables queues.old queues.new }
-    ensures says { Says (Held w lists.new grains.new queues.new) (number_of result)
+    requires { Filling w (length inputs.now) lists.old grains.old queue.old events.old order.old }
+    ensures { Says (Filled w lists.new grains.new queue.new events.new order.new) (number_of result)
         (beginIn w.domain w.sizes.room (inputs_of w.sizes.grains inputs.now)) }
 {
     grains::go_in(inputs, lists, grains, w)?;
-    init::init_events(lists, grains, queues, w)
+    first_events(
+        lists,
+        grains,
+        Queues {
+            queue,
+            events,
+            order,
+        },
+        w,
+    )
 }
 
 // An accepted start, up to the act that it halts at if it does, with the acts before it done and the mark set.
@@ -64,16 +85,13 @@ pub fn begin(
         grid,
         clock: 0.0,
     };
-    let mut queues = Queues {
-        queue: &mut queue[..need.queue],
-        events: &mut events[..need.events],
-        order: &mut order[..ORDER],
-    };
     let result = fill(
         inputs,
         &mut lists[LISTS_HEAD..need.lists],
         &mut grains[GRAINS_HEAD..need.grains],
-        &mut queues,
+        &mut queue[..need.queue],
+        &mut events[..need.events],
+        &mut order[..ORDER],
         w,
     );
     headers::set_mark(lists, result.err().map_or(0, u64::from));

@@ -1,3 +1,5 @@
+use mathlib.Core.Path.{◌≡◌}
+use Rattle.model.specs.Refusals.{number_of}
 use Rattle.model.specs.Start.{begin}
 use Rattle.tables.specs.Decode.{tables}
 use Rattle.tables.specs.Inputs.{inputs_of}
@@ -16,16 +18,7 @@ pub needed-need-requires : goal.needed-need-requires
 needed-need-requires c =
     (c.requires.grains_most, few_cells c.requires, c.requires.room_most)
 
-pub fill-number-requires : goal.fill-number-requires
-fill-number-requires c =
+pub fill-result-requires : goal.fill-result-requires
+fill-result-requires c =
     let a = c.args in
-    rw c.needed-need.ensures (begin-filling (tables a.lists.now a.grains.now a.queue.now a.events.now a.order.now) c.requires c.clear.ensures)
-
-pub returns : goal.returns
-returns c =
-    let a = c.args in
-    let ne = c.needed-need.ensures in
-    let k = c.fill-number.auto in
-    rw (c.set_mark.ensures, ne)
-    (begun (tables a.lists.now a.grains.now a.queue.now a.events.now a.order.now) c.requires c.clear.ensures (rw ne at k.lists) (rw ne at k.grains) (rw ne at k.queue) (rw ne at k.events) k.order
-    (begin a.domain a.z.room (inputs_of a.z.grains a.inputs.now)) c.fill-number.ensures)
+    rw c.needed-need.ensures (begin-filling (tables a.lists.now a.grains.now a.queue.now a.events.now a.order.now) c.requires c.clear.ensures _)

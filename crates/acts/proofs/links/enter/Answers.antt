@@ -13,7 +13,7 @@ returns-then-members-ge-MEMBER_ROOM c =
     elim c.then-members-ge-MEMBER_ROOM.branch [
       | then-members-ge-MEMBER_ROOM-via-then-members-ge-MEMBER_ROOM w ↦ enter_full c.args.grain c.args.cell lm c.has.ensures c.if-has.false w.if-members-ge-MEMBER_ROOM.true
       | then-members-ge-MEMBER_ROOM-via-else-members-ge-MEMBER_ROOM+then-cells_of-ge-HOME_ROOM w ↦
-            enter_crowded c.args.grain c.args.cell lm c.has.ensures w.cells_of.ensures c.if-has.false w.if-members-ge-MEMBER_ROOM.false w.if-cells_of-ge-HOME_ROOM.true
+          enter_crowded c.args.grain c.args.cell lm c.has.ensures w.cells_of.ensures c.if-has.false w.if-members-ge-MEMBER_ROOM.false w.if-cells_of-ge-HOME_ROOM.true
     ]
 
 pub slice_bounds-add_to-end : goal.slice_bounds-add_to-end
