@@ -1,17 +1,17 @@
--- A loop that turns numbers into floats, and rows of numbers put over a table one after the other. Assumes nothing.
+-- Rows of numbers put over a table one after the other. Assumes nothing.
 use Prim.Native.Nat.{ℕ, zero, suc, ◌+◌, ◌-◌, ◌*◌, ◌<◌, ◌≤◌}
 use mathlib.Core.Path.{◌≡◌, refl, sym, ap, ◌∙◌}
-use mathlib.Core.List.{List, [], ◌∷◌, ◌++◌, map, append-nil}
+use mathlib.Core.List.{List, [], ◌∷◌, ◌++◌, map, append_assoc, append-nil}
 use native.Mathlib.Nat.{not-suc-le-zero, le_of_suc-le-suc}
 use native.Mathlib.Numerals.{add-one}
 use native.Mathlib.Omega.{arith}
 use lib.Dec.{lit<}
-use lib.ListN.{length, get_or, set, take, drop, replicate, length-drop, drop_of_length-le, take-append-drop}
-use lib.Seq.{take_all, drop_at, drop-drop, length-take-le, sets, sets-eq}
+use lib.ListN.{length, get_or, set, take, drop, replicate, length-drop, drop_of_length-le}
+use lib.Seq.{take_all, drop-drop, sets, sets-eq}
 use lib.Ieee.{Float, nan}
 use borrow.Rule.Slice.PartMut.{mid_of, put_mid}
 use Rattle.chunks.specs.Flat.{flat}
-use Rattle.chunks.proofs.Laws.{put_tail, tail_is, take_tab}
+use Rattle.chunks.proofs.Laws.{mid_tail, put_tail, tail_is, take_tab}
 use Rattle.order.specs.Numbers.{fzero}
 use Rattle.myvec.specs.Vec.{vec}
 use Rattle.model.specs.declared.Particle.{Particle}
@@ -19,7 +19,7 @@ use Rattle.model.specs.Stepping.{grain_of}
 use Rattle.layout.specs.Widths.{grains_head_wide, grain_wide}
 use Rattle.tables.specs.Layout.{grain_reals}
 use Rattle.tables.specs.Decode.{cut, grain_at, grains_of, grains_part}
-use Rattle.checks.proofs.Cut.{cut_none, cut_step, drop_next}
+use Rattle.checks.proofs.Cut.{cut_long, drop_next}
 use Rattle.listing_text.specs.Columns.{columns, most_kept, kept}
 use Rattle.listing_text.specs.Grammar.{Grain, columns_of}
 use Rattle.tables.specs.Inputs.{input_at, inputs_of}
@@ -56,20 +56,35 @@ shown_over l p q e h = sets-eq (columns_of (shown_grain p)) l 0 h ∙ ap (λ (x 
 abbrev rows_in : List Particle → List ℕ
 rows_in ps = flat columns_of (map shown_grain ps)
 
-pub show_none : (n : ℕ) (g : List Float) (s : List ℕ) → n ≡ 0 → s ≡ rows_in (grains_of n g) ++ drop (n * columns) s
-show_none n g s e = sym (λ i. rows_in (cut_none grain_at grain_wide n g e i) ++ drop (e i * columns) s)
+rows_long : (ps : List Particle) → length (rows_in ps) ≡ length ps * columns
+rows_long [] = refl
+rows_long (p ∷ ps) = let h = rows_long ps in omega (arith, h)
 
-pub show_more : (n : ℕ) (g : List Float) (s u v ys : List ℕ) → (n ≡ 0 → ⊥) → columns ≤ length s → u ≡ put_mid columns (length s - columns) s ys
-    → ys ≡ rows_in (grains_of (n - 1) (mid_of grain_wide (length g - grain_wide) g)) ++ drop ((n - 1) * columns) (mid_of columns (length s - columns) s)
-    → v ≡ columns_of (shown_grain (grain_at g)) ++ drop columns u → v ≡ rows_in (grains_of n g) ++ drop (n * columns) s
-show_more n g s u v ys z h p e q =
-    let a : length (take columns s) ≡ columns = length-take-le columns s h in
-    let b : u ≡ take columns s ++ ys = p ∙ put_tail (take columns s) (drop columns s) columns ys (sym (take-append-drop columns s)) a in
-    let c : drop columns u ≡ ys = ap (drop columns) b ∙ drop_at (take columns s) ys columns a in
-    let one : suc (n - 1) ≡ n = omega (arith, z) in
-    let d : drop ((n - 1) * columns) (mid_of columns (length s - columns) s) ≡ drop (n * columns) s = ap (drop ((n - 1) * columns)) (tail_is columns s) ∙ drop_next (n - 1) columns s ∙ ap (λ (k : ℕ). drop (k * columns) s) one in
-    q ∙ ap (λ (l : List ℕ). columns_of (shown_grain (grain_at g)) ++ l) (c ∙ e ∙ ap (λ (l : List ℕ). rows_in (grains_of (n - 1) (mid_of grain_wide (length g - grain_wide) g)) ++ l) d)
-    ∙ ap (λ (ps : List Particle). rows_in ps ++ drop (n * columns) s) (sym (cut_step grain_at grain_wide n g z))
+rows_more : (ps : List Particle) (p : Particle) → rows_in (ps ++ p ∷ []) ≡ rows_in ps ++ columns_of (shown_grain p)
+rows_more [] p = refl
+rows_more (q ∷ ps) p = ap (λ (l : List ℕ). columns_of (shown_grain q) ++ l) (rows_more ps p)
+
+grains_more : (i : ℕ) (g : List Float) → grains_of (suc i) g ≡ grains_of i g ++ grain_at (drop (i * grain_wide) g) ∷ []
+unfolding cut
+grains_more zero g = refl
+grains_more (suc i) g = ap (λ (ps : List Particle). grain_at g ∷ ps) (grains_more i (drop grain_wide g) ∙ ap (λ (m : List Float). grains_of i (drop grain_wide g) ++ grain_at m ∷ []) (drop_next i grain_wide g))
+
+-- row i, behind those before it
+pub show_more : (i : ℕ) (g : List Float) (s t u ys : List ℕ) → t ≡ rows_in (grains_of i g) ++ drop (i * columns) s
+    → u ≡ put_mid (i * columns) (length t - i * columns) t ys
+    → ys ≡ columns_of (shown_grain (grain_at (mid_of (i * grain_wide) (length g - i * grain_wide) g))) ++ drop columns (mid_of (i * columns) (length t - i * columns) t)
+    → u ≡ rows_in (grains_of (i + 1) g) ++ drop ((i + 1) * columns) s
+show_more i g s t u ys e p q =
+    let a = rows_in (grains_of i g) in
+    let z = drop (i * columns) s in
+    let long : length a ≡ i * columns = rows_long (grains_of i g) ∙ ap (λ (k : ℕ). k * columns) (cut_long grain_at grain_wide i g) in
+    let m : mid_of (i * columns) (length t - i * columns) t ≡ z = mid_tail a z (i * columns) e long in
+    let d : drop columns z ≡ drop ((i + 1) * columns) s = drop-drop columns (i * columns) s ∙ ap (λ (k : ℕ). drop k s) (let w : i * columns + columns ≡ (i + 1) * columns = omega arith in w) in
+    let f : mid_of (i * grain_wide) (length g - i * grain_wide) g ≡ drop (i * grain_wide) g = tail_is (i * grain_wide) g in
+    let row = columns_of (shown_grain (grain_at (drop (i * grain_wide) g))) in
+    let y : ys ≡ row ++ drop ((i + 1) * columns) s = q ∙ (λ j. columns_of (shown_grain (grain_at (f j))) ++ drop columns (m j)) ∙ ap (λ (l : List ℕ). row ++ l) d in
+    p ∙ put_tail a z (i * columns) ys e long ∙ ap (λ (l : List ℕ). a ++ l) y ∙ sym (append_assoc a row (drop ((i + 1) * columns) s))
+    ∙ ap (λ (l : List ℕ). l ++ drop ((i + 1) * columns) s) (sym (rows_more (grains_of i g) (grain_at (drop (i * grain_wide) g))) ∙ ap rows_in (sym (grains_more i g) ∙ ap (λ (k : ℕ). grains_of k g) (sym (add-one i))))
 
 -- ---- rows read as a start's grains, and the rows of shown grains read again
 drop_map : {A B : Type 0} (f : A → B) (k : ℕ) (l : List A) → drop k (map f l) ≡ map f (drop k l)

@@ -8,13 +8,14 @@ use lib.ListN.{get_or, drop, replicate}
 use lib.Ieee.{Float}
 use borrow.Author.Tests.{ltb-false}
 use Rattle.std.specs.Prelude.{Result, Ok, Err}
+use Rattle.std.specs.Result.{IsErrAnd}
 use Rattle.chunks.specs.Flat.{flat}
 use Rattle.model.specs.declared.Domain.{Domain}
 use Rattle.model.specs.declared.Report.{Report}
 use Rattle.model.specs.declared.refusal.StartError.{StartError}
 use Rattle.tables.specs.Decode.{Tables, grains_of, grains_part}
 use Rattle.running.specs.Ran.{RanTables}
-use Rattle.simulator.specs.Start.{Started, StartedWith, with, start_all}
+use Rattle.simulator.specs.Start.{StartedWith, with, start_all}
 use Rattle.simulator.specs.Run.{run_tables}
 use Rattle.listing_text.specs.declared.writer.Answer.TheVariants as answer
 use Rattle.text.specs.Put.{Put}
@@ -29,15 +30,14 @@ use Rattle.answers.specs.Runs.{how_ended, clock_at, told_all, started_report, go
 
 -- ---- two runs behind a start
 module _ (b : Domain) (n : ℕ) (rate : Float) (inputs : List Float) (t : Tables) where
-  pub simulated_by : (a : Started) (p q : RanTables) (u v : Tables) → with a u ≡ start_all b n room inputs t → a ≡ Ok tt → p ≡ run_tables rate budget u → q ≡ go_on rate p → q ≡ simulated b n rate inputs t
+  pub simulated_by : (p q : RanTables) (u : Tables) → with (Ok tt) u ≡ start_all b n room inputs t → p ≡ run_tables rate budget u → q ≡ go_on rate p → q ≡ simulated b n rate inputs t
   unfolding simulated
-  simulated_by a p q u v e h f g =
-      g ∙ ap (go_on rate) (f ∙ ap (λ (x : Started). go_on rate (started_report (with x u))) (sym h) ∙ ap (λ (w : StartedWith). go_on rate (started_report w)) e)
+  simulated_by p q u e f g = g ∙ ap (go_on rate) (f ∙ ap (λ (w : StartedWith). go_on rate (started_report w)) e)
 
-  pub simulated_not : (a : Started) (x : StartError) (u : Tables) → with a u ≡ start_all b n room inputs t → a ≡ Err x → told_all (Err x) u ≡ simulated b n rate inputs t
+  pub simulated_not : (o : Result Report StartError) (x : StartError) (u : Tables) → IsErrAnd o (λ y. y ≡ x) → with (Err x) u ≡ start_all b n room inputs t → told_all o u ≡ simulated b n rate inputs t
   unfolding simulated
-  simulated_not a x u e h =
-      ap (λ (y : Started). go_on rate (go_on rate (started_report (with y u)))) (sym h) ∙ ap (λ (w : StartedWith). go_on rate (go_on rate (started_report w))) e
+  simulated_not (Ok r) x u h e = absurd h
+  simulated_not (Err y) x u h e = ap (λ (z : StartError). told_all (Err z) u) h ∙ ap (λ (w : StartedWith). go_on rate (go_on rate (started_report w))) e
 
 -- ---- what is written
 pub serve_ends : (o : Result Report StartError) (b : Domain) (n : ℕ) (rate : Float) (inputs : List Float) (u : Tables) (v s : List ℕ)

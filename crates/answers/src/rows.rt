@@ -17,10 +17,8 @@ pub(crate) fn floats(bits: &[u64], out: &mut [f64])
     requires { length bits.now ≡ length out.old }
     ensures { out.new ≡ map float bits.now }
 {
-    let mut i: usize = 0;
-    while i < bits.len() {
-        out[i] = float_of_bits(bits[i]);
-        i += 1;
+    for (i, &b) in bits.iter().enumerate() {
+        out[i] = float_of_bits(b);
     }
 }
 
@@ -43,11 +41,9 @@ fn show_rows(grains: &[f64], n: usize, bits: &mut [u64])
     requires { (n * grain_wide ≤ length grains.now) × (n * columns ≤ length bits.old) }
     ensures { bits.new ≡ flat columns_of (map shown_grain (grains_of n grains.now)) ++ drop (n * columns) bits.old }
 {
-    if n == 0 {
-        return;
+    for i in 0..n {
+        show_one(&grains[i * GRAIN..], &mut bits[i * COLUMNS..]);
     }
-    show_rows(&grains[GRAIN..], n - 1, &mut bits[COLUMNS..]);
-    show_one(grains, bits);
 }
 
 // The same of a table with its header.
