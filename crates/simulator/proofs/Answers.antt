@@ -63,9 +63,9 @@ refused_keeps b n room inputs t = every_start (λ (w : StartedWith). Refusing w.
 halted_mark : (m : ℕ) (h : Halt) → ((m ≡ 0 → ⊥) → (5 ≤ m) × (m ≤ 9)) → mark_told m ≡ Err (Halted h) → (m ≡ halt_number h) × (m ≡ 0 → ⊥)
 halted_mark zero h k e = cc
 halted_mark (suc m) h k e =
-    let r = k suc-ne-zero in
+    let r = k (suc-ne-zero m) in
     let is : halt_of (suc m) ≡ h = cc in
-    (sym (number_back (suc m) r.0 r.1) ∙ ap halt_number is, suc-ne-zero)
+    (sym (number_back (suc m) r.0 r.1) ∙ ap halt_number is, suc-ne-zero m)
 
 not_halted : (b c : Bool) (g : ℕ) (h : Halt) → ◌≡◌ {A = Started} (Err (cond b (BadGrain g) (cond c BoxOutOfRange TooShort))) (Err (Halted h)) → ⊥
 not_halted true c g h e = cc

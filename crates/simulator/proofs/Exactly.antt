@@ -3,7 +3,7 @@
 use Prim.Native.Nat.{ℕ, zero, suc, ◌≤◌, ◌<◌}
 use mathlib.Core.Path.{◌≡◌, refl, sym, ap, ◌∙◌, subst}
 use mathlib.Core.Bool.{Bool, true, false, cond}
-use mathlib.Core.List.{List}
+use mathlib.Core.List.{List, [], ◌∷◌}
 use mathlib.Core.Logic.{inl, inr}
 use native.Mathlib.Omega.{arith}
 use native.Mathlib.Decide.{ℕ_discrete}
@@ -17,7 +17,7 @@ use Rattle.layout.specs.Widths.{input_wide}
 use Rattle.model.specs.declared.Domain.{Domain}
 use Rattle.model.specs.declared.Particle.{Particle}
 use Rattle.model.specs.declared.refusal.StartError.TheVariants.{BoxOutOfRange, TooShort, BadGrain}
-use Rattle.model.specs.Sizes.{box_ok, rated, first_bad}
+use Rattle.model.specs.Sizes.{box_ok, rated, grain_ok, first_bad}
 use Rattle.model.specs.Start.{Begun, started_at, begin}
 use Rattle.model.specs.Run.{refused}
 use Rattle.model.specs.Check.{halt}
@@ -30,7 +30,6 @@ use Rattle.checks.specs.Check.{sized, standing, checked}
 use Rattle.checks.proofs.Cut.{cut_long}
 use Rattle.tables.specs.Inputs.{input_at, inputs_of}
 use Rattle.starting.specs.Cleared.{sizes_for}
-use Rattle.starting.proofs.InputLaws.{bad-most}
 use Rattle.simulator.specs.Start.{fits, StartedWith, with, mark_told, started_over, start_all}
 use Rattle.simulator.specs.Run.{by_check, run_tables}
 use Rattle.simulator.proofs.StartLaws.{start_1, start-2, start-4, start_is, start_good, counts-ok, mark_number, mark_grain}
@@ -92,6 +91,15 @@ module _ (rate : Float) (b : ℕ) (t : Tables) where
   })
 
 -- ---- 1, 2 and 4: a start
+bad_most : (b : Domain) (ps : List Particle) → first_bad b ps ≤ length ps
+unfolding first_bad
+bad_most b [] = omega arith
+bad_most b (p ∷ ps) = by (grain_ok b p) (bad_most b ps)
+  where
+    by : (x : Bool) → first_bad b ps ≤ length ps → cond x (suc (first_bad b ps)) 0 ≤ suc (length ps)
+    by true h = omega (arith, h)
+    by false h = omega arith
+
 module _ (b : Domain) (n room : ℕ) (inputs : List Float) (t : Tables) where
   abbrev gs : List Particle
   gs = inputs_of n inputs
@@ -148,7 +156,7 @@ module _ (b : Domain) (n room : ℕ) (inputs : List Float) (t : Tables) where
   lowest_is g = subst (λ (k : ℕ). Exactly ((first_bad b gs ≡ g) × (g < k)) ((g < k) × LowestBad b gs g)) many (lowest_named b gs g)
 
   found : (first_bad b (inputs_of n inputs) ≡ n → ⊥) → (first_bad b (inputs_of n inputs) < n) × LowestBad b (inputs_of n inputs) (first_bad b (inputs_of n inputs))
-  found q = (lowest_is (first_bad b gs)).only (refl, elim (eq-or-lt_of_le (bad-most b n inputs)) [ inl e ↦ absurd (q e) | inr h ↦ h ])
+  found q = (lowest_is (first_bad b gs)).only (refl, elim (eq-or-lt_of_le (subst (λ (k : ℕ). first_bad b gs ≤ k) many (bad_most b gs))) [ inl e ↦ absurd (q e) | inr h ↦ h ])
 
   none_found : {A : Type 0} (g : ℕ) → (g < n) × LowestBad b (inputs_of n inputs) g → first_bad b (inputs_of n inputs) ≡ n → A
   none_found g h e = let w = (lowest_is g).so h in absurd (let d = w.0 in let l = w.1 in omega (arith, d, l, e))

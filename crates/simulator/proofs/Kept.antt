@@ -4,9 +4,9 @@ use mathlib.Core.Path.{◌≡◌, refl, ◌∙◌, subst}
 use mathlib.Core.List.{List, [], ◌∷◌}
 use lib.ListN.{length, length-set}
 use lib.Ieee.{Float}
+use Rattle.std.specs.Prelude.{Some, None, Ok, Err}
 use Rattle.model.specs.declared.Event.{Event}
 use Rattle.model.specs.declared.Place.{Place}
-use Rattle.model.specs.declared.Plan.TheVariants.{Nothing, Due, Refused}
 use Rattle.model.specs.Events.{place_of}
 use Rattle.model.specs.Stepping.{landed}
 use Rattle.model.specs.State.{State, grain, requeued}
@@ -38,9 +38,9 @@ act_kept : (a : Act) (s : State) → Kept s (perform a s).st
 unfolding cancelled requeued
 act_kept (moving g x t) s = store_case (λ o. Kept s o.st) s g (landed x t (grain s g)) (kept_refl s) (λ f. record { box = refl; room = refl; few = length-set s.grains g (landed x t (grain s g)) })
 act_kept (turning g p) s = store_case (λ o. Kept s o.st) s g p (kept_refl s) (λ f. record { box = refl; room = refl; few = length-set s.grains g p })
-act_kept (trying c r Nothing) s = kept_refl s
-act_kept (trying c r (Due e)) s = insert_kept c (place_of e) s
-act_kept (trying c r Refused) s = kept_refl s
+act_kept (trying c r (Ok None)) s = kept_refl s
+act_kept (trying c r (Ok (Some e))) s = insert_kept c (place_of e) s
+act_kept (trying c r (Err _)) s = kept_refl s
 act_kept (cancelling g c) s = record { box = refl; room = refl; few = refl }
 act_kept (entering g c) s = enter_case (λ o. Kept s o.st) s g c (λ a. kept_refl s) (kept_refl s) (λ a b d. record { box = refl; room = refl; few = refl })
 act_kept (leaving g c) s = leave_case (λ o. Kept s o.st) s g c (kept_refl s) (λ a. record { box = refl; room = refl; few = refl })

@@ -77,7 +77,7 @@ of_each P r (x ∷ xs) h (inr o) = of_each P r xs h.1 o
 
 -- a refusal's number is the one it is found by
 error_back : (r : ℕ) → OneOf r (2 ∷ 3 ∷ 10 ∷ halts) → run_error_number (error_of r) ≡ r
-error_back r o = of_each (λ (k : ℕ). run_error_number (error_of k) ≡ k) r (2 ∷ 3 ∷ 10 ∷ halts) (refl, refl, refl, refl, refl, refl, refl, refl, tt) o
+error_back r o = of_each (λ (k : ℕ). run_error_number (error_of k) ≡ k) r (2 ∷ 3 ∷ 10 ∷ halts) (refl, (refl, (refl, (refl, (refl, (refl, (refl, (refl, tt)))))))) o
 
 abbrev pub Given : How → Type 0
 Given synchronised = Unit {0}

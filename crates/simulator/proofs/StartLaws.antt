@@ -9,7 +9,8 @@ use lib.Dec.{leb}
 use lib.ListN.{length}
 use lib.Ieee.{Float}
 use borrow.Author.Tests.{leb-true, eq-eqb, ne_eqb}
-use Rattle.std.specs.Prelude.{Result, Ok, Err}
+use Rattle.std.specs.Prelude.{Ok, Err}
+use Rattle.std.specs.Result.{IsErrAnd}
 use Rattle.std.proofs.lemmas.Bool.Decides.{nat_tests}
 use Rattle.layout.specs.Widths.{input_wide}
 use Rattle.model.specs.declared.Domain.{Domain}
@@ -17,7 +18,7 @@ use Rattle.model.specs.declared.Particle.{Particle}
 use Rattle.model.specs.declared.refusal.Halt.{Halt}
 use Rattle.model.specs.declared.refusal.Halt.TheVariants.{NotFinite, QueueFull, ListFull, AlreadyListed, OnlyCell}
 use Rattle.model.specs.declared.refusal.StartError.TheVariants.{BoxOutOfRange, TooShort, BadGrain, Halted}
-use Rattle.model.specs.Refusals.{halt_number, number_of}
+use Rattle.model.specs.Refusals.{halt_number}
 use Rattle.model.specs.Sizes.{box_ok, counts_ok, first_bad}
 use Rattle.model.specs.Grid.{cells}
 use Rattle.model.specs.State.{marked}
@@ -107,13 +108,17 @@ told_halt ListFull = refl
 told_halt AlreadyListed = refl
 told_halt OnlyCell = refl
 
+is_halted : (r : Started) (h : Halt) → IsErrAnd r (λ e. e ≡ Halted h) → r ≡ Err (Halted h)
+is_halted (Ok a) h e = absurd e
+is_halted (Err x) h e = ap Err e
+
 pub number_back : (r : ℕ) → 5 ≤ r → r ≤ 9 → halt_number (halt_of r) ≡ r
 number_back r h k = grind (arith, nat_tests)
 
 -- ---- the number of a start that was not refused is its mark, 0 or a halt's, and no grain is named
 pub mark_number : (m : ℕ) → ((m ≡ 0 → ⊥) → (5 ≤ m) × (m ≤ 9)) → start_number (mark_told m) ≡ m
 mark_number zero h = refl
-mark_number (suc m) h = let k = h suc-ne-zero in number_back (suc m) k.0 k.1
+mark_number (suc m) h = let k = h (suc-ne-zero m) in number_back (suc m) k.0 k.1
 
 pub mark_grain : (m : ℕ) → grain_named (mark_told m) ≡ 0
 mark_grain zero = refl
@@ -155,12 +160,12 @@ module _ (b : Domain) (n room : ℕ) (inputs : List Float) (t : Tables) where
           (λ i. record { number = B.number i; grain = 0; answer = mark_told (B.number i); after = B.left i })
           ∙ sym (start_is ∙ ap (λ (r : Begun). started_over r t) (start_good b room (inputs_of n inputs) box counts-ok (f ∙ sym (cut_long input_at input_wide n inputs))))
 
-      pub start_accepted : (r : Result (Unit {0}) Halt) (u : Tables) → first_bad b (inputs_of n inputs) ≡ n → Began (begin b room (inputs_of n inputs)) (number_of r) t u → number_of r ≡ 0
-          → with (Ok tt) u ≡ start_all b n room inputs t
-      start_accepted r u f B z = ap (λ (k : ℕ). record { number = k; grain = 0; answer = mark_told k; after = u }) (sym z) ∙ begun_is (number_of r) u f B
+      pub start_accepted : (u : Tables) → first_bad b (inputs_of n inputs) ≡ n → Began (begin b room (inputs_of n inputs)) 0 t u → with (Ok tt) u ≡ start_all b n room inputs t
+      start_accepted u f B = begun_is 0 u f B
 
-      pub start-halted : (r : Result (Unit {0}) Halt) (h : Halt) (u : Tables) → first_bad b (inputs_of n inputs) ≡ n → Began (begin b room (inputs_of n inputs)) (number_of r) t u → number_of r ≡ halt_number h
-          → with (Err (Halted h)) u ≡ start_all b n room inputs t
-      start-halted r h u f B e =
-          (λ i. record { number = sym e i; grain = 0; answer = (told_halt h ∙ ap mark_told (sym e)) i; after = u })
-          ∙ begun_is (number_of r) u f B
+      pub start-halted : (r : Started) (h : Halt) (u : Tables) → first_bad b (inputs_of n inputs) ≡ n → IsErrAnd r (λ e. e ≡ Halted h) → Began (begin b room (inputs_of n inputs)) (halt_number h) t u
+          → with r u ≡ start_all b n room inputs t
+      start-halted r h u f e B =
+          ap (λ (x : Started). with x u) (is_halted r h e)
+          ∙ (λ i. record { number = halt_number h; grain = 0; answer = told_halt h i; after = u })
+          ∙ begun_is (halt_number h) u f B
