@@ -76,8 +76,5 @@ pub fn answer(reader: Reader, out: &mut [u8; 4096]) -> usize
     if !whole.fine() {
         return put_answer(out, Answer::Malformed);
     }
-    let text = whole.text;
-    let numbers = text.numbers;
-    let grains = whole.grains;
-    put_judged(out, &numbers, &grains, text.n)
+    put_judged(out, &whole.text.numbers, &whole.grains, whole.text.n)
 }

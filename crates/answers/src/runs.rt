@@ -65,7 +65,7 @@ fn simulate(
     ensures { told_all result (tables lists.new grains.new queue.new events.new order.new)
         ≡ simulated domain count rate inputs.now (tables lists.old grains.old queue.old events.old order.old) }
 {
-    let started = simulator::start::start(
+    simulator::start::start(
         domain,
         count,
         ROOM as u64,
@@ -75,8 +75,7 @@ fn simulate(
         queue,
         events,
         order,
-    );
-    started?;
+    )?;
     let first = simulator::run::run(lists, grains, queue, events, order, rate, BUDGET);
     Ok(go_on(first, lists, grains, queue, events, order, rate))
 }
@@ -98,7 +97,7 @@ pub(crate) fn serve(
     let mut queue = [0u64; QUEUE];
     let mut events = [0f64; EVENTS];
     let mut order = [0u8; layout::ORDER];
-    let report = simulate(
+    let served = simulate(
         domain,
         n as u64,
         rate,
@@ -110,5 +109,5 @@ pub(crate) fn serve(
         &mut order,
     );
     rows::show(&grains, n, bits);
-    report
+    served
 }

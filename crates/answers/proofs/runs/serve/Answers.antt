@@ -5,6 +5,6 @@ use Rattle.answers.proofs.runs.serve.Goals as goal
 pub returns : goal.returns
 unfolding blank
 returns c =
-    let r = c.simulate-report in
+    let r = c.simulate-served in
     let (value, bits_after) = serve_ends r.result _ _ _ _ _ _ _ r.ensures c.show.ensures in
     record { value = value; bits_after = bits_after }
