@@ -1,13 +1,13 @@
 -- Rows of numbers put over a table one after the other. Assumes nothing.
 use Prim.Native.Nat.{ℕ, zero, suc, ◌+◌, ◌-◌, ◌*◌, ◌<◌, ◌≤◌}
 use mathlib.Core.Path.{◌≡◌, refl, sym, ap, ◌∙◌}
-use mathlib.Core.List.{List, [], ◌∷◌, ◌++◌, map, append_assoc, append-nil}
+use mathlib.Core.List.{List, [], ◌∷◌, ◌++◌, map, append_assoc}
 use native.Mathlib.Nat.{not-suc-le-zero, le_of_suc-le-suc}
 use native.Mathlib.Numerals.{add-one}
 use native.Mathlib.Omega.{arith}
 use lib.Dec.{lit<}
-use lib.ListN.{length, get_or, set, take, drop, replicate, length-drop, drop_of_length-le}
-use lib.Seq.{take_all, drop-drop, sets, sets-eq}
+use lib.ListN.{length, get_or, drop, replicate, length-drop}
+use lib.Seq.{drop-drop, sets, sets-eq}
 use lib.Ieee.{Float, nan}
 use borrow.Rule.Slice.PartMut.{mid_of, put_mid}
 use Rattle.chunks.specs.Flat.{flat}
@@ -27,23 +27,6 @@ use Rattle.listing_text.specs.Rows.{first_grain, grain_rows, grains_from}
 use Rattle.listing_text.proofs.Rows.{rows_flat, rows_back}
 use Rattle.listing_text.proofs.Rows as text
 use Rattle.answers.specs.Answer.{float, grain_from, shown_grain}
-
--- ---- f of each place of l, put into z
-module _ {A B : Type 0} (f : A → B) (d : A) where
-  mapped_suc : (i : ℕ) (l : List A) (z : List B) → i < length l → length l ≡ length z → set (map f (take i l) ++ drop i z) i (f (get_or l i d)) ≡ map f (take (suc i) l) ++ drop (suc i) z
-  mapped_suc i [] z h e = absurd (not-suc-le-zero h)
-  mapped_suc i (x ∷ l) [] h e = absurd (omega (arith, e))
-  mapped_suc zero (x ∷ l) (y ∷ z) h e = refl
-  mapped_suc (suc i) (x ∷ l) (y ∷ z) h e = ap (λ (t : List B). f x ∷ t) (mapped_suc i l z (le_of_suc-le-suc h) (omega (arith, e)))
-
-  pub mapped_more : (i : ℕ) (l : List A) (z u : List B) (x : B) → u ≡ map f (take i l) ++ drop i z → i < length l → length l ≡ length z → x ≡ f (get_or l i d) → set u i x ≡ map f (take (i + 1) l) ++ drop (i + 1) z
-  mapped_more i l z u x e h k y = rw (e, y, add-one) (mapped_suc i l z h k)
-
-  pub mapped_all : (i : ℕ) (l : List A) (z u : List B) → u ≡ map f (take i l) ++ drop i z → length l ≤ i → length l ≡ length z → u ≡ map f l
-  mapped_all i l z u e h k =
-      let g : length z ≤ i = omega (arith, h, k) in
-      let w : drop i z ≡ [] = drop_of_length-le z g in
-      e ∙ (λ j. map f (take_all i l h j) ++ w j) ∙ append-nil (map f l)
 
 -- ---- the first grain of a table, and its numbers over the first places
 pub first_grain_lem : (g : List Float) → grain_wide ≤ length g → mid_of 0 (grain_wide - 0) g ≡ grain_reals (grain_at g)
