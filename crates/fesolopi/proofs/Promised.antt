@@ -28,7 +28,7 @@ start_promised b n room inputs t r g u f e =
     )
 
 module _ (rate : Float) (budget : ℕ) (t : Tables) (r : ℕ) (c : Float) (k : ℕ) (u : Tables) (o : Owned budget t) (e : ended r c k u ≡ ended_by (run_tables rate budget t)) where
-  told : Report
+  abbrev told : Report
   told = record { end = end_of (run_tables rate budget t).how; clock = c; events = k }
 
   how_is : how_of told.end ≡ (run_tables rate budget t).how

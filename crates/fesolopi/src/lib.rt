@@ -90,7 +90,7 @@ pub extern "C" fn fesolopi_run(
 }
 
 // How long the tables of a start must be; or why it would be refused, whatever its tables.
-fn lengths(domain: Domain, count: u64, room: u64) -> Result<Lengths, StartError>
+fn table_lengths(domain: Domain, count: u64, room: u64) -> Result<Lengths, StartError>
     ensures told { told_needed count result ≡ needed_for domain count room }
     ensures counts { IfOk result (λ need. counts_ok room count ≡ true) }
 {
@@ -135,7 +135,7 @@ pub extern "C" fn fesolopi_needed(
     *queue = 0;
     *events = 0;
     *order = 0;
-    match lengths(domain, count, room) {
+    match table_lengths(domain, count, room) {
         Ok(need) => {
             *inputs = count * INPUT as u64;
             *lists = need.lists as u64;
