@@ -5,7 +5,7 @@ use native.Mathlib.Nat.{suc-ne-zero, suc-mul, zero-mul}
 use native.Mathlib.Omega.{arith}
 use native.Mathlib.Decide.{dec_le}
 use mathlib.Core.List.{List, [], ◌∷◌, ◌++◌}
-use mathlib.Core.Bool.{Bool, true, false, not, cond}
+use mathlib.Core.Bool.{Bool, true, false, cond}
 use lib.Dec.{ltb}
 use lib.ListN.{length, get_or, set, length-set, get_or-append, get_or-eq_default}
 use lib.Seq.{get_or-set_same, get_or-append-add}
@@ -15,7 +15,6 @@ use Rattle.std.specs.Prelude.{Some}
 use Rattle.halting.specs.Out.{Out, out}
 use Rattle.halting.specs.Every.{All}
 use Rattle.halting.proofs.All.{all_at, all_set}
-use Rattle.halting.proofs.Bools.{clash}
 use Rattle.chunks.specs.Flat.{flat}
 use Rattle.chunks.proofs.Laws.{length_flat, chunk_in, chunk_mid, chunk_put}
 use Rattle.scheduler.specs.Head.{Head}
@@ -43,15 +42,6 @@ use Rattle.acts.specs.declared.queue.CellRow.{CellRow}
 use Rattle.acts.specs.Queues.{RowOf}
 use Rattle.acts.proofs.Rows.{full_placed, full_without, full_headless}
 use Rattle.acts.proofs.Updates.{heaped_new}
-
--- what a negated test says of the definition that a call's answer is
-pub no_of : (r : Bool) {d : Bool} → r ≡ d → not r ≡ true → d ≡ false
-no_of true e n = clash n
-no_of false e n = sym e
-
-pub yes_of : (r : Bool) {d : Bool} → r ≡ d → not r ≡ false → d ≡ true
-yes_of true e n = sym e
-yes_of false e n = clash (sym n)
 
 pub on_yes : {A : Type 0} (P : A → Type 0) (b : Bool) (x y : A) → b ≡ true → P x → P (cond b x y)
 on_yes P b x y e p = subst (λ (t : Bool). P (cond t x y)) (sym e) p

@@ -4,7 +4,6 @@ use Rattle.scheduler.specs.Head.{Head}
 use Rattle.scheduler.specs.Heap.{child_in, parent_in}
 use Rattle.scheduler.specs.Inside.{head_in}
 use Rattle.tables.specs.declared.Sizes.{Sizes}
-use Rattle.tables.specs.declared.parts.Part.{Part}
 use Rattle.tables.specs.Parts.{queue_part, events_part}
 use Rattle.acts.specs.declared.queue.CellRow.{CellRow}
 

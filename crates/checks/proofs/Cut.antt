@@ -87,6 +87,3 @@ counted_at v w (suc n) l (suc c) e h =
 module _ {v w n : ℕ} {l : List ℕ} (R : Rowed v w n l) where
   pub rowed_in : (c : ℕ) → c < n → c * w + w ≤ length l
   rowed_in c h = let s = suc-mul c w in let m = mul-le-mul_right w h in let k = R.whole in omega arith
-
-  pub rowed_at : (c : ℕ) → c < n → get_or (drop (c * w) l) 0 0 ≤ v
-  rowed_at c h = counted_at v w n l c R.counts h

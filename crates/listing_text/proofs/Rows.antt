@@ -35,10 +35,6 @@ rows_full zero done g h = refl
 rows_full (suc k) [] g h = absurd (omega arith)
 rows_full (suc k) (d ∷ done) g h = ap (λ (l : List ℕ). columns_of d ++ l) (rows_full k done g (le_of_suc-le-suc h))
 
-pub last_one : (done : List Grain) (f g : Grain) → last_grain f (done ++ (g ∷ [])) ≡ g
-last_one [] f g = refl
-last_one (d ∷ done) f g = last_one done d g
-
 -- the numbers of all grains, one after the other
 abbrev pub flat : List Grain → List ℕ
 flat [] = []

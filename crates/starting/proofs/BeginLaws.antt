@@ -9,8 +9,8 @@ use borrow.Rule.Slice.PartMut.{mid_of, put_mid}
 use Rattle.layout.specs.Widths.{lists_head_wide, grains_head_wide, grain_wide, input_wide, members_wide, home_from, queue_wide, events_wide, order_wide}
 use Rattle.order.specs.Numbers.{fzero}
 use Rattle.chunks.specs.Flat.{flat}
-use Rattle.std.specs.Prelude.{Result}
-use Rattle.std.specs.Result.{IsErrAnd}
+use Rattle.std.specs.Prelude.{Result, Ok, Err, Option, MatchOption}
+use Rattle.std.specs.Result.{IsErrAnd, result_err}
 use Rattle.halting.specs.Out.{Out, then, each}
 use Rattle.scheduler.specs.Heap.{start_heap}
 use Rattle.model.specs.declared.Domain.{Domain}
@@ -55,11 +55,19 @@ abbrev all_go_in : World → List Float → Out State
 all_go_in w inputs = each (goes_in (inputs_of w.sizes.grains inputs)) w.sizes.grains 0 (blank w)
 
 -- as the step's functions have it
-pub held_of : {w : World} {l : List ℕ} {t : List Float} {q : Queues} {s : State} → Filled w l t q.queue.now q.events.now q.order.now s → Held w l t q s
+held_of : {w : World} {l : List ℕ} {t : List Float} {q : Queues} {s : State} → Filled w l t q.queue.now q.events.now q.order.now s → Held w l t q s
 held_of f = record { listed = f.holds.listed; seen = record { at = f.at; grained = f.holds.grained; queued = f.holds.queued } }
 
 filled_of : {w : World} {l : List ℕ} {t : List Float} {q : Queues} {s : State} → Held w l t q s → Filled w l t q.queue.now q.events.now q.order.now s
 filled_of h = record { at = h.seen.at; holds = record { listed = h.listed; grained = h.seen.grained; queued = h.seen.queued } }
+
+pub held_some : {w : World} {l : List ℕ} {t : List Float} {q : Queues} → (s : State) × Filled w l t q.queue.now q.events.now q.order.now s → (s : State) × Held w l t q s
+held_some f = (f.0, held_of f.1)
+
+-- what queues made of three tables leave is left in these
+pub filled_by : {w : World} {l : List ℕ} {t : List Float} {q q' : Queues} {a : List ℕ} {b : List Float} {o : List ℕ} {r : ℕ} {act : State → Out State} → Does (Held w l t q) (Held w l t q') r act
+    → a ≡ q'.queue.now → b ≡ q'.events.now → o ≡ q'.order.now → Does (Filled w l t q.queue.now q.events.now q.order.now) (Filled w l t a b o) r act
+filled_by {q = q} {q'} d e f g = rw e rw f rw g (record { says = λ s p. let k = d.says s (held_of {q = q} p) in (k.0, filled_of {q = q'} k.1) })
 
 module _ {w : World} (inputs : List Float) {l : List ℕ} {t : List Float} {q : List ℕ} {e : List Float} {o : List ℕ} (F : Filling w (length inputs) l t q e o) where
   fill_both : InBoth w l t (blank w)
@@ -104,18 +112,21 @@ module _ {w : World} (inputs : List Float) {l : List ℕ} {t : List Float} {q : 
       subst (λ (a : Out State). Says (Filled w l' t' q e o) (number_of r) a) (sym begin_is)
       (told_halt (Filled w l' t' q e o) (all_go_in w inputs) (λ s. each init_cell w.sizes.cells 0 s) r h b (all_in told))
 
--- the events of the cells, over the queues that these tables are
-pub fill_on : {w : World} (inputs : List Float) {l l' : List ℕ} {t t' : List Float} (qs : Queues) {qs' : Queues} {r' : ℕ} (F : Filling w (length inputs) l t qs.queue.now qs.events.now qs.order.now)
+-- the events of the cells
+pub fill_on : {w : World} (inputs : List Float) {l l' : List ℕ} {t t' : List Float} {q q' : List ℕ} {e e' : List Float} {o o' : List ℕ} {r' : ℕ} (F : Filling w (length inputs) l t q e o)
     → ((s : State) → InBoth w l t s → BothTold w l' t' 0 (each (goes_in (inputs_of w.sizes.grains inputs)) w.sizes.grains 0 s))
-    → Does (Held w l' t' qs) (Held w l' t' qs') r' (each init_cell w.sizes.cells 0)
-    → Says (Filled w l' t' qs'.queue.now qs'.events.now qs'.order.now) r' (begin w.domain w.sizes.room (inputs_of w.sizes.grains inputs))
-fill_on {w} inputs {l' = l'} {t' = t'} qs {qs'} {r'} F told d =
+    → Does (Filled w l' t' q e o) (Filled w l' t' q' e' o') r' (each init_cell w.sizes.cells 0)
+    → Says (Filled w l' t' q' e' o') r' (begin w.domain w.sizes.room (inputs_of w.sizes.grains inputs))
+fill_on {w} inputs {l' = l'} {t' = t'} {q = q} {q' = q'} {e = e} {e' = e'} {o = o} {o' = o'} {r'} F told d =
     let s = all_go_in w inputs in
     let before = all_in inputs F told in
-    let after = d.says s.st (held_of {q = qs} before.1) in
-    subst (λ (a : Out State). Says (Filled w l' t' qs'.queue.now qs'.events.now qs'.order.now) r' a) (sym (begin_is inputs F))
-    (told_next (Filled w l' t' qs.queue.now qs.events.now qs.order.now) (Filled w l' t' qs'.queue.now qs'.events.now qs'.order.now) s (λ u. each init_cell w.sizes.cells 0 u) before
-    (after.0, filled_of {q = qs'} after.1))
+    subst (λ (a : Out State). Says (Filled w l' t' q' e' o') r' a) (sym (begin_is inputs F))
+    (told_next (Filled w l' t' q e o) (Filled w l' t' q' e' o') s (λ u. each init_cell w.sizes.cells 0 u) before (d.says s.st before.1))
+
+-- ---- the mark, by the library's words
+pub mark_is : {A : Type 0} (x : Result A Halt) (o : Option Halt) (r : ℕ) → o ≡ result_err x → MatchOption o (r ≡ 0) (λ (h : Halt). r ≡ halt_number h) → r ≡ number_of x
+mark_is (Ok a) o r e m = subst (λ (o : Option Halt). MatchOption o (r ≡ 0) (λ (h : Halt). r ≡ halt_number h)) e m
+mark_is (Err k) o r e m = subst (λ (o : Option Halt). MatchOption o (r ≡ 0) (λ (h : Halt). r ≡ halt_number h)) e m
 
 -- ---- the tables around the parts
 module _ {z : Sizes} {b : Domain} {g : Grid} {ni nl ng nq ne no : ℕ} (S : Startable z b g ni nl ng nq ne no) where

@@ -1,13 +1,12 @@
 // An accepted start over the five lent tables: every place cleared, the headers, the grains one after another, the first events.
 #![tactic(auto)]
 
-ghost use Rattle.std.specs.Prelude.{◌≡◌, length};
+ghost use Rattle.std.specs.Prelude.{length};
 ghost use Rattle.model.specs.Start.{begin as beginIn};
 ghost use Rattle.model.specs.Refusals.{number_of};
 ghost use Rattle.halting.specs.Out.{each};
-ghost use Rattle.model.specs.State.{State};
 ghost use Rattle.model.specs.Doing.{init_cell};
-ghost use Rattle.step.specs.World.{Held, Says, Does};
+ghost use Rattle.step.specs.World.{Some, Says, Does};
 ghost use Rattle.tables.specs.Decode.{tables};
 ghost use Rattle.tables.specs.Inputs.{inputs_of};
 ghost use Rattle.starting.specs.Begin.{Filling, Filled, Startable, Began};
@@ -25,11 +24,22 @@ mod grains;
 pub mod inputs;
 
 // The first events of each cell.
-fn first_events(lists: &[u64], grains: &[f64], queues: Queues, w: World) -> Result<(), Halt>
-    requires { (s : State) × Held w lists.now grains.now queues s }
-    ensures { Does (Held w lists.now grains.now queues.entry) (Filled w lists.now grains.now queues.exit.0.now queues.exit.1.0.now queues.exit.1.1.0.now) (number_of result) (each init_cell w.sizes.cells 0) }
+fn first_events(
+    lists: &[u64],
+    grains: &[f64],
+    queue: &mut [u64],
+    events: &mut [f64],
+    order: &mut [u8],
+    w: World,
+) -> Result<(), Halt>
+    requires { Some (Filled w lists.now grains.now queue.old events.old order.old) }
+    ensures { Does (Filled w lists.now grains.now queue.old events.old order.old) (Filled w lists.now grains.now queue.new events.new order.new) (number_of result) (each init_cell w.sizes.cells 0) }
 {
-    let mut queues = queues;
+    let mut queues = Queues {
+        queue,
+        events,
+        order,
+    };
     init::init_events(lists, grains, &mut queues, w)
 }
 
@@ -48,16 +58,7 @@ fn fill(
         (beginIn w.domain w.sizes.room (inputs_of w.sizes.grains inputs.now)) }
 {
     grains::go_in(inputs, lists, grains, w)?;
-    first_events(
-        lists,
-        grains,
-        Queues {
-            queue,
-            events,
-            order,
-        },
-        w,
-    )
+    first_events(lists, grains, queue, events, order, w)
 }
 
 // An accepted start, up to the act that it halts at if it does, with the acts before it done and the mark set.

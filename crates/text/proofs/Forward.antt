@@ -172,9 +172,6 @@ module _ {plan : List ℕ} {line : ℕ} (f : Form plan line) where
       ∙ ap (λ (n : ℕ). feed_all plan line (before n 0 (loaded f.head w zeros)) (spelled_rows f ws)) e
       ∙ rows_fed ws (length ws) 0 (loaded f.head w zeros) (loaded_length f.head w zeros refl) (zero-add (length ws))
 
-  pub held_fine : (w : Values f.head) (ws : List (Values f.row)) → fine_of line (held_of f w ws) ≡ true
-  held_fine w ws = simp (eq-eqb line line refl) (eq-eqb (length ws) (length ws) refl)
-
   stuck_apart : 18446744073709551615 ≡ line → ⊥
   stuck_apart e = apart (length plan) line (length (shown f.row)) plan_length f.short e
     where

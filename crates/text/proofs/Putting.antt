@@ -31,11 +31,6 @@ put_none at s h = record {
   place = sym (add-zero at);
 }
 
-pub put_one : (at b : ℕ) (s : List ℕ) → at < length s → Put at (b ∷ []) s (set s at b) (at + 1)
-put_one at b s h = record {
-  room = omega arith;
-  written = set_split s at b h ∙ ap (λ (k : ℕ). take at s ++ (b ∷ drop k s)) (sym (add-one at));
-  place = refl;
 }
 
 pub put_then : {at m n : ℕ} {t v s u w : List ℕ} → Put at t s u m → Put m v u w n → Put at (t ++ v) s w n

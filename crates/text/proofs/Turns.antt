@@ -45,6 +45,3 @@ module _ {R : Type 0} (feed : R → ℕ → R) where
       ∙ ap (λ (j : ℕ). fed_by feed (feed x (get_or s i 0)) (drop j s)) (add-one i)
       ∙ ap (λ (t : List ℕ). fed_by feed x t) (sym (drop-cons s i 0 h))
       ∙ k
-
-  pub fed_all : (s : List ℕ) (i : ℕ) (x z : R) → length s ≤ i → fed_by feed x (drop i s) ≡ z → x ≡ z
-  fed_all s i x z h k = ap (λ (t : List ℕ). fed_by feed x t) (sym (drop_of_length-le s h)) ∙ k

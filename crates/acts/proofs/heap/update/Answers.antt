@@ -2,17 +2,14 @@ use Rattle.acts.proofs.Updates.{update_same}
 use Rattle.acts.specs.Queues.{shifted_to}
 use lib.ListN.{length, take}
 use mathlib.Core.Bool.{Bool}
-use Rattle.layout.specs.Widths.{heap_wide}
 use Rattle.tables.specs.Decode.{scheduler_of}
 use Rattle.tables.specs.Layout.{order_bytes}
 use Rattle.scheduler.specs.Heap.{updated, update_swaps}
 use Rattle.scheduler.specs.Inside.{head_in}
 use Rattle.scheduler.specs.declared.Scheduler.{Scheduler}
 use Rattle.scheduler.specs.Head.{Head}
-use Prim.Native.Nat.{ℕ, ◌+◌, ◌≤◌}
+use Prim.Native.Nat.{ℕ, ◌≤◌}
 use mathlib.Core.Path.{◌≡◌, refl, sym, ap, subst, ◌∙◌}
-use native.Mathlib.Omega.{arith}
-use borrow.Author.Rules.{rules}
 use Rattle.acts.proofs.heap.update.Goals as goal
 
 pub returns-then-to-at : goal.returns-then-to-at

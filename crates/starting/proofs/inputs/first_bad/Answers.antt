@@ -1,7 +1,7 @@
-use mathlib.Core.Path.{sym, ap, subst, ◌∙◌}
-use borrow.Author.Count.{below_none, below_more}
+use mathlib.Core.Path.{sym, ap, ◌∙◌}
+use borrow.Author.Count.{below_more}
 use Rattle.model.specs.Sizes.{grain_ok}
-use Rattle.starting.proofs.InputLaws.{FineBelow, bad_at, bad_none}
+use Rattle.starting.proofs.InputLaws.{bad_at, bad_none}
 use native.Mathlib.Omega.{arith}
 use Rattle.starting.proofs.inputs.first_bad.Goals as goal
 
