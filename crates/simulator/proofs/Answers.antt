@@ -12,7 +12,6 @@ use Rattle.std.specs.Prelude.{Ok, Err}
 use Rattle.layout.specs.Widths.{input_wide}
 use Rattle.model.specs.declared.Domain.{Domain}
 use Rattle.model.specs.declared.refusal.Halt.{Halt}
-use Rattle.model.specs.declared.refusal.StartError.{StartError}
 use Rattle.model.specs.declared.refusal.StartError.TheVariants.{BoxOutOfRange, TooShort, BadGrain, Halted}
 use Rattle.model.specs.Refusals.{halt_number}
 use Rattle.model.specs.Sizes.{box_ok}

@@ -2,14 +2,14 @@
 use Prim.Native.Nat.{ℕ, ◌^◌, ◌<◌}
 use mathlib.Core.Path.{◌≡◌, refl, sym, ap, ◌∙◌}
 use lib.Ieee.{Float}
-use Rattle.std.specs.Prelude.{Result, Err}
+use Rattle.std.specs.Prelude.{Err}
 use Rattle.order.specs.Numbers.{fzero}
 use Rattle.model.specs.declared.Report.{Report}
 use Rattle.model.specs.declared.refusal.Halt.TheVariants.{NotFinite, QueueFull, ListFull, AlreadyListed, OnlyCell}
 use Rattle.model.specs.declared.refusal.RunError.{RunError}
 use Rattle.model.specs.declared.refusal.RunError.TheVariants.{TooShort, Halted, RateOutOfRange, Broken}
 use Rattle.model.specs.Run.{run_from}
-use Rattle.model.specs.Refusals.{run_error_number, check_number}
+use Rattle.model.specs.Refusals.{run_error_number}
 use Rattle.model.proofs.Allowed.{budgets}
 use Rattle.tables.specs.Decode.{Tables, decoded}
 use Rattle.checks.specs.Answered.{Answered}

@@ -1,5 +1,5 @@
 -- A start's answer and tables, by what its tests and its calls say. Assumes nothing.
-use Prim.Native.Nat.{ℕ, zero, suc, ◌*◌, ◌≤◌}
+use Prim.Native.Nat.{ℕ, zero, suc, ◌*◌, ◌≤◌, ◌<◌}
 use mathlib.Core.Path.{◌≡◌, refl, sym, ap, ◌∙◌}
 use mathlib.Core.Bool.{Bool, true, false, ◌&&◌}
 use mathlib.Core.List.{List}
@@ -21,7 +21,7 @@ use Rattle.model.specs.declared.refusal.StartError.TheVariants.{BoxOutOfRange, T
 use Rattle.model.specs.Refusals.{halt_number}
 use Rattle.model.specs.Sizes.{box_ok, counts_ok, first_bad}
 use Rattle.model.specs.Grid.{cells}
-use Rattle.model.specs.State.{marked}
+use Rattle.model.specs.Check.{Fits}
 use Rattle.model.specs.Start.{Begun, refused, started_at, start, begin}
 use Rattle.model.specs.Reports.{start_number, grain_named}
 use Rattle.halting.proofs.Bools.{and_l, and_r}
@@ -32,9 +32,8 @@ use Rattle.tables.specs.Decode.{Tables}
 use Rattle.tables.specs.Lengths.{long, lists_need, grains_need, queue_need, events_need}
 use Rattle.checks.proofs.Cut.{cut_long}
 use Rattle.tables.specs.Inputs.{input_at, inputs_of}
-use Rattle.tables.specs.Encode.{encoded}
-use Rattle.starting.specs.Cleared.{sizes_for, cleared}
-use Rattle.simulator.specs.Start.{Started, fits, with, halt_of, mark_told, started_over, start_all}
+use Rattle.starting.specs.Cleared.{sizes_for}
+use Rattle.simulator.specs.Start.{Started, fits, with, halt_of, mark_told, started_over, start_all, StartPromise}
 use Rattle.starting.specs.Begin.{Startable, Began}
 
 -- ---- counts in range
@@ -160,12 +159,39 @@ module _ (b : Domain) (n room : ℕ) (inputs : List Float) (t : Tables) where
           (λ i. record { number = B.number i; grain = 0; answer = mark_told (B.number i); after = B.left i })
           ∙ sym (start_is ∙ ap (λ (r : Begun). started_over r t) (start_good b room (inputs_of n inputs) box counts-ok (f ∙ sym (cut_long input_at input_wide n inputs))))
 
-      pub start_accepted : (u : Tables) → first_bad b (inputs_of n inputs) ≡ n → Began (begin b room (inputs_of n inputs)) 0 t u → with (Ok tt) u ≡ start_all b n room inputs t
-      start_accepted u f B = begun_is 0 u f B
-
       pub start-halted : (r : Started) (h : Halt) (u : Tables) → first_bad b (inputs_of n inputs) ≡ n → IsErrAnd r (λ e. e ≡ Halted h) → Began (begin b room (inputs_of n inputs)) (halt_number h) t u
           → with r u ≡ start_all b n room inputs t
       start-halted r h u f e B =
           ap (λ (x : Started). with x u) (is_halted r h e)
           ∙ (λ i. record { number = halt_number h; grain = 0; answer = told_halt h i; after = u })
           ∙ begun_is (halt_number h) u f B
+
+-- ---- what the calls behind check 2 ask, by what the calls before them answer: the box's test, the grid, its cells, and check 2
+pub ready : (b : Domain) (n room : ℕ) (inputs : List Float) (t : Tables) (ok : Bool) → ok ≡ box_ok b → ok ≡ true → (g : Grid) (c : ℕ) → g ≡ grid_of b → c ≡ g.n0 * g.n1 → (long : Bool)
+    → long ≡ fits (record { grains = n; cells = c; room = room }) (length inputs) (length t.lists) (length t.grains) (length t.queue) (length t.events) (length t.order) → long ≡ true
+    → Startable (record { grains = n; cells = c; room = room }) b g (length inputs) (length t.lists) (length t.grains) (length t.queue) (length t.events) (length t.order)
+ready b n room inputs t ok test box g c grid count long are enough = startable _ _ _ _ _ _ _ (sym are ∙ enough) b g (sym test ∙ box) grid (cells_counted b g c grid count)
+
+-- ---- what a start promises, by what its calls answer
+module _ (b : Domain) (n room : ℕ) (inputs : List Float) (t : Tables) (fine : Fits b) (ok : Bool) (test : ok ≡ box_ok b) where
+  pub promise_1 : ok ≡ false → StartPromise b n room inputs t (Err BoxOutOfRange) t
+  promise_1 e = record { box_fits = fine; is = start_1 b n room inputs t (sym test ∙ e) }
+
+  module _ (box : ok ≡ true) (g : Grid) (c : ℕ) (grid : g ≡ grid_of b) (count : c ≡ g.n0 * g.n1) (long : Bool)
+      (are : long ≡ fits (record { grains = n; cells = c; room = room }) (length inputs) (length t.lists) (length t.grains) (length t.queue) (length t.events) (length t.order)) where
+    sized : {v : Bool} → long ≡ v → passed b n room inputs t ≡ v
+    sized e = sized_as b n c room _ _ _ _ _ _ (cells_counted b g c grid count) (sym are ∙ e)
+
+    pub promise_2 : long ≡ false → StartPromise b n room inputs t (Err TooShort) t
+    promise_2 e = record { box_fits = fine; is = start-2 b n room inputs t (sym test ∙ box) (sized e) }
+
+    module _ (enough : long ≡ true) where
+      pub promise_4 : (i : ℕ) → (first_bad b (inputs_of n inputs) ≡ i) × (i < n) → StartPromise b n room inputs t (Err (BadGrain i)) t
+      promise_4 i e = record { box_fits = fine; is = start-4 b n room inputs t (sym test ∙ box) (sized enough) i (sym e.0) (λ q. let l = e.1 in omega (arith, q, l)) }
+
+      pub promise_halted : (r : Started) (h : Halt) (u : Tables) → first_bad b (inputs_of n inputs) ≡ n → IsErrAnd r (λ e. e ≡ Halted h) → Began (begin b room (inputs_of n inputs)) (halt_number h) t u
+          → StartPromise b n room inputs t r u
+      promise_halted r h u f e B = record { box_fits = fine; is = start-halted b n room inputs t (sym test ∙ box) (sized enough) r h u f e B }
+
+      pub promise_accepted : (u : Tables) → first_bad b (inputs_of n inputs) ≡ n → Began (begin b room (inputs_of n inputs)) 0 t u → StartPromise b n room inputs t (Ok tt) u
+      promise_accepted u f B = record { box_fits = fine; is = begun_is b n room inputs t (sym test ∙ box) (sized enough) 0 u f B }
