@@ -40,7 +40,6 @@ module _ {B : Type 0} where
 
   pub tail_long : (w : ℕ) (l : List B) → length (mid_of w (length l - w) l) ≡ length l - w
   tail_long w l = ap length (tail_is w l) ∙ length-drop w l
-
   -- ---- the first k of a list, where there are any: the first one and those of the rest
 
 -- a number above zero is not zero, as a loop's test says it and as the laws ask it

@@ -12,7 +12,6 @@ use Rattle.text.specs.Put.{laid}
 use Rattle.listing_text.specs.Columns.{columns}
 use Rattle.listing_text.specs.Grammar.{Grain, columns_of}
 use Rattle.listing_text.specs.Rows.{first_grain, no_grain, grain_rows, row_grain, grains_from}
-use Rattle.listing_text.specs.Held.{last_grain}
 
 -- ---- one more grain
 laid_past : (a : List ℕ) (at : ℕ) (t l : List ℕ) → laid (length a + at) t (a ++ l) ≡ a ++ laid at t l

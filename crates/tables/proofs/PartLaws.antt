@@ -14,4 +14,3 @@ end_most c w m h k e f = let p = mul-le-mul h k in omega arith
 -- of n rows, as wide each, that fill a table of m places, each part lies within it
 pub part_in : (c n w : ℕ) {m : ℕ} {p : Part} → p ≡ part_of (c * w) w → c < n → m ≡ n * w → (p.from ≤ p.to) × (p.to ≤ m)
 part_in c n w e h k = let a = ap (λ (q : Part). q.from) e in let b = ap (λ (q : Part). q.to) e in let i = chunk_in c n w h in (omega arith, omega arith)
-

@@ -18,7 +18,7 @@ use Rattle.text.specs.Letters.{numbers_held, flag_letter}
 use Rattle.text.specs.Bytes.{bytes}
 use Rattle.text.specs.Numerals.{decimal}
 use Rattle.text.specs.Lines.{flag_field, bit_of}
-use Rattle.text.specs.Reading.{last_of, place, start_of, reader_with, stuck_of, next_of, matched_of, feed_of, feed_all, closed_of, fine_of}
+use Rattle.text.specs.Reading.{last_of, place, start_of, reader_with, stuck_of, next_of, matched_of, feed_of, feed_all, closed_of}
 use Rattle.text.specs.Plan.{Piece, mark, number, flagged, count, shown, Values, spelled, loaded, count_read, plain, fair, uncounted, Form, spelled_rows, loaded_rows, spelled_text, Spells, held_of}
 use Rattle.text.proofs.Turns.{feed_parts, closed_ended, closed_same}
 use Rattle.text.proofs.Places.{here, full_stuck, stuck_stays, step_on, plain_turn}

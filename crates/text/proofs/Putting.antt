@@ -8,8 +8,8 @@ use native.Mathlib.Numerals.{add-one}
 use native.Mathlib.Omega.{arith}
 use lib.Dec.{ltb}
 use lib.Pow.{pow-add}
-use lib.ListN.{length, take, drop, set, length-append, length-drop, take-append-drop}
-use lib.Seq.{take_at, drop_at, drop-drop, length-take-le, set_split}
+use lib.ListN.{length, take, drop, length-append, length-drop, take-append-drop}
+use lib.Seq.{take_at, drop_at, drop-drop, length-take-le}
 use borrow.Author.Tests.{ltb-true, ltb-false}
 use Rattle.text.specs.declared.writer.Writer.{Writer}
 use Rattle.text.specs.Numerals.{glyph, spell, hex, decimal}
@@ -29,8 +29,6 @@ put_none at s h = record {
   room = omega (arith, add-zero at);
   written = sym (ap (λ (k : ℕ). take at s ++ drop k s) (add-zero at) ∙ take-append-drop at s);
   place = sym (add-zero at);
-}
-
 }
 
 pub put_then : {at m n : ℕ} {t v s u w : List ℕ} → Put at t s u m → Put m v u w n → Put at (t ++ v) s w n
