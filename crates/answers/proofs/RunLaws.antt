@@ -21,7 +21,6 @@ use Rattle.listing_text.specs.declared.writer.Answer.TheVariants as answer
 use Rattle.text.specs.Put.{Put}
 use Rattle.listing_text.specs.Columns.{columns, most_kept, kept as kept_numbers}
 use Rattle.listing_text.specs.Grammar.{columns_of}
-use Rattle.listing_text.specs.Rows.{rows_listing}
 use Rattle.listing_text.specs.Size.{long_length, too_large}
 use Rattle.listing_text.specs.Answers.{answer_of}
 use Rattle.text.proofs.Putting.{put_as}

@@ -5,11 +5,11 @@ use mathlib.Core.Path.{◌≡◌, refl, sym, ap, ◌∙◌, subst}
 use mathlib.Core.List.{List, [], ◌++◌, map}
 use mathlib.Core.Bool.{Bool, true, false, cond, ◌||◌}
 use native.Mathlib.Omega.{arith}
-use lib.Dec.{T, eqb, ltb}
+use lib.Dec.{T, ltb}
 use lib.ListN.{length, get_or, drop, replicate, length-map}
 use lib.Ieee.{Float, binary64, to_bits}
 use lib.Ieee.Bits.{of_bits-fits}
-use borrow.Author.Tests.{le-leb, le-ltb, ltb-false, eqb-true}
+use borrow.Author.Tests.{le-leb, le-ltb, ltb-false}
 use Rattle.chunks.specs.Flat.{flat}
 use Rattle.model.specs.declared.Domain.{Domain}
 use Rattle.model.specs.declared.Particle.{Particle}
@@ -36,7 +36,7 @@ use Rattle.simulator.proofs.Kept.{all_kept}
 use Rattle.simulator.proofs.Encoded.{Long, decoded-encoded}
 use Rattle.simulator.proofs.Ran.{sizes_same, run_over}
 use Rattle.simulator.proofs.Landed.{start_kept}
-use Rattle.listing_text.specs.declared.writer.Answer.TheVariants.{Malformed, TooLarge, Refused}
+use Rattle.listing_text.specs.declared.writer.Answer.TheVariants.{Malformed, TooLarge}
 use Rattle.listing_text.specs.declared.reader.Reader.{Reader}
 use Rattle.listing_text.specs.Columns.{columns, most_kept, kept as kept_numbers}
 use Rattle.listing_text.specs.Grammar.{columns_of}
