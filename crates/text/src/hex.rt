@@ -11,8 +11,8 @@ pub fn hex_value(b: u8) -> Option<u64>
     ensures { SomeIff result (hex_val b < 16) (hex_val b) }
 {
     match b {
-        b'0'..=b'9' => Some((b - b'0') as u64),
-        b'A'..=b'F' => Some((b - b'A') as u64 + 10),
+        b'0'..=b'9' => Some(u64::from(b - b'0')),
+        b'A'..=b'F' => Some(u64::from(b - b'A') + 10),
         _ => None,
     }
 }

@@ -146,7 +146,7 @@ impl Reader {
     {
         match b {
             b'0'..=b'9' => Reader {
-                n: (b - b'0') as u64,
+                n: u64::from(b - b'0'),
                 ..self
             }
             .step(plan),
@@ -161,7 +161,7 @@ impl Reader {
     {
         match b {
             b'\r' => self.step(plan),
-            b'0'..=b'9' if self.n != 0 => self.counted((b - b'0') as u64),
+            b'0'..=b'9' if self.n != 0 => self.counted(u64::from(b - b'0')),
             _ => self.stuck(),
         }
     }
@@ -174,8 +174,8 @@ impl Reader {
         match want {
             b'#' => self.first(plan, b),
             b'+' => self.more(plan, b),
-            HEX..FLAG => self.hexed(plan, b, (want - HEX) as usize),
-            FLAG..PAST => self.flagged(plan, b, (want - FLAG) as usize),
+            HEX..FLAG => self.hexed(plan, b, usize::from(want - HEX)),
+            FLAG..PAST => self.flagged(plan, b, usize::from(want - FLAG)),
             _ => self.matched(plan, b, want),
         }
     }
