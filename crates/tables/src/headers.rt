@@ -2,7 +2,7 @@
 ghost use Rattle.std.specs.Prelude.{◌≡◌, ◌≤◌, length};
 ghost use Rattle.layout.specs.Widths.{lists_head_wide, grains_head_wide};
 ghost use Rattle.tables.specs.Decode.{mark as markIn, sizes_of, box_in, clock_in, flags_fine};
-ghost use Rattle.tables.specs.Encode.{flagged, lists_head, grains_head, over, with_mark, with_clock};
+ghost use Rattle.tables.specs.Encode.{lists_head, grains_head, over, with_mark, with_clock};
 
 use crate::Sizes;
 use model::Domain;
@@ -59,13 +59,6 @@ pub fn clock(grains: &[f64]) -> f64
 
 // ---- written
 
-// How a flag is written.
-fn flag(set: bool) -> u64
-    ensures { result ≡ flagged set }
-{
-    u64::from(set)
-}
-
 pub fn put_lists_head(lists: &mut [u64], mark: u64, z: Sizes, domain: Domain)
     requires { lists_head_wide ≤ length lists.old }
     ensures { lists.new ≡ over (lists_head mark z domain) lists.old }
@@ -74,8 +67,8 @@ pub fn put_lists_head(lists: &mut [u64], mark: u64, z: Sizes, domain: Domain)
     lists[1] = z.grains as u64;
     lists[2] = z.cells as u64;
     lists[3] = z.room as u64;
-    lists[4] = flag(domain.periodic0);
-    lists[5] = flag(domain.periodic1);
+    lists[4] = u64::from(domain.periodic0);
+    lists[5] = u64::from(domain.periodic1);
 }
 
 pub fn put_grains_head(grains: &mut [f64], domain: Domain, clock: f64)

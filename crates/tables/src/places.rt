@@ -19,7 +19,7 @@ pub fn fine_place(s: Place) -> bool
 {
     let time = s.time;
     particle::is_finite(time)
-        && (time < 1.7976931348623157e308
+        && (time < f64::MAX
             && (particle::fine_vec(s.a)
                 && (particle::fine_vec(s.b)
                     && (particle::fine_vec(s.c)
@@ -127,42 +127,37 @@ pub fn place_of(e: Pending) -> Place
 pub fn event_of(s: Place) -> Event
     ensures { result ≡ event_of s.kind s }
 {
-    let kind = s.kind;
-    let a = s.a;
-    let b = s.b;
-    let c = s.c;
-    let d = s.d;
-    match kind {
+    match s.kind {
         1 => Event::InterParticleCollision {
             p: s.p,
             q: s.q,
-            p_pos: a,
-            q_pos: b,
-            p_vel: c,
-            q_vel: d,
+            p_pos: s.a,
+            q_pos: s.b,
+            p_vel: s.c,
+            q_vel: s.d,
             val: s.val,
         },
         2 => Event::MoveToNeighbour {
             p: s.p,
-            pos: a,
+            pos: s.a,
             cell: s.cell,
         },
         3 => Event::MoveOutOfCell {
             p: s.p,
-            pos: a,
+            pos: s.a,
             cell: s.cell,
         },
         4 => Event::WallReflection {
             p: s.p,
-            pos: a,
-            vel: c,
+            pos: s.a,
+            vel: s.c,
             val: s.val,
         },
         _ => Event::Synchronisation,
     }
 }
 
-// Whether a place's event names a grain. Most name others, and then their kind is not asked.
+// Whether a place's event names a grain.
 pub fn names_grain(s: Place, g: u64) -> bool
     ensures { result ≡ names (event_of s.kind s) g }
 {

@@ -52,14 +52,6 @@ pub fn remove(nums: &mut [u64], n: usize, x: u64)
     }
 }
 
-// Does a row list x?
-pub fn lists(row: &[u64], x: u64) -> bool
-    requires { (r : Row ℕ) × (row.now ≡ row_nums r) }
-    ensures { (r : Row ℕ) → row.now ≡ row_nums r → result ≡ has x r.live }
-{
-    has(live_of(row), x)
-}
-
 // A row with room lists one more, at the end.
 pub fn add_to(row: &mut [u64], x: u64)
     requires { InNums row.old (λ r. length r.live < length (places r)) }

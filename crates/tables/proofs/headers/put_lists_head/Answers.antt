@@ -9,5 +9,5 @@ pub returns : goal.returns
 returns c =
     let b = c in
     let a = b.args in
-    (λ i. sets a.lists.now 0 (a.mark ∷ a.z.grains ∷ a.z.cells ∷ a.z.room ∷ c.flag.ensures i ∷ c.flag-2.ensures i ∷ []))
+    (λ i. sets a.lists.now 0 (a.mark ∷ a.z.grains ∷ a.z.cells ∷ a.z.room ∷ c.from.ensures i ∷ c.from-2.ensures i ∷ []))
     ∙ over_sets (lists_head a.mark a.z a.domain) a.lists.now b.requires
