@@ -72,7 +72,7 @@ fn near_root(a: u64) -> u64
     if s.q < s.rem { s.q + 1 } else { s.q }
 }
 
-// Above the 52 digits that a float's bits have of its significand: its exponent begins there, and its leading digit would stand there.
+// The lowest bit of a float's exponent, where its significand's leading digit would stand.
 const TOP: u64 = 1 << 52;
 
 // The bits of the root of m * 2 ^ (b - 1126).
