@@ -9,8 +9,8 @@ use words::BadWord;
 // Whether the square root of x's float has the bits y; it is refused where they are a NaN's.
 fn agrees(x: u64, y: u64) -> bool {
     match root::square_root(float_of_bits(x)) {
-        Some(v) => v == v && bits_of_float(v) == y,
-        None => 9218868437227405312 < y % 9223372036854775808,
+        Some(v) => !v.is_nan() && bits_of_float(v) == y,
+        None => float_of_bits(y).is_nan(),
     }
 }
 
