@@ -14,7 +14,7 @@ pub struct BadWord;
 fn spelled(digits: &[u8]) -> Option<u64> {
     let mut word = 0u64;
     for &b in digits {
-        word = word % (1 << 60) * 16 + hex_value(b)?;
+        word = (word << 4) + hex_value(b)?;
     }
     Some(word)
 }
