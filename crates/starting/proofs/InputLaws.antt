@@ -1,5 +1,5 @@
 -- The start numbers: a grain read from them, and the lowest that is out of range. Assumes nothing.
-use Prim.Native.Nat.{ℕ, zero, suc, ◌-◌, ◌*◌, ◌<◌}
+use Prim.Native.Nat.{ℕ, zero, suc, ◌-◌, ◌*◌, ◌≤◌, ◌<◌}
 use mathlib.Core.Path.{◌≡◌, refl, sym, ap, ◌∙◌, subst}
 use mathlib.Core.Bool.{true, false}
 use mathlib.Core.List.{List, [], ◌∷◌}
@@ -8,6 +8,7 @@ use native.Mathlib.Omega.{arith}
 use lib.ListN.{length, get_or}
 use lib.Ieee.{Float}
 use borrow.Rule.Slice.PartMut.{mid_of}
+use Rattle.std.specs.Prelude.{Option, Some, None, MatchOption}
 use Rattle.layout.specs.Widths.{input_wide}
 use Rattle.model.specs.declared.Domain.{Domain}
 use Rattle.model.specs.declared.Particle.{Particle}
@@ -39,14 +40,20 @@ module _ (b : Domain) where
   bad_nowhere (p ∷ ps) f = rw (f 0 (omega arith)) (ap suc (bad_nowhere ps (λ k l. f (suc k) (omega (arith, l)))))
 
   module _ (n : ℕ) (l : List Float) where
-    abbrev pub FineBelow : ℕ → Type 0
+    abbrev FineBelow : ℕ → Type 0
     FineBelow i = (k : ℕ) → k < i → grain_ok b (get_or (inputs_of n l) k zero_g) ≡ true
 
     long : length (inputs_of n l) ≡ n
     long = cut_long input_at input_wide n l
 
-    pub bad_at : (i : ℕ) → i < n → FineBelow i → grain_ok b (get_or (inputs_of n l) i zero_g) ≡ false → first_bad b (inputs_of n l) ≡ i
+    bad_at : (i : ℕ) → i < n → FineBelow i → grain_ok b (get_or (inputs_of n l) i zero_g) ≡ false → first_bad b (inputs_of n l) ≡ i
     bad_at i h f e = bad_here (inputs_of n l) i (subst (λ (m : ℕ). i < m) (sym long) h) f e
 
-    pub bad_none : FineBelow n → first_bad b (inputs_of n l) ≡ n
+    bad_none : FineBelow n → first_bad b (inputs_of n l) ≡ n
     bad_none f = bad_nowhere (inputs_of n l) (subst FineBelow (sym long) f) ∙ long
+
+    -- a search from 0 for one that is out of range, and what it found
+    pub bad_found : (r : Option ℕ) → MatchOption r ((k : ℕ) → 0 ≤ k → k < n → grain_ok b (get_or (inputs_of n l) k zero_g) ≡ true) (λ i. (0 ≤ i) × (i < n) × (grain_ok b (get_or (inputs_of n l) i zero_g) ≡ false) × ((k : ℕ) → 0 ≤ k → k < i → grain_ok b (get_or (inputs_of n l) k zero_g) ≡ true))
+        → MatchOption r (first_bad b (inputs_of n l) ≡ n) (λ i. (first_bad b (inputs_of n l) ≡ i) × (i < n))
+    bad_found None m = bad_none (λ k h. m k (omega arith) h)
+    bad_found (Some i) m = (bad_at i m.1 (λ k h. m.3 k (omega arith) h) m.2, m.1)

@@ -22,10 +22,5 @@ pub fn first_bad(domain: Domain, inputs: &[f64], n: usize) -> Option<usize>
     requires { n * input_wide ≤ length inputs.now }
     ensures { MatchOption result (first_bad domain (inputs_of n inputs.now) ≡ n) (λ i. (first_bad domain (inputs_of n inputs.now) ≡ i) × (i < n)) }
 {
-    for i in 0..n {
-        if !particle::grain_ok(domain, get_input(inputs, n, i)) {
-            return Some(i);
-        }
-    }
-    None
+    (0..n).find(|&i| !particle::grain_ok(domain, get_input(inputs, n, i)))
 }

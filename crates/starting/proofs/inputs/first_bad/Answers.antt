@@ -1,19 +1,19 @@
-use mathlib.Core.Path.{sym, ap, ◌∙◌}
-use borrow.Author.Count.{below_more}
+use Prim.Native.Nat.{ℕ}
+use mathlib.Core.Path.{◌≡◌}
+use mathlib.Core.Bool.{true, false}
+use lib.ListN.{get_or}
+use borrow.Author.Tests.{tests}
+use Rattle.std.proofs.Common.{rules}
+use Rattle.std.proofs.lemmas.Iterator.{first_from_Range}
 use Rattle.model.specs.Sizes.{grain_ok}
-use Rattle.starting.proofs.InputLaws.{bad_at, bad_none}
-use native.Mathlib.Omega.{arith}
+use Rattle.model.specs.State.{zero_g}
+use Rattle.tables.specs.Inputs.{inputs_of}
+use Rattle.starting.proofs.InputLaws.{bad_found}
 use Rattle.starting.proofs.inputs.first_bad.Goals as goal
 
-pub returns-then-not-grain_ok : goal.returns-then-not-grain_ok
-returns-then-not-grain_ok c =
-    let a = c.args in
-    let e = sym (c.grain_ok.ensures ∙ ap (grain_ok a.domain) c.get_input.ensures) ∙ c.if-not-grain_ok.true in
-    (bad_at a.domain a.n a.inputs.now c.loop-i.i c.loop-i-test.true c.loop-i.invariant e, c.loop-i-test.true)
-
-pub loop-i-preserved : goal.loop-i-preserved
-loop-i-preserved c =
-    below_more _ c.loop-i.i c.loop-i.invariant (sym (c.grain_ok.ensures ∙ ap (grain_ok c.args.domain) c.get_input.ensures) ∙ c.if-not-grain_ok.false)
-
 pub returns : goal.returns
-returns c = bad_none c.args.domain c.args.n c.args.inputs.now (λ k h. c.loop-i.invariant k (omega (arith, h)))
+returns c =
+    let a = c.args in
+    let ok = λ (k : ℕ). grain_ok a.domain (get_or (inputs_of a.n a.inputs.now) k zero_g) in
+    bad_found a.domain a.n a.inputs.now c.find.result
+    (first_from_Range _ _ _ c.find.result (λ k. ok k ≡ false) (λ k. ok k ≡ true) c.find.ensures.ran (λ x q t. search (rules, tests)) (λ x q t. search (rules, tests)))
