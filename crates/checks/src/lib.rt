@@ -15,7 +15,7 @@ ghost use Rattle.checks.specs.Inside.{Sized};
 
 use layout::{GRAIN, GRAINS_HEAD, HEAP, HOME, HOME_ROOM, LISTS_HEAD, MEMBER_ROOM, MEMBERS, ORDER};
 use model::{Halt, RunError};
-use places::Queues;
+use places::EventRows;
 use rows::Rows;
 use scheduler::head::Heads;
 use tables::{Sizes, headers};
@@ -155,7 +155,7 @@ impl<'a> Lent<'a> {
             room: MEMBER_ROOM,
             count: cells,
         };
-        let queues = Queues {
+        let queues = EventRows {
             numbers: self.queue(),
             reals: &self.events[..layout::events_from(room, cells)],
             room,

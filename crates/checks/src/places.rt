@@ -89,7 +89,7 @@ fn syncs(nums: &[u64]) -> usize
 
 // The rows of events of so many cells, each with room for so many, and each count within it.
 #[derive(Clone, Copy)]
-pub struct Queues<'a> {
+pub struct EventRows<'a> {
     pub numbers: &'a [u64],
     pub reals: &'a [f64],
     pub room: usize,
@@ -100,7 +100,7 @@ pub struct Queues<'a> {
     ghost count_most: { count ≤ 256 },
 }
 
-impl<'a> Queues<'a> {
+impl<'a> EventRows<'a> {
     ghost use Rattle.checks.specs.Held.{rows_in, queues_in};
 
     // The numbers and the floats of the places in use of cell c.

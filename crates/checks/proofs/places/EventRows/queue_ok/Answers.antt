@@ -8,7 +8,7 @@ use Rattle.model.specs.State.{live_at}
 use Rattle.model.specs.Check.{all, rising, held}
 use Rattle.checks.specs.Held.{rows_in, queues_in}
 use Rattle.checks.proofs.OnePlace.{queue_by}
-use Rattle.checks.proofs.places.Queues.queue_ok.Goals as goal
+use Rattle.checks.proofs.places.EventRows.queue_ok.Goals as goal
 
 pub returns-then-rising : goal.returns-then-rising
 returns-then-rising c =

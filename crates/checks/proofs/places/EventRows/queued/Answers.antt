@@ -16,7 +16,7 @@ use Rattle.checks.specs.Held.{rows_in, queues_in}
 use Rattle.checks.proofs.Cut.{both_long}
 use Rattle.checks.proofs.Lists.{walk_places}
 use native.Mathlib.Omega.{arith}
-use Rattle.checks.proofs.places.Queues.queued.Goals as goal
+use Rattle.checks.proofs.places.EventRows.queued.Goals as goal
 
 pub returns-then-all : goal.returns-then-all
 unfolding queued

@@ -2,7 +2,7 @@ use Rattle.checks.proofs.OnePlace.{used_few, nums_room, reals_room, row_used}
 use lib.Seq.{length-take-le}
 use mathlib.Core.Path.{sym}
 use native.Mathlib.Omega.{arith}
-use Rattle.checks.proofs.places.Queues.live.Goals as goal
+use Rattle.checks.proofs.places.EventRows.live.Goals as goal
 
 pub overflow_mul-result : goal.overflow_mul-result
 overflow_mul-result c =
