@@ -13,7 +13,6 @@ use borrow.Author.Tests.{eq-eqb, ne_eqb}
 use borrow.Rule.Slice.PartMut.{mid_of}
 use Rattle.std.specs.Prelude.{Result}
 use Rattle.std.specs.Result.{IsErrAnd}
-use Rattle.halting.specs.Every.{All}
 use Rattle.chunks.proofs.Laws.{mid_tail}
 use Rattle.halting.specs.Out.{Out, next, then, each, each_of}
 use Rattle.model.specs.declared.refusal.Halt.{Halt}
@@ -165,12 +164,3 @@ module _ {S : Type 0} where
 
     pub each-next : (H H' : S → Type 0) (m c : ℕ) {r' : ℕ} → c < m → Tells H 0 (act c s) → Tells H' r' (each act (m - (c + 1)) (c + 1) (act c s).st) → Tells H' r' (each act (m - c) c s)
     each-next H H' m c {r' = r'} b t v = subst (λ (o : Out S). Tells H' r' o) (sym (each_turn m c b)) (told_next H H' (act c s) (each act (m - (c + 1)) (c + 1)) t v)
-
--- what a list's first number and its rest, lent on, have of the whole
-pub all_tail : (P : ℕ → Type 0) (l : List ℕ) → All P l → (length l ≡ 0 → ⊥) → P (get_or l 0 0) × All P (mid_of 1 (length l - 1) l)
-all_tail P [] v z = absurd (z refl)
-all_tail P (x ∷ l) v z = (v.0, subst (All P) (sym (mid_tail (x ∷ []) l {l = x ∷ l} 1 refl refl)) v.1)
-
-pub tail_less : (l : List ℕ) → (length l ≡ 0 → ⊥) → length (mid_of 1 (length l - 1) l) < length l
-tail_less [] z = absurd (z refl)
-tail_less (x ∷ l) z = let e = ap length (mid_tail (x ∷ []) l {l = x ∷ l} 1 refl refl) in omega arith

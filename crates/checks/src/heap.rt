@@ -38,7 +38,7 @@ fn in_order(heap: &[u8], heads: Heads, n: usize, i: usize) -> bool
 
 // The same for each of the first n.
 pub fn ordered(heap: &[u8], heads: Heads, n: usize) -> bool
-    requires { (n ≤ length heap.now) }
+    requires { n ≤ length heap.now }
     ensures { result ≡ every (in_order (heads_of heads.entry) heap.now n) n 0 }
 {
     (0..n).all(|i| in_order(heap, heads, n, i))

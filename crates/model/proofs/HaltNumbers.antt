@@ -18,9 +18,3 @@ halt_no_zero OnlyCell e = absurd (omega arith)
 pub halted_number : {A : Type 0} (r : Result A Halt) (h : Halt) → IsErrAnd r (λ (x : Halt). x ≡ h) → number_of r ≡ halt_number h
 halted_number (Ok a) h e = absurd e
 halted_number (Err x) h e = ap halt_number e
-
-pub number_done : {A : Type 0} {r : Result A Halt} {a : A} → r ≡ Ok a → number_of r ≡ 0
-number_done e = ap number_of e
-
-pub number_halted : {A : Type 0} {r : Result A Halt} {h : Halt} → r ≡ Err h → number_of r ≡ halt_number h
-number_halted e = ap number_of e
