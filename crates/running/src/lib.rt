@@ -20,7 +20,7 @@ use step::World;
 use tables::headers;
 
 // The steps, over the parts of the tables behind their headers.
-fn go(
+fn run_steps(
     lists: &mut [u64],
     grains: &mut [f64],
     queues: &mut Queues,
@@ -60,7 +60,7 @@ fn go(
 }
 
 // The same over the parts that are lent.
-fn steps(
+fn over_parts(
     lists: &mut [u64],
     grains: &mut [f64],
     queue: &mut [u64],
@@ -79,7 +79,7 @@ fn steps(
         events,
         order,
     };
-    go(lists, grains, &mut queues, w, rate, budget)
+    run_steps(lists, grains, &mut queues, w, rate, budget)
 }
 
 // The tables have passed the checks: the steps are done on the parts behind the headers, and then the clock and the halt mark are written.
@@ -106,7 +106,7 @@ pub fn work(
         clock: headers::clock(grains),
     };
     let need = tables::lengths::needed(sizes);
-    let report = steps(
+    let report = over_parts(
         &mut lists[LISTS_HEAD..need.lists],
         &mut grains[GRAINS_HEAD..need.grains],
         &mut queue[..need.queue],

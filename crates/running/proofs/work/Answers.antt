@@ -26,56 +26,56 @@ needed-need-requires c =
     let S = long c.requires in
     rw c.sizes_of-sizes.ensures (S.grains_most, S.cells_most, S.room_most)
 
-pub slice_bounds-steps-end : goal.slice_bounds-steps-end
-slice_bounds-steps-end c =
+pub slice_bounds-over_parts-end : goal.slice_bounds-over_parts-end
+slice_bounds-over_parts-end c =
     let e = ends c.requires c.sizes_of-sizes.ensures c.needed-need.ensures in
     omega arith
 
-pub slice_bounds-steps-end-2 : goal.slice_bounds-steps-end-2
-slice_bounds-steps-end-2 c =
+pub slice_bounds-over_parts-end-2 : goal.slice_bounds-over_parts-end-2
+slice_bounds-over_parts-end-2 c =
     let e = ends c.requires c.sizes_of-sizes.ensures c.needed-need.ensures in
     omega arith
 
-pub slice_bounds-steps-end-3 : goal.slice_bounds-steps-end-3
-slice_bounds-steps-end-3 c =
+pub slice_bounds-over_parts-end-3 : goal.slice_bounds-over_parts-end-3
+slice_bounds-over_parts-end-3 c =
     (ends c.requires c.sizes_of-sizes.ensures c.needed-need.ensures).queue_to
 
-pub slice_bounds-steps-end-4 : goal.slice_bounds-steps-end-4
-slice_bounds-steps-end-4 c =
+pub slice_bounds-over_parts-end-4 : goal.slice_bounds-over_parts-end-4
+slice_bounds-over_parts-end-4 c =
     let e = ends c.requires c.sizes_of-sizes.ensures c.needed-need.ensures in
     sym (length-take-le _ c.args.queue.now e.queue_to)
 
-pub slice_bounds-steps-end-5 : goal.slice_bounds-steps-end-5
-slice_bounds-steps-end-5 c =
+pub slice_bounds-over_parts-end-5 : goal.slice_bounds-over_parts-end-5
+slice_bounds-over_parts-end-5 c =
     (ends c.requires c.sizes_of-sizes.ensures c.needed-need.ensures).events_to
 
-pub slice_bounds-steps-end-6 : goal.slice_bounds-steps-end-6
-slice_bounds-steps-end-6 c =
+pub slice_bounds-over_parts-end-6 : goal.slice_bounds-over_parts-end-6
+slice_bounds-over_parts-end-6 c =
     let e = ends c.requires c.sizes_of-sizes.ensures c.needed-need.ensures in
     sym (length-take-le _ c.args.events.now e.events_to)
 
-pub slice_bounds-steps-end-7 : goal.slice_bounds-steps-end-7
-slice_bounds-steps-end-7 c = (long c.requires).order_long
+pub slice_bounds-over_parts-end-7 : goal.slice_bounds-over_parts-end-7
+slice_bounds-over_parts-end-7 c = (long c.requires).order_long
 
-pub slice_bounds-steps-end-8 : goal.slice_bounds-steps-end-8
-slice_bounds-steps-end-8 c = sym (length-take-le order_wide c.args.order.now (long c.requires).order_long)
+pub slice_bounds-over_parts-end-8 : goal.slice_bounds-over_parts-end-8
+slice_bounds-over_parts-end-8 c = sym (length-take-le order_wide c.args.order.now (long c.requires).order_long)
 
 pub invariant_of-w : goal.invariant_of-w
 invariant_of-w c = record { placed = placed c.requires c.sizes_of-sizes.ensures c.domain_of-domain.ensures c.new.ensures }
 
-pub steps-report-requires : goal.steps-report-requires
-steps-report-requires c =
+pub over_parts-report-requires : goal.over_parts-report-requires
+over_parts-report-requires c =
     let p = c.requires in
     ((_, lent p c.sizes_of-sizes.ensures c.needed-need.ensures c.domain_of-domain.ensures c.clock.ensures), rate_in p)
 
 pub set_mark-requires : goal.set_mark-requires
 set_mark-requires c =
-    let e = same_len_mid lists_head_wide (c.needed-need.result.lists - lists_head_wide) c.args.lists.now c.steps-report.new.lists c.steps-report.auto.lists in
+    let e = same_len_mid lists_head_wide (c.needed-need.result.lists - lists_head_wide) c.args.lists.now c.over_parts-report.new.lists c.over_parts-report.auto.lists in
     omega (arith, e, (long c.requires).lists_long)
 
 pub set_clock-requires : goal.set_clock-requires
 set_clock-requires c =
-    let e = same_len_mid grains_head_wide (c.needed-need.result.grains - grains_head_wide) c.args.grains.now c.steps-report.new.grains c.steps-report.auto.grains in
+    let e = same_len_mid grains_head_wide (c.needed-need.result.grains - grains_head_wide) c.args.grains.now c.over_parts-report.new.grains c.over_parts-report.auto.grains in
     omega (arith, e, (long c.requires).grains_long)
 
 pub returns : goal.returns
@@ -85,7 +85,7 @@ returns c =
     let be = c.domain_of-domain.ensures in
     let ne = c.needed-need.ensures in
     let ze = c.sizes_of-sizes.ensures in
-    let k = c.steps-report.auto in
-    let m : c.map_or.result ≡ check_number c.steps-report.result.end = search (rules, mark_is) in
-    worked p a.budget c.steps-report.result ze ne be k.lists k.grains k.queue k.events k.order c.set_mark.ensures c.set_clock.ensures m refl
-    (c.steps-report.ensures (decoded (tables a.lists.now a.grains.now a.queue.now a.events.now a.order.now)) (lent p ze ne be c.clock.ensures))
+    let k = c.over_parts-report.auto in
+    let m : c.map_or.result ≡ check_number c.over_parts-report.result.end = search (rules, mark_is) in
+    worked p a.budget c.over_parts-report.result ze ne be k.lists k.grains k.queue k.events k.order c.set_mark.ensures c.set_clock.ensures m refl
+    (c.over_parts-report.ensures (decoded (tables a.lists.now a.grains.now a.queue.now a.events.now a.order.now)) (lent p ze ne be c.clock.ensures))

@@ -2,7 +2,7 @@ use Rattle.model.specs.State.{State}
 use Rattle.acts.specs.Tell.{SameTables}
 use Rattle.running.specs.Going.{Lent}
 use Rattle.running.proofs.Going.{Left}
-use Rattle.running.proofs.go.Given as goal
+use Rattle.running.proofs.run_steps.Given as goal
 
 abbrev pub invariant-loop-done : goal.invariant-loop-done
 invariant-loop-done l = record {

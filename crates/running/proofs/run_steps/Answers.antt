@@ -2,7 +2,7 @@ use Prim.Native.Nat.{◌≤◌}
 use mathlib.Core.Path.{refl, ◌∙◌}
 use native.Mathlib.Omega.{arith}
 use Rattle.running.proofs.Going.{steady_of, left_first, left-more, gone-sync, gone-halted, gone_spent}
-use Rattle.running.proofs.go.Goals as goal
+use Rattle.running.proofs.run_steps.Goals as goal
 
 pub loop-done-init : goal.loop-done-init
 loop-done-init c = record { same = record { queue = refl; events = refl; order = refl }; left = λ s h. left_first h }
