@@ -7,7 +7,7 @@ use native.Mathlib.Nat.{sub-zero}
 use native.Mathlib.Numerals.{add-one}
 use native.Mathlib.Omega.{arith}
 use lib.Ieee.{Float}
-use Rattle.std.specs.Prelude.{Result, Ok, Err, IfOk}
+use Rattle.std.specs.Prelude.{Ok, Err}
 use Rattle.model.specs.declared.Event.{Event}
 use Rattle.model.specs.declared.Event.TheVariants.{InterParticleCollision, MoveToNeighbour, MoveOutOfCell, WallReflection, Synchronisation}
 use Rattle.model.specs.declared.End.TheVariants.{Synchronised, Spent}
@@ -30,6 +30,7 @@ use Rattle.model.proofs.Whole.{rated_later}
 use Rattle.tables.specs.declared.Sizes.{Sizes}
 use Rattle.tables.specs.Holds.{Holds}
 use Rattle.acts.specs.declared.queue.Queues.{Queues}
+use Rattle.step.specs.declared.Stepped.{Stepped}
 use Rattle.step.specs.declared.World.{World}
 use Rattle.step.specs.World.{Held, Steady, SameBox, Does, is_sync}
 use Rattle.running.specs.Going.{Lent, Gone}
@@ -96,20 +97,20 @@ module _ {o : World} {rate : Float} {budget : ℕ} {s : State} where
     left = ap (λ (n : ℕ). run_from rate n 0 s) (sub-zero budget);
   }
 
-  module _ {lists lists' : List ℕ} {grains grains' : List Float} {q q' : Queues} {w w' : World} {d : ℕ} (r : Result Bool Halt)
+  module _ {lists lists' : List ℕ} {grains grains' : List Float} {q q' : Queues} {w w' : World} {d : ℕ} (r : Stepped)
       (R : rated rate ≡ true) (h : d < budget) (N : Left o rate budget s w lists grains q d) (same : SameBox w w')
-      (does : Does (Steady w lists grains q) (Held w' lists' grains' q') (number_of r) (event rate)) (kind : (u : State) → Steady w lists grains q u → IfOk r (λ (sync : Bool). sync ≡ is_sync (head_event u))) where
+      (does : Does (Steady w lists grains q) (Held w' lists' grains' q') (number_of r.done) (event rate)) (kind : (u : State) → Steady w lists grains q u → r.sync ≡ is_sync (head_event u)) where
     abbrev u : State
     u = (event rate N.now).st
 
-    number : number_of r ≡ (event rate N.now).num
+    number : number_of r.done ≡ (event rate N.now).num
     number = (does.says N.now (steady_of N)).0
 
     held : Held w' lists' grains' q' (event rate N.now).st
     held = (does.says N.now (steady_of N)).1
 
-    kind_is : (sync : Bool) → r ≡ Ok sync → sync ≡ is_sync (head_event N.now)
-    kind_is sync e = subst (λ (x : Result Bool Halt). IfOk x (λ (b : Bool). b ≡ is_sync (head_event N.now))) e (kind N.now (steady_of N))
+    kind_is : r.sync ≡ is_sync (head_event N.now)
+    kind_is = kind N.now (steady_of N)
 
     boxed : SameBox o w'
     boxed = record { sizes = same.sizes ∙ N.same.sizes; domain = same.domain ∙ N.same.domain; grid = same.grid ∙ N.same.grid }
@@ -120,9 +121,9 @@ module _ {o : World} {rate : Float} {budget : ℕ} {s : State} where
     placed : Holds o.sizes lists' grains' q'.queue.now q'.events.now q'.order.now (event rate N.now).st
     placed = subst (λ (z : Sizes). Holds z lists' grains' q'.queue.now q'.events.now q'.order.now u) boxed.sizes (holds_of held)
 
-    pub left-more : (b : Bool) → r ≡ Ok b → b ≡ false → Left o rate budget s w' lists' grains' q' (d + 1)
-    left-more b ok more =
-        let e : step rate N.now ≡ moved_to done u = unfold step in done_is (event rate N.now).num u (head_event N.now) (sym number ∙ ap number_of ok) (sym (kind_is b ok) ∙ more) in
+    pub left-more : r.done ≡ Ok tt → r.sync ≡ false → Left o rate budget s w' lists' grains' q' (d + 1)
+    left-more ok more =
+        let e : step rate N.now ≡ moved_to done u = unfold step in done_is (event rate N.now).num u (head_event N.now) (sym number ∙ ap number_of ok) (sym kind_is ∙ more) in
         record {
           now = u;
           same = boxed;
@@ -131,9 +132,9 @@ module _ {o : World} {rate : Float} {budget : ℕ} {s : State} where
           left = ap (λ (k : ℕ). run_from rate (budget - k) k u) (add-one d) ∙ sym (turn rate budget d N.now (moved_to done u) h e) ∙ N.left;
         }
 
-    pub gone-sync : (b : Bool) (n : ℕ) → r ≡ Ok b → b ≡ true → n ≡ d → Gone o lists' grains' q'.queue.now q'.events.now q'.order.now (record { end = Ok Synchronised; clock = w'.clock; events = n + 1 }) (run_from rate budget 0 s)
-    gone-sync b n ok last ne =
-        let e : step rate N.now ≡ moved_to doing.synchronised u = unfold step in sync_is (event rate N.now).num u (head_event N.now) (sym number ∙ ap number_of ok) (sym (kind_is b ok) ∙ last) in
+    pub gone-sync : (n : ℕ) → r.done ≡ Ok tt → r.sync ≡ true → n ≡ d → Gone o lists' grains' q'.queue.now q'.events.now q'.order.now (record { end = Ok Synchronised; clock = w'.clock; events = n + 1 }) (run_from rate budget 0 s)
+    gone-sync n ok last ne =
+        let e : step rate N.now ≡ moved_to doing.synchronised u = unfold step in sync_is (event rate N.now).num u (head_event N.now) (sym number ∙ ap number_of ok) (sym kind_is ∙ last) in
         subst (Gone o lists' grains' q'.queue.now q'.events.now q'.order.now (record { end = Ok Synchronised; clock = w'.clock; events = n + 1 })) (sym (turn rate budget d N.now (moved_to doing.synchronised u) h e) ∙ N.left)
         (record {
           answer = λ i. ran_of run.synchronised (sym held.seen.at.1 i) ((ap (λ (k : ℕ). k + 1) ne ∙ add-one d) i) u;
@@ -143,7 +144,7 @@ module _ {o : World} {rate : Float} {budget : ℕ} {s : State} where
           mark = (whole (moved_to doing.synchronised u) tt e).free;
         })
 
-    pub gone-halted : (k : Halt) (m : ℕ) → r ≡ Err k → m ≡ d → Gone o lists' grains' q'.queue.now q'.events.now q'.order.now (record { end = Err (Halted k); clock = w'.clock; events = m }) (run_from rate budget 0 s)
+    pub gone-halted : (k : Halt) (m : ℕ) → r.done ≡ Err k → m ≡ d → Gone o lists' grains' q'.queue.now q'.events.now q'.order.now (record { end = Err (Halted k); clock = w'.clock; events = m }) (run_from rate budget 0 s)
     gone-halted k m err me =
         let n = halt_number k in
         let e : step rate N.now ≡ moved_to (halted n) (marked n u) = unfold step in halt_is (event rate N.now).num n u (head_event N.now) (sym (ap number_of err) ∙ number) (halt_no_zero k) in

@@ -16,7 +16,7 @@ use acts::queue::Queues;
 use cell::Grid;
 use layout::{GRAINS_HEAD, LISTS_HEAD, ORDER};
 use model::{End, Report, RunError};
-use step::World;
+use step::{Stepped, World};
 use tables::headers;
 
 // The steps, over the parts of the tables behind their headers.
@@ -35,15 +35,23 @@ fn run_steps(
 {
     for done in 0..budget {
         match step::step(lists, grains, queues, &mut w, rate) {
-            Ok(false) => {}
-            Ok(true) => {
+            Stepped {
+                done: Ok(()),
+                sync: false,
+            } => {}
+            Stepped {
+                done: Ok(()),
+                sync: true,
+            } => {
                 return Report {
                     end: Ok(End::Synchronised),
                     clock: w.clock,
                     events: u64::from(done) + 1,
                 };
             }
-            Err(halt) => {
+            Stepped {
+                done: Err(halt), ..
+            } => {
                 return Report {
                     end: Err(RunError::Halted(halt)),
                     clock: w.clock,

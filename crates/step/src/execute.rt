@@ -1,5 +1,5 @@
 // The five executions, in the orders of event.rs, and a step: the first event of all is executed.
-ghost use Rattle.std.specs.Prelude.{◌≡◌, ◌<◌, ℕ, IfOk};
+ghost use Rattle.std.specs.Prelude.{◌≡◌, ◌<◌, ℕ};
 ghost use Rattle.halting.specs.Out.{then, each_of};
 ghost use Rattle.halting.specs.Every.{All};
 ghost use Rattle.model.specs.Stepping.{landed, renewed as renewedIn};
@@ -12,7 +12,7 @@ ghost use Rattle.tables.specs.Holds.{Ranged};
 ghost use Rattle.acts.specs.Tell.{Pair, Grains, InGrains, GrainsTold, SameTables};
 ghost use Rattle.step.specs.World.{Listing, Seen, Held, Some, Does, Apt, Steady, SameBox, is_sync};
 
-use crate::{World, schedule};
+use crate::{Stepped, World, schedule};
 use acts::queue::Queues;
 use acts::{links, store};
 use model::{Event, Halt, Particle};
@@ -226,24 +226,26 @@ fn is_sync(e: Event) -> bool
     matches!(e, Event::Synchronisation)
 }
 
-// The first event of all is removed, the clock is its time, and it is executed; the answer is whether it was a synchronisation. A halt's mark is the caller's to write.
+// The first event of all is removed, the clock is its time, and it is executed. A halt's mark is the caller's to write.
 pub fn step(
     lists: &mut [u64],
     grains: &mut [f64],
     queues: &mut Queues,
     w: &mut World,
     rate: f64,
-) -> Result<bool, Halt>
+) -> Stepped
     requires { Some (Steady w.old lists.old grains.old queues.old) }
     ensures same { SameTables queues.old queues.new }
     ensures world { SameBox w.old w.new }
-    ensures does { Does (Steady w.old lists.old grains.old queues.old) (Held w.new lists.new grains.new queues.new) (number_of result) (eventIn rate) }
-    ensures kind { (s : State) → Steady w.old lists.old grains.old queues.old s → IfOk result (λ sync. sync ≡ is_sync (head_event s)) }
+    ensures does { Does (Steady w.old lists.old grains.old queues.old) (Held w.new lists.new grains.new queues.new) (number_of result.done) (eventIn rate) }
+    ensures kind { (s : State) → Steady w.old lists.old grains.old queues.old s → result.sync ≡ is_sync (head_event s) }
 {
     let cell = queues.order[0] as usize;
     let place = queues.take(w.sizes, cell);
     let e = tables::places::event_of(place);
     w.clock = place.time;
-    execute(lists, grains, queues, *w, rate, e)?;
-    Ok(is_sync(e))
+    Stepped {
+        done: execute(lists, grains, queues, *w, rate, e),
+        sync: is_sync(e),
+    }
 }

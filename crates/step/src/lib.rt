@@ -9,7 +9,7 @@ mod schedule; // schedule.rt: what is to happen in a cell
 
 use cell::Grid;
 pub use execute::step;
-use model::Domain;
+use model::{Domain, Halt};
 use tables::Sizes;
 
 // The tables' sizes, the box, its grid, and the clock.
@@ -20,4 +20,11 @@ pub struct World {
     pub grid: Grid,
     pub clock: f64,
     ghost placed: { Placed sizes domain grid },
+}
+
+// What a step answers: what halted it, if anything did, and whether its event was a synchronisation.
+#[derive(Clone, Copy, Debug, PartialEq, Eq)]
+pub struct Stepped {
+    pub done: Result<(), Halt>,
+    pub sync: bool,
 }

@@ -10,16 +10,16 @@ loop-done-init c = record { same = record { queue = refl; events = refl; order =
 pub step-requires : goal.step-requires
 step-requires c = let N = c.loop-done.invariant.left c.requires.0.0 c.requires.0.1 in (N.now, steady_of N)
 
-pub returns-in-Ok-true-clause-gone : goal.returns-in-Ok-true-clause-gone
-returns-in-Ok-true-clause-gone c = λ s h.
+pub returns-in-Ok-2-clause-gone : goal.returns-in-Ok-2-clause-gone
+returns-in-Ok-2-clause-gone c = λ s h.
     let e = c.step.ensures in
-    gone-sync c.step.result c.requires.1 c.loop-done-test.true (c.loop-done.invariant.left s h) e.world e.does e.kind c.in-Ok-true.field-0 c.from.result c.in-Ok-true.is c.in-Ok-true.field-0-test
+    gone-sync c.step.result c.requires.1 c.loop-done-test.true (c.loop-done.invariant.left s h) e.world e.does e.kind c.from.result (search (c.in-Ok-2)) (search (c.in-Ok-2))
     (omega (arith, c.from.ensures))
 
 pub returns-in-Err-clause-gone : goal.returns-in-Err-clause-gone
 returns-in-Err-clause-gone c = λ s h.
     let e = c.step.ensures in
-    gone-halted c.step.result c.requires.1 c.loop-done-test.true (c.loop-done.invariant.left s h) e.world e.does e.kind c.in-Err.halt c.from-in-Err.result c.in-Err.is
+    gone-halted c.step.result c.requires.1 c.loop-done-test.true (c.loop-done.invariant.left s h) e.world e.does e.kind c.in-Err.halt c.from-in-Err.result (search (c.in-Err))
     (omega (arith, c.from-in-Err.ensures))
 
 pub loop-done-preserved : goal.loop-done-preserved
@@ -28,7 +28,7 @@ loop-done-preserved c =
     let k = c.loop-done.invariant.same in
     record {
       same = record { queue = e.same.queue ∙ k.queue; events = e.same.events ∙ k.events; order = e.same.order ∙ k.order };
-      left = λ s h. left-more c.step.result c.requires.1 c.loop-done-test.true (c.loop-done.invariant.left s h) e.world e.does e.kind c.in-Ok-false.field-0 c.in-Ok-false.is c.in-Ok-false.field-0-test;
+      left = λ s h. left-more c.step.result c.requires.1 c.loop-done-test.true (c.loop-done.invariant.left s h) e.world e.does e.kind (search (c.in-Ok)) (search (c.in-Ok));
     }
 
 pub returns-clause-gone : goal.returns-clause-gone

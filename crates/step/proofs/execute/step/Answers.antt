@@ -1,6 +1,5 @@
 use mathlib.Core.Path.{refl}
 use Rattle.model.specs.Acts.{taken}
-use Rattle.step.proofs.Does.{handed}
 use Rattle.step.proofs.Steps.{order_some, root_is, root_in, root-some, taken_ready, step_says, step_sync}
 use Rattle.step.proofs.execute.step.Goals as goal
 
@@ -20,16 +19,10 @@ execute-requires c =
     let t = c.take-place.ensures.taken o.0 o.1.holds.queued (root_is o.0 o.1) in
     (taken o.0, taken_ready o.0 o.1 c.take-place.result c.event_of-e.result refl refl refl t.0 c.event_of-e.ensures t.1)
 
-pub returns-in_err-execute-clause-does : goal.returns-in_err-execute-clause-does
-returns-in_err-execute-clause-does c = record {
-  says = λ s h. let t = c.take-place.ensures.taken s h.holds.queued (root_is s h) in let e = c.in_err-execute in
-      step_says s h c.take-place.result c.event_of-e.result refl refl refl t.0 c.event_of-e.ensures t.1 c.args.rate (handed c.from_residual.result e.field-0.0 c.from_residual.ensures.1 e.ensures.does);
-}
-
 pub returns-clause-does : goal.returns-clause-does
 returns-clause-does c = record {
   says = λ s h. let t = c.take-place.ensures.taken s h.holds.queued (root_is s h) in
-      step_says s h c.take-place.result c.event_of-e.result refl refl refl t.0 c.event_of-e.ensures t.1 c.args.rate c.in_ok-execute.ensures.does;
+      step_says s h c.take-place.result c.event_of-e.result refl refl refl t.0 c.event_of-e.ensures t.1 c.args.rate c.execute.ensures.does;
 }
 
 pub returns-clause-kind : goal.returns-clause-kind
