@@ -25,7 +25,7 @@ use Rattle.listing_text.specs.Size.{long_length, too_large}
 use Rattle.listing_text.specs.Answers.{answer_of}
 use Rattle.text.proofs.Putting.{put_as}
 use Rattle.answers.specs.Answer.{float, shown_grain, room, budget}
-use Rattle.answers.specs.Runs.{how_ended, clock_at, told_all, started_report, go_on, simulated, blank, spelt, box_read, spelling, served, judged}
+use Rattle.answers.specs.Runs.{how_ended, clock_at, told_all, start_before, started_report, go_on, simulated, blank, spelt, box_read, spelling, served, judged}
 
 -- ---- two runs behind a start
 module _ (b : Domain) (n : ℕ) (rate : Float) (inputs : List Float) (t : Tables) where
@@ -37,6 +37,14 @@ module _ (b : Domain) (n : ℕ) (rate : Float) (inputs : List Float) (t : Tables
   unfolding simulated
   simulated_not (Ok r) x u h e = absurd h
   simulated_not (Err y) x u h e = ap (λ (z : StartError). told_all (Err z) u) h ∙ ap (λ (w : StartedWith). go_on rate (go_on rate (started_report w))) e
+
+  -- the answer of the start before them
+  pub before_by : (r : Report) (u : Tables) → with (Ok tt) u ≡ start_all b n room inputs t → start_before (Ok r) ≡ (start_all b n room inputs t).answer
+  before_by r u e = ap (λ (w : StartedWith). w.answer) e
+
+  pub before_not : (o : Result Report StartError) (x : StartError) (u : Tables) → IsErrAnd o (λ y. y ≡ x) → with (Err x) u ≡ start_all b n room inputs t → start_before o ≡ (start_all b n room inputs t).answer
+  before_not (Ok r) x u h e = absurd h
+  before_not (Err y) x u h e = ap (λ (z : StartError). start_before (Err z)) h ∙ ap (λ (w : StartedWith). w.answer) e
 
 -- ---- what is written
 pub serve_ends : (o : Result Report StartError) (b : Domain) (n : ℕ) (rate : Float) (inputs : List Float) (u : Tables) (v s : List ℕ)

@@ -46,6 +46,11 @@ abbrev pub by_answer : Started → ℕ → How
 by_answer (Ok a) r = synchronised
 by_answer (Err e) r = refused r
 
+-- what the start before the runs answered: behind one that is accepted a report stands, and every other answer is handed on
+abbrev pub start_before : Result Report StartError → Started
+start_before (Ok r) = Ok tt
+start_before (Err e) = Err e
+
 abbrev pub started_report : StartedWith → RanTables
 started_report w = record { how = by_answer w.answer w.number; clock = fzero; count = 0; after = w.after }
 

@@ -5,8 +5,9 @@ ghost use Rattle.tables.specs.Decode.{tables, grains_of, grains_part};
 ghost use Rattle.running.specs.Ran.{told_tables};
 ghost use Rattle.listing_text.specs.Columns.{columns, most_kept};
 ghost use Rattle.listing_text.specs.Grammar.{columns_of};
-ghost use Rattle.answers.specs.Answer.{shown_grain};
-ghost use Rattle.answers.specs.Runs.{told_all, go_on, simulated, blank};
+ghost use Rattle.simulator.specs.Start.{start_all};
+ghost use Rattle.answers.specs.Answer.{shown_grain, room};
+ghost use Rattle.answers.specs.Runs.{told_all, start_before, go_on, simulated, blank};
 
 use crate::rows;
 use listing_text::{KEPT, MOST};
@@ -62,8 +63,9 @@ fn simulate(
     events: &mut [f64],
     order: &mut [u8],
 ) -> Result<Report, StartError>
-    ensures { told_all result (tables lists.new grains.new queue.new events.new order.new)
+    ensures told { told_all result (tables lists.new grains.new queue.new events.new order.new)
         ≡ simulated domain count rate inputs.now (tables lists.old grains.old queue.old events.old order.old) }
+    ensures started { start_before result ≡ (start_all domain count room inputs.now (tables lists.old grains.old queue.old events.old order.old)).answer }
 {
     simulator::start::start(
         domain,
@@ -90,6 +92,7 @@ pub(crate) fn serve(
 ) -> Result<Report, StartError>
     requires { n ≤ most_kept }
     ensures value { told_all result (simulated domain n rate inputs.now blank).after ≡ simulated domain n rate inputs.now blank }
+    ensures started { start_before result ≡ (start_all domain n room inputs.now blank).answer }
     ensures bits_after { bits.new ≡ flat columns_of (map shown_grain (grains_of n (grains_part (simulated domain n rate inputs.now blank).after.grains))) ++ drop (n * columns) bits.old }
 {
     let mut lists = [0u64; LISTS];

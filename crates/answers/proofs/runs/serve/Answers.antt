@@ -6,5 +6,5 @@ pub returns : goal.returns
 unfolding blank
 returns c =
     let r = c.simulate-served in
-    let (value, bits_after) = serve_ends r.result _ _ _ _ _ _ _ r.ensures c.show.ensures in
-    record { value = value; bits_after = bits_after }
+    let (value, bits_after) = serve_ends r.result _ _ _ _ _ _ _ r.ensures.told c.show.ensures in
+    record { value = value; started = r.ensures.started; bits_after = bits_after }
