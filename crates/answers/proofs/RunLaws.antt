@@ -13,6 +13,7 @@ use Rattle.chunks.specs.Flat.{flat}
 use Rattle.model.specs.declared.Domain.{Domain}
 use Rattle.model.specs.declared.Report.{Report}
 use Rattle.model.specs.declared.refusal.StartError.{StartError}
+use Rattle.model.specs.declared.refusal.StartError.TheVariants.{BoxOutOfRange, TooShort, BadGrain, Halted}
 use Rattle.tables.specs.Decode.{Tables, grains_of, grains_part}
 use Rattle.running.specs.Ran.{RanTables}
 use Rattle.simulator.specs.Start.{StartedWith, with, start_all}
@@ -36,7 +37,10 @@ module _ (b : Domain) (n : ℕ) (rate : Float) (inputs : List Float) (t : Tables
   pub simulated_not : (o : Result Report StartError) (x : StartError) (u : Tables) → IsErrAnd o (λ y. y ≡ x) → with (Err x) u ≡ start_all b n room inputs t → told_all o u ≡ simulated b n rate inputs t
   unfolding simulated
   simulated_not (Ok r) x u h e = absurd h
-  simulated_not (Err y) x u h e = ap (λ (z : StartError). told_all (Err z) u) h ∙ ap (λ (w : StartedWith). go_on rate (go_on rate (started_report w))) e
+  simulated_not (Err y) BoxOutOfRange u h e = ap (λ (z : StartError). told_all (Err z) u) h ∙ ap (λ (w : StartedWith). go_on rate (go_on rate (started_report w))) e
+  simulated_not (Err y) TooShort u h e = ap (λ (z : StartError). told_all (Err z) u) h ∙ ap (λ (w : StartedWith). go_on rate (go_on rate (started_report w))) e
+  simulated_not (Err y) (BadGrain g) u h e = ap (λ (z : StartError). told_all (Err z) u) h ∙ ap (λ (w : StartedWith). go_on rate (go_on rate (started_report w))) e
+  simulated_not (Err y) (Halted k) u h e = ap (λ (z : StartError). told_all (Err z) u) h ∙ ap (λ (w : StartedWith). go_on rate (go_on rate (started_report w))) e
 
   -- the answer of the start before them
   pub before_by : (r : Report) (u : Tables) → with (Ok tt) u ≡ start_all b n room inputs t → start_before (Ok r) ≡ (start_all b n room inputs t).answer

@@ -5,7 +5,8 @@ use mathlib.Core.Path.{◌≡◌, refl, sym, ap, ◌∙◌, subst}
 use mathlib.Core.List.{List, [], ◌++◌, map}
 use mathlib.Core.Bool.{Bool, true, false, cond, ◌||◌}
 use native.Mathlib.Omega.{arith}
-use lib.Dec.{T, ltb}
+use lib.Dec.{T, eqb, ltb}
+use Rattle.std.specs.Prelude.{Err}
 use lib.ListN.{length, get_or, drop, replicate, length-map}
 use lib.Ieee.{Float, binary64, to_bits}
 use lib.Ieee.Bits.{of_bits-fits}
@@ -13,6 +14,7 @@ use borrow.Author.Tests.{le-leb, le-ltb, ltb-false}
 use Rattle.chunks.specs.Flat.{flat}
 use Rattle.model.specs.declared.Domain.{Domain}
 use Rattle.model.specs.declared.Particle.{Particle}
+use Rattle.model.specs.declared.refusal.StartError.TheVariants.{BoxOutOfRange, TooShort, BadGrain}
 use Rattle.model.specs.Grid.{length_of, cells}
 use Rattle.model.specs.Sizes.{box_ok}
 use Rattle.model.specs.State.{State}
@@ -168,7 +170,12 @@ module _ (b : Domain) (F : Fits b) (n : ℕ) (few : n ≤ most_kept) (inputs : L
   both_runs w = go_on rate (go_on rate (started_report w))
 
   begun_is : cells b ≡ lent_cells → (x : Begun) → start b room (inputs_of n inputs) ≡ x → spelling (both_runs (started_over x blank)) n ≡ after_start rate x
-  begun_is nine (refused r g) e = refl
+  begun_is nine (refused r g) e = by (eqb r 4) (eqb r 1)
+    where
+      by : (y z : Bool) → spelling (both_runs (record { number = r; grain = g; answer = Err (cond y (BadGrain g) (cond z BoxOutOfRange TooShort)); after = blank })) n ≡ after_start rate (refused r g)
+      by true z = refl
+      by false true = refl
+      by false false = refl
   begun_is nine (started s) e = by s.mark
     where
       by : (m : ℕ) → spelling (both_runs (record { number = m; grain = 0; answer = simulator.mark_told m; after = encoded s ground })) n ≡ unless_halted m (to_next rate (run_all rate budget s))

@@ -6,6 +6,7 @@ use Rattle.chunks.specs.Flat.{flat}
 use Rattle.order.specs.Numbers.{fzero}
 use Rattle.model.specs.declared.Domain.{Domain}
 use Rattle.model.specs.declared.refusal.StartError.{StartError}
+use Rattle.model.specs.declared.refusal.StartError.TheVariants.{BoxOutOfRange, TooShort, BadGrain, Halted}
 use Rattle.model.specs.declared.Report.{Report}
 use Rattle.model.specs.Refusals.{start_error_number}
 use Rattle.model.specs.Reports.{how_of}
@@ -44,7 +45,10 @@ told_all r t = record { how = how_ended r; clock = clock_at r; count = count_don
 -- ---- a start's answer, of this number, as that of a run: one that is accepted stands where a run can begin, at the clock 0
 abbrev pub by_answer : Started → ℕ → How
 by_answer (Ok a) r = synchronised
-by_answer (Err e) r = refused r
+by_answer (Err BoxOutOfRange) r = refused r
+by_answer (Err TooShort) r = refused r
+by_answer (Err (BadGrain g)) r = refused r
+by_answer (Err (Halted h)) r = refused r
 
 -- what the start before the runs answered: behind one that is accepted a report stands, and every other answer is handed on
 abbrev pub start_before : Result Report StartError → Started
