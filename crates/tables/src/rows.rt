@@ -29,7 +29,7 @@ pub fn live_of(row: &[u64]) -> &[u64]
 pub fn has(nums: &[u64], x: u64) -> bool
     ensures { result ≡ has x nums.now }
 {
-    nums.contains(&x)
+    nums.iter().any(|&y| y == x)
 }
 
 // The first of n + 1 numbers goes, the others move down, and the place given up is cleared.
