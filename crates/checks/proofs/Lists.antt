@@ -4,6 +4,7 @@ use Prim.Native.Nat.{ℕ, zero, suc, ◌+◌, ◌<◌}
 use native.Mathlib.Omega.{arith}
 use mathlib.Core.List.{List, [], ◌∷◌}
 use mathlib.Core.Bool.{Bool, true, false, not, ◌&&◌, cond}
+use lib.Dec.{ltb}
 use lib.ListN.{length, get_or, drop}
 use Rattle.std.specs.List.{list_all, range_with_len, enumerate_from}
 use Rattle.halting.specs.Every.{every}
@@ -41,9 +42,16 @@ every_range p (suc n) c = ap (λ (b : Bool). p c && b) (every_range p n (c + 1) 
     both true = refl
     both false = refl
 
--- ---- of each element with its number: that none of those behind it is the same
-pub once_enumerated : (f : ℕ × ℕ → Bool) (i : ℕ) (xs : List ℕ) → ((k j : ℕ) → j ≡ i + k → k < length xs → f (j, get_or xs k 0) ≡ not (has (get_or xs k 0) (drop (suc k) xs))) → list_all f (enumerate_from i xs) ≡ once xs
-once_enumerated f i [] h = refl
-once_enumerated f i (x ∷ xs) h =
+-- ---- of each element with its number: that it is below n, and none of those behind it is the same
+pub below_enumerated : (n : ℕ) (f : ℕ × ℕ → Bool) (i : ℕ) (xs : List ℕ) → ((k j : ℕ) → j ≡ i + k → k < length xs → f (j, get_or xs k 0) ≡ (ltb (get_or xs k 0) n && not (has (get_or xs k 0) (drop (suc k) xs)))) → list_all f (enumerate_from i xs) ≡ (all (λ x. ltb x n) xs && once xs)
+below_enumerated n f i [] h = refl
+below_enumerated n f i (x ∷ xs) h =
     ap (λ (b : Bool). b && list_all f (enumerate_from (i + 1) xs)) (h 0 i (omega arith) (omega arith))
-    ∙ ap (λ (b : Bool). not (has x xs) && b) (once_enumerated f (i + 1) xs (λ k j e l. h (suc k) j (omega arith) (omega arith)))
+    ∙ ap (λ (b : Bool). (ltb x n && not (has x xs)) && b) (below_enumerated n f (i + 1) xs (λ k j e l. h (suc k) j (omega arith) (omega arith)))
+    ∙ parted (ltb x n) (not (has x xs)) (all (λ y. ltb y n) xs) (once xs)
+  where
+    parted : (a b c d : Bool) → ((a && b) && (c && d)) ≡ ((a && c) && (b && d))
+    parted false b c d = refl
+    parted true true c d = refl
+    parted true false true d = refl
+    parted true false false d = refl

@@ -54,6 +54,6 @@ module _ (v n : ℕ) (l : List ℕ) (c : ℕ) where
   lists_out x h = sym (ap (λ (r : Row ℕ). has x r.live) (get_or-eq_default (rows_of v n l) none (let e = cut_long (row_at v) (v + 1) n l in omega arith)))
 
   -- the test of its numbers is that of those in use
-  pub numbers_by : Rowed v (v + 1) n l → c < n → (m : ℕ) {live : List ℕ} {b o : Bool} → live ≡ live_at (rows_of v n l) c → b ≡ all (λ x. ltb x m) live → o ≡ once live
-      → (b && o) ≡ numbers m v (get_or (rows_of v n l) c none)
-  numbers_by R h m e f g = rw (eq-eqb _ v (row_whole R h), f, g, e)
+  pub numbers_by : Rowed v (v + 1) n l → c < n → (m : ℕ) {live : List ℕ} {b : Bool} → live ≡ live_at (rows_of v n l) c → b ≡ (all (λ x. ltb x m) live && once live)
+      → b ≡ numbers m v (get_or (rows_of v n l) c none)
+  numbers_by R h m e f = rw (eq-eqb _ v (row_whole R h), f, e)

@@ -1,5 +1,5 @@
 // Tests of rows of numbers, each a count and then its places, one row after another.
-ghost use Rattle.std.specs.Prelude.{◌≡◌, ◌*◌, ◌≤◌, ◌<◌, ℕ, ltb, length, get_or};
+ghost use Rattle.std.specs.Prelude.{◌≡◌, ◌*◌, ◌≤◌, ◌<◌, ◌&&◌, ℕ, ltb, length, get_or};
 ghost use Rattle.layout.specs.Widths.{home_room, member_room, row_wide};
 ghost use Rattle.model.specs.State.{has, live_at, none};
 ghost use Rattle.model.specs.Check.{all, walk, once, numbers, back_row, housed, linked};
@@ -9,21 +9,14 @@ ghost use Rattle.checks.specs.Inside.{Rowed};
 use layout::{COUNT, PLACES};
 use tables::rows::{has, live_of};
 
-// Is each number below n?
-fn below(numbers: &[u64], n: u64) -> bool
-    ensures { result ≡ all (λ x. ltb x n) numbers.now }
-{
-    numbers.iter().all(|&x| x < n)
-}
-
-// Does none come twice?
-fn once(numbers: &[u64]) -> bool
-    ensures { result ≡ once numbers.now }
+// Is each number below n, and does none come twice?
+fn once_below(numbers: &[u64], n: u64) -> bool
+    ensures { result ≡ (all (λ x. ltb x n) numbers.now && once numbers.now) }
 {
     numbers
         .iter()
         .enumerate()
-        .all(|(i, &x)| !has(&numbers[i + 1..], x))
+        .all(|(i, &x)| x < n && !has(&numbers[i + 1..], x))
 }
 
 // Is each count of n rows, which are `width` wide, at most `room`?
@@ -65,8 +58,7 @@ impl<'a> Rows<'a> {
         requires { i < self.now.count }
         ensures { result ≡ numbers n self.now.room (get_or (rows_in self.now) i none) }
     {
-        let live = self.live(i);
-        below(live, n) && once(live)
+        once_below(self.live(i), n)
     }
 
     // The same for each row.

@@ -65,5 +65,7 @@ pub fn array<const N: usize>(input: Stdin) -> Option<[u64; N]> {
 
 // One line: how many were compared, of what, and how many differ.
 pub fn report(out: Stdout, compared: u64, what: &str, differ: u64) {
-    let _ = println!(out; "{compared} {what}, {differ} differ");
+    let _ = print!(out; "{compared} ");
+    let _ = print!(out; "{what}");
+    let _ = println!(out; ", {differ} differ");
 }
