@@ -79,6 +79,21 @@ fn next_domain(input: Stdin) -> Domain {
 
 // ---- what is written
 
+// A number, behind a space.
+fn number(out: Stdout, n: u64) {
+    let _ = print!(out; " {n:x}");
+}
+
+// A name, and the number that stands beside it.
+fn named(out: Stdout, name: &str, n: u64) {
+    let _ = print!(out; "{name}");
+    number(out, n);
+}
+
+fn end_line(out: Stdout) {
+    let _ = println!(out; "");
+}
+
 // One half of a word goes into a checksum: a multiplication with carry, which is a polynomial of the halves modulo the prime 67108794·2^32 - 1.
 fn mixed(sum: u64, half: u64) -> u64
     requires { half < 4294967296 }
@@ -95,7 +110,9 @@ fn summed<T: Word>(out: Stdout, name: &str, t: &[T], show: bool, first: u64) -> 
     for (place, &x) in t.iter().enumerate() {
         let bits = x.bits();
         if show && bits != 0 {
-            let _ = println!(out; " {place:x} {bits:x}");
+            number(out, place as u64);
+            number(out, bits);
+            end_line(out);
         }
         sum = mixed(mixed(sum, bits % 4294967296), bits / 4294967296);
     }
@@ -103,23 +120,28 @@ fn summed<T: Word>(out: Stdout, name: &str, t: &[T], show: bool, first: u64) -> 
 }
 
 fn answer_start(out: Stdout, started: Result<(), StartError>) {
-    let _ = match started {
-        Ok(()) => print!(out; "accepted"),
-        Err(StartError::BadGrain(grain)) => print!(out; "grain {grain:x}"),
-        Err(StartError::Halted(halt)) => print!(out; "halted {:x}", u64::from(halt)),
-        Err(error) => print!(out; "refused {:x}", u64::from(error)),
-    };
+    match started {
+        Ok(()) => {
+            let _ = print!(out; "accepted");
+        }
+        Err(StartError::BadGrain(grain)) => named(out, "grain", grain),
+        Err(StartError::Halted(halt)) => named(out, "halted", u64::from(halt)),
+        Err(error) => named(out, "refused", u64::from(error)),
+    }
 }
 
 fn answer_run(out: Stdout, report: Report) {
-    let _ = match report.end {
-        Ok(End::Synchronised) => print!(out; "synchronised"),
-        Ok(End::Spent) => print!(out; "spent"),
-        Err(error) => print!(out; "refused {:x}", u64::from(error)),
-    };
-    let clock = bits_of_float(report.clock);
-    let events = report.events;
-    let _ = print!(out; " {clock:x} {events:x}");
+    match report.end {
+        Ok(End::Synchronised) => {
+            let _ = print!(out; "synchronised");
+        }
+        Ok(End::Spent) => {
+            let _ = print!(out; "spent");
+        }
+        Err(error) => named(out, "refused", u64::from(error)),
+    }
+    number(out, bits_of_float(report.clock));
+    number(out, report.events);
 }
 
 // ---- the tables
@@ -150,7 +172,8 @@ impl Tables<'_> {
         if show {
             let _ = print!(out; "all");
         }
-        let _ = println!(out; " {e:x}");
+        number(out, e);
+        end_line(out);
     }
 
     // A place of one of them is overwritten, if it is there.
