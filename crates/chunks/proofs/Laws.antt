@@ -40,7 +40,17 @@ module _ {B : Type 0} where
 
   pub tail_long : (w : ℕ) (l : List B) → length (mid_of w (length l - w) l) ≡ length l - w
   tail_long w l = ap length (tail_is w l) ∙ length-drop w l
-  -- ---- the first k of a list, where there are any: the first one and those of the rest
+
+  -- ---- the first k of a list: none, or the first one and those of the rest
+  pub take_none : (k : ℕ) (l : List B) → k ≡ 0 → take k l ≡ []
+  take_none k l e = rw e
+
+  pub take_step : (k : ℕ) (l : List B) (d : B) → (k ≡ 0 → ⊥) → k ≤ length l → take k l ≡ get_or l 0 d ∷ take (k - 1) (mid_of 1 (length l - 1) l)
+  take_step zero l d z h = absurd (z refl)
+  take_step (suc k) [] d z h = absurd (not-suc-le-zero h)
+  take_step (suc k) (x ∷ l) d z h =
+      let e : k ≡ suc k - 1 = omega arith in
+      ap (λ (m : List B). x ∷ take k m) (sym (tail_is 1 (x ∷ l))) ∙ ap (λ (j : ℕ). x ∷ take j (mid_of 1 (length (x ∷ l) - 1) (x ∷ l))) e
 
 -- a number above zero is not zero, as a loop's test says it and as the laws ask it
 pub some : {n : ℕ} → 0 < n → n ≡ 0 → ⊥

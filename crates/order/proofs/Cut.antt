@@ -1,11 +1,12 @@
 -- A float cut to a whole number as Rust's `as usize` does (`to_unsigned 64`): it keeps the order (`cut_mono`), and it is at most n where the float was capped by n (`cut_capped`). Assumes nothing.
 use mathlib.Core.Path.{◌≡◌, refl, sym, ap, ◌∙◌, subst}
 use Prim.Native.Nat.{ℕ, zero, suc, ◌+◌, ◌-◌, ◌*◌, ◌/◌, ◌^◌, ◌≤◌, ◌<◌, min, zero-le}
-use native.Mathlib.Nat.{le_refl, le_of_eq, le_trans, zero-div, suc-mul}
+use native.Mathlib.Nat.{le_refl, le_of_eq, le_trans, mul-pos, mul-one, zero-div, suc-mul, lt_irrefl, lt_of_lt_of_le, one-mul, le-add_right, le-div_iff_mul-le}
 use native.Mathlib.Omega.{arith}
 use mathlib.Core.Bool.{Bool, true, false, not, cond}
 use lib.IntN.{pos}
-use lib.Dec.{T}
+use lib.Dec.{T, lt→ltb, T_not}
+use lib.Pow.{pow_pos}
 use lib.Ieee.{Float, nan, inf, fin, Format, up, down, lt, le, to_unsigned, in_unsigned, is_nan, of_int, in_float}
 use lib.Ieee.Fits.{down_pos}
 use lib.Ieee.Casts.{to_unsigned-lt}
@@ -83,3 +84,36 @@ cut_capped f w a n t N = go (lt (of_int f (pos n)) a) refl
         nan? : (c : Bool) → is_nan a ≡ c → to_unsigned w a ≤ n
         nan? true k = subst (λ (q : ℕ). q ≤ n) (sym (cut_nan w a (subst T (sym k) tt))) zero-le
         nan? false k = le_trans (cut_mono w a z (not_lt→le z a (of_int_no_nan f w n t N) (subst (λ (c : Bool). T (not c)) (sym k) tt) (subst (λ (c : Bool). T (not c)) (sym h) tt))) (le_of_eq is)
+
+-- ---- the two ends: `cut` above 2 ^ 64, and below 0
+capped : (a c : ℕ) → c ≤ a → min a (c - 1) ≡ c - 1
+capped a c h = omega arith
+
+pub cut_above : (w : ℕ) (x : Float) → T (le (fin false 1 (pos w)) x) → to_unsigned w x ≡ 2 ^ w - 1
+unfolding to_unsigned
+cut_above w nan h = absurd (unfold le in h)
+cut_above w (inf true) h = absurd (unfold le in h)
+cut_above w (inf false) h = refl
+cut_above w (fin true m e) h = absurd (not_zero (2 ^ w) (down e) (m * up e * 1) (pow_pos w) (down_pos e) (le→leq false 1 (pos w) true m e h))
+  where
+    not_zero : (p d r : ℕ) → 0 < p → 0 < d → 1 * p * d + r ≤ 0 → ⊥
+    not_zero p d r P D h = lt_irrefl 0 (lt_of_lt_of_le (mul-pos (subst (λ (z : ℕ). 0 < z) (sym (one-mul p)) P) D) (le_trans (le-add_right (1 * p * d) r) h))
+cut_above w (fin false m e) h =
+    capped (m * up e / down e) (2 ^ w)
+    ((le-div_iff_mul-le (down_pos e)).1 (le_trans (le_of_eq (ap (λ (z : ℕ). z * down e) (sym (one-mul (2 ^ w))))) (le_trans (le→leq false 1 (pos w) false m e h) (le_of_eq (mul-one (m * up e))))))
+
+-- not above -1: a NaN, or below 0
+pub cut_below : (w : ℕ) (x : Float) → T (not (lt (fin true 1 (pos 0)) x)) → to_unsigned w x ≡ 0
+unfolding to_unsigned
+cut_below w nan h = refl
+cut_below w (inf true) h = refl
+cut_below w (inf false) h = absurd (unfold lt in h)
+cut_below w (fin true m e) h = refl
+cut_below w (fin false m e) h = absurd (T_not (lt (fin true 1 (pos 0)) (fin false m e)) h (unfold lt in lt→ltb 0 (1 * 1 * down e + m * up e * 1) (lt_of_lt_of_le (down_pos e) (some (down e) (m * up e * 1)))))
+  where
+    some : (d r : ℕ) → d ≤ 1 * 1 * d + r
+    some d r = omega arith
+
+-- a failed `x < 2 ^ w` of an x that is no NaN
+pub cut_not_below : (w : ℕ) (x : Float) → T (not (is_nan x)) → T (not (lt x (fin false 1 (pos w)))) → to_unsigned w x ≡ 2 ^ w - 1
+cut_not_below w x p h = cut_above w x (not_lt→le x (fin false 1 (pos w)) p (unfold is_nan in tt) h)

@@ -1,14 +1,14 @@
 -- The list of cells that spans stand for is the list of the rule. Assumes nothing.
 use Prim.Native.Nat.{ℕ}
-use mathlib.Core.Path.{◌≡◌, refl, ap, ◌∙◌}
+use mathlib.Core.Path.{◌≡◌, refl, sym, ap, ◌∙◌}
 use mathlib.Core.Bool.{Bool, true, false, cond}
-use mathlib.Core.List.{◌++◌, append-nil}
+use mathlib.Core.List.{List, [], ◌∷◌, ◌++◌, map, append-nil, append_assoc}
 use native.Mathlib.Nat.{sub_self}
 use lib.Ieee.{Float, binary64, add, sub, lt}
 use Rattle.order.specs.Numbers.{fzero}
 use Rattle.model.specs.declared.Domain.{Domain}
 use Rattle.model.specs.declared.Particle.{Particle}
-use Rattle.model.specs.Grid.{length_of, across}
+use Rattle.model.specs.Grid.{length_of, across, cell_at}
 use Rattle.model.specs.FromPToC.{up_from, between, reached, cells_at, cells_of_grain}
 use Rattle.particle.specs.declared.Span.{Span}
 use Rattle.particle.specs.Spans.{cells_in, joined, alone, spans_of}
@@ -36,3 +36,8 @@ pub grain_list : (b : Domain) (p : Particle)
 unfolding cells_of_grain
 grain_list b p = λ i.
     cells_at b (spans_list (length_of 0 b) (across 0 b) p.rad p.pos.x i) (spans_list (length_of 1 b) (across 1 b) p.rad p.pos.y i)
+
+pub rows_append : (b : Domain) (is js ks : List ℕ) → cells_at b is (js ++ ks) ≡ cells_at b is js ++ cells_at b is ks
+unfolding cells_at
+rows_append b is [] ks = refl
+rows_append b is (j ∷ js) ks = ap (λ (l : List ℕ). map (λ (i : ℕ). cell_at b i j) is ++ l) (rows_append b is js ks) ∙ sym (append_assoc (map (λ (i : ℕ). cell_at b i j) is) (cells_at b is js) (cells_at b is ks))

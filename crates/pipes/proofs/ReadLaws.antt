@@ -1,12 +1,12 @@
 -- What a read's answer says, and reads one after another. Assumes nothing.
 use Rattle.std.proofs.Common.{ℕ, zero, suc, ◌+◌, ◌≤◌, ◌≡◌, refl, sym, ap, ◌∙◌, subst, true, false, List, [], ◌∷◌, ◌++◌, length, take, arith, append_assoc}
-use mathlib.Core.Bool.{true≢false, false≢true}
+use mathlib.Core.Bool.{not, cond, true≢false, false≢true}
 use native.Mathlib.Nat.{zero-add, suc-add}
 use lib.Seq.{length-take-le}
 use Rattle.std.specs.Prelude.{Ok, Err}
 use Rattle.std.specs.declared.result.Result.{Result}
 use Rattle.pipes.specs.Counts.{Moved}
-use Rattle.pipes.specs.Reads.{Read, failed, over, gave, Reads, spent, ended, broken, more, read_by, bytes_of, by_end, goes_on_of}
+use Rattle.pipes.specs.Reads.{Read, failed, over, gave, Reads, spent, ended, broken, more, read_by, bytes_of, by_end, goes_on_of, failed_of, over_of}
 
 -- a read into 4,096 bytes is a row of one
 pub one_read : {E : Type 0} (got : Result ℕ E) (buf : List ℕ) → 4096 ≡ length buf → Moved 4096 got → Reads 1 (read_by got buf ∷ [])
@@ -50,3 +50,10 @@ end_then goes fails ends [] next e = refl
 end_then goes fails ends (failed ∷ reads) next e = absurd (false≢true e)
 end_then goes fails ends (over ∷ reads) next e = absurd (false≢true e)
 end_then goes fails ends (gave s ∷ reads) next e = end_then goes fails ends reads next e
+
+-- the end was said where no more may follow and none failed
+pub over_is : (reads : List Read) → cond (goes_on_of reads) false (not (failed_of reads)) ≡ over_of reads
+over_is [] = refl
+over_is (failed ∷ reads) = refl
+over_is (over ∷ reads) = refl
+over_is (gave s ∷ reads) = over_is reads

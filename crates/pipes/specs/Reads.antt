@@ -43,9 +43,12 @@ by_end goes fails ends (failed ∷ reads) = fails
 by_end goes fails ends (over ∷ reads) = ends
 by_end goes fails ends (gave s ∷ reads) = by_end goes fails ends reads
 
--- whether more may follow, whether one said the end
+-- whether more may follow, whether a read failed, whether one said the end
 abbrev pub goes_on_of : List Read → Bool
 goes_on_of reads = by_end true false false reads
+
+abbrev pub failed_of : List Read → Bool
+failed_of reads = by_end false true false reads
 
 abbrev pub over_of : List Read → Bool
 over_of reads = by_end false false true reads

@@ -244,8 +244,9 @@ pub fn step(
     let place = queues.take(w.sizes, cell);
     let e = tables::places::event_of(place);
     w.clock = place.time;
+    let done = execute(lists, grains, queues, *w, rate, e);
     Stepped {
-        done: execute(lists, grains, queues, *w, rate, e),
+        done,
         sync: is_sync(e),
     }
 }

@@ -18,7 +18,7 @@ use Rattle.text.specs.Letters.{numbers_held, flag_letter}
 use Rattle.text.specs.Bytes.{bytes}
 use Rattle.text.specs.Numerals.{decimal}
 use Rattle.text.specs.Lines.{flag_field, bit_of}
-use Rattle.text.specs.Reading.{last_of, place, start_of, reader_with, stuck_of, next_of, matched_of, feed_of, feed_all, closed_of}
+use Rattle.text.specs.Reading.{last_of, place, start_of, reader_with, stuck_of, next_of, matched_of, feed_of, feed_all, closed_of, fine_of}
 use Rattle.text.specs.Plan.{Piece, mark, number, flagged, count, shown, Values, spelled, loaded, count_read, plain, fair, uncounted, Form, spelled_rows, loaded_rows, spelled_text, Spells, held_of}
 use Rattle.text.proofs.Turns.{feed_parts, closed_ended, closed_same}
 use Rattle.text.proofs.Places.{here, full_stuck, stuck_stays, step_on, plain_turn}
@@ -171,6 +171,9 @@ module _ {plan : List ℕ} {line : ℕ} (f : Form plan line) where
       head_fed w (spelled_rows f ws)
       ∙ ap (λ (n : ℕ). feed_all plan line (before n 0 (loaded f.head w zeros)) (spelled_rows f ws)) e
       ∙ rows_fed ws (length ws) 0 (loaded f.head w zeros) (loaded_length f.head w zeros refl) (zero-add (length ws))
+
+  pub held_fine : (w : Values f.head) (ws : List (Values f.row)) → fine_of line (held_of f w ws) ≡ true
+  held_fine w ws = simp (eq-eqb line line refl) (eq-eqb (length ws) (length ws) refl)
 
   stuck_apart : 18446744073709551615 ≡ line → ⊥
   stuck_apart e = apart (length plan) line (length (shown f.row)) plan_length f.short e

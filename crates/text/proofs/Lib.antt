@@ -1,3 +1,4 @@
+pub mod Floats
 pub mod HexDigits
 pub mod DecimalDigits
 pub mod Turns

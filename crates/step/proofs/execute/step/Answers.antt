@@ -13,8 +13,8 @@ take-place-requires c =
     let o = c.requires in
     ((o.0, o.1.holds.queued), root_in o.0 o.1, root-some o.0 o.1)
 
-pub execute-requires : goal.execute-requires
-execute-requires c =
+pub execute-done-requires : goal.execute-done-requires
+execute-done-requires c =
     let o = c.requires in
     let t = c.take-place.ensures.taken o.0 o.1.holds.queued (root_is o.0 o.1) in
     (taken o.0, taken_ready o.0 o.1 c.take-place.result c.event_of-e.result refl refl refl t.0 c.event_of-e.ensures t.1)
@@ -22,7 +22,7 @@ execute-requires c =
 pub returns-clause-does : goal.returns-clause-does
 returns-clause-does c = record {
   says = λ s h. let t = c.take-place.ensures.taken s h.holds.queued (root_is s h) in
-      step_says s h c.take-place.result c.event_of-e.result refl refl refl t.0 c.event_of-e.ensures t.1 c.args.rate c.execute.ensures.does;
+      step_says s h c.take-place.result c.event_of-e.result refl refl refl t.0 c.event_of-e.ensures t.1 c.args.rate c.execute-done.ensures.does;
 }
 
 pub returns-clause-kind : goal.returns-clause-kind
