@@ -132,7 +132,7 @@ place_parts m n q e h k = rw (
 pub place_part : (q : List ℕ) (e : List Float) → place_at (take place_nums_wide q) (take place_reals_wide e) ≡ place_at q e
 place_part q e = place_parts place_nums_wide place_reals_wide q e (omega arith) (omega arith)
 
-drop_taken : {B : Type 0} (w m k : ℕ) (l : List B) → m ≡ w + k → drop w (take m l) ≡ take k (drop w l)
+pub drop_taken : {B : Type 0} (w m k : ℕ) (l : List B) → m ≡ w + k → drop w (take m l) ≡ take k (drop w l)
 drop_taken zero m k l e = let f : m ≡ k = omega arith in ap (λ (n : ℕ). take n l) f
 drop_taken (suc w) m k [] e = ap (λ (n : ℕ). drop (suc w) (take n [])) e ∙ ap (drop (suc w)) (take_all (suc w + k) [] (omega arith)) ∙ sym (take_all k [] (omega arith))
 drop_taken (suc w) m k (x ∷ l) e = let f : m ≡ suc (w + k) = omega arith in ap (λ (n : ℕ). drop (suc w) (take n (x ∷ l))) f ∙ drop_taken w (w + k) k l refl

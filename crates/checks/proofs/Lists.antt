@@ -32,6 +32,24 @@ walk_places p d xs {n} e =
 pub all_places : {A : Type 0} (p : A → Bool) (d : A) (xs : List A) {n : ℕ} → length xs ≡ n → list_all (λ i. p (get_or xs i d)) (range_with_len 0 n) ≡ all p xs
 all_places p d xs e = walk_places (λ i. p) d xs e ∙ walk_plain p 0 xs
 
+-- ---- of each element of a list, by the element of another at that place: with its number, and without
+pub walk_beside : {A B : Type 0} (p : ℕ → A → Bool) (f : ℕ × B → Bool) (d : A) (e : B) (i : ℕ) (ys : List B) (xs : List A) → length ys ≡ length xs → ((k j : ℕ) → j ≡ i + k → k < length xs → f (j, get_or ys k e) ≡ p j (get_or xs k d)) → list_all f (enumerate_from i ys) ≡ walk p i xs
+unfolding walk
+walk_beside p f d e i [] [] l h = refl
+walk_beside p f d e i [] (x ∷ xs) l h = absurd (omega arith)
+walk_beside p f d e i (y ∷ ys) [] l h = absurd (omega arith)
+walk_beside p f d e i (y ∷ ys) (x ∷ xs) l h =
+    ap (λ (b : Bool). b && list_all f (enumerate_from (i + 1) ys)) (h 0 i (omega arith) (omega arith))
+    ∙ ap (λ (b : Bool). p i x && b) (walk_beside p f d e (i + 1) ys xs (omega arith) (λ k j g m. h (suc k) j (omega arith) (omega arith)))
+
+pub all_beside : {A B : Type 0} (p : A → Bool) (f : B → Bool) (d : A) (e : B) (ys : List B) (xs : List A) → length ys ≡ length xs → ((k : ℕ) → k < length xs → f (get_or ys k e) ≡ p (get_or xs k d)) → list_all f ys ≡ all p xs
+all_beside p f d e [] [] l h = refl
+all_beside p f d e [] (x ∷ xs) l h = absurd (omega arith)
+all_beside p f d e (y ∷ ys) [] l h = absurd (omega arith)
+all_beside p f d e (y ∷ ys) (x ∷ xs) l h =
+    ap (λ (b : Bool). b && list_all f ys) (h 0 (omega arith))
+    ∙ ap (λ (b : Bool). p x && b) (all_beside p f d e ys xs (omega arith) (λ k m. h (suc k) (omega arith)))
+
 -- ---- of each number
 pub every_range : (p : ℕ → Bool) (n c : ℕ) → list_all p (range_with_len c n) ≡ every p n c
 unfolding every

@@ -1,6 +1,6 @@
 // Tests of rows of numbers, each a count and then its places, one row after another.
-ghost use Rattle.std.specs.Prelude.{◌≡◌, ◌*◌, ◌≤◌, ◌<◌, ◌&&◌, ℕ, ltb, length, get_or};
-ghost use Rattle.layout.specs.Widths.{home_room, member_room, row_wide};
+ghost use Rattle.std.specs.Prelude.{◌≡◌, ◌*◌, ◌≤◌, ◌<◌, ◌&&◌, ℕ, ltb, length, get_or, take, drop};
+ghost use Rattle.layout.specs.Widths.{count_at, places_at, home_room, member_room, row_wide};
 ghost use Rattle.model.specs.State.{has, live_at, none};
 ghost use Rattle.model.specs.Check.{all, walk, once, numbers, back_row, housed, linked};
 ghost use Rattle.checks.specs.Check.{counts_within};
@@ -17,6 +17,14 @@ fn once_below(numbers: &[u64], n: u64) -> bool
         .iter()
         .enumerate()
         .all(|(i, &x)| x < n && !has(&numbers[i + 1..], x))
+}
+
+// The numbers in use of a row, whose count is within it.
+fn in_use(row: &[u64]) -> &[u64]
+    requires { get_or row.now count_at 0 < length row.now }
+    ensures { result.now ≡ take (get_or row.now count_at 0) (drop places_at row.now) }
+{
+    live_of(row)
 }
 
 // Is each count of n rows, which are `width` wide, at most `room`?
@@ -53,26 +61,22 @@ impl<'a> Rows<'a> {
         live_of(&self.numbers[from..from + width])
     }
 
-    // Are the numbers of row i below n, and once each?
-    fn numbers(&self, i: usize, n: u64) -> bool
-        requires { i < self.now.count }
-        ensures { result ≡ numbers n self.now.room (get_or (rows_in self.now) i none) }
-    {
-        once_below(self.live(i), n)
-    }
-
-    // The same for each row.
+    // Are the numbers of each row below n, and once each?
     fn side(&self, n: u64) -> bool
         ensures { result ≡ all (numbers n self.now.room) (rows_in self.now) }
     {
-        (0..self.count).all(|i| self.numbers(i, n))
+        self.numbers
+            .chunks_exact(self.room + PLACES)
+            .all(|row| once_below(in_use(row), n))
     }
 
     // Does each row list some?
     fn housed(&self) -> bool
         ensures { result ≡ all housed (rows_in self.now) }
     {
-        (0..self.count).all(|i| !self.live(i).is_empty())
+        self.numbers
+            .chunks_exact(self.room + PLACES)
+            .all(|row| !in_use(row).is_empty())
     }
 
     // Does row c list x? A row that there is not lists none.
@@ -93,7 +97,10 @@ impl<'a> Rows<'a> {
     fn back(&self, others: &Rows) -> bool
         ensures { result ≡ walk (back_row (rows_in others.now)) 0 (rows_in self.now) }
     {
-        (0..self.count).all(|i| others.listed_by(self.live(i), i as u64))
+        self.numbers
+            .chunks_exact(self.room + PLACES)
+            .enumerate()
+            .all(|(i, row)| others.listed_by(in_use(row), i as u64))
     }
 
     // These are the rows of the grains: do grains and cells list each other, once each, and is each grain in some cell?

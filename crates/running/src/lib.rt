@@ -50,7 +50,8 @@ fn run_steps(
                 };
             }
             Stepped {
-                done: Err(halt), ..
+                done: Err(halt),
+                ..
             } => {
                 return Report {
                     end: Err(RunError::Halted(halt)),

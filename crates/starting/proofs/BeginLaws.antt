@@ -133,6 +133,10 @@ module _ {z : Sizes} {b : Domain} {g : Grid} {ni nl ng nq ne no : ℕ} (S : Star
   pub few_cells : z.cells ≤ 256
   few_cells = subst (λ (n : ℕ). n ≤ 256) (sym S.cells_are) (cells_max b S.laid.box)
 
+  -- what a world keeps of box and grid: `begun` asks it, and it follows
+  pub placed_by : Placed z b g
+  placed_by = record { laid = S.laid; cells_are = sym S.cells_are }
+
   pub ends : {n : Lengths} → n ≡ lengths_for z → Ends n nl ng nq ne
   ends e = ends_of z _ e S.lists_long S.grains_long S.queue_long S.events_long
 

@@ -1,23 +1,31 @@
-use mathlib.Core.Path.{◌∙◌}
-use Prim.Native.Nat.{ℕ}
+use mathlib.Core.Path.{refl, ◌∙◌}
+use mathlib.Core.List.{List}
+use Prim.Native.Nat.{ℕ, ◌+◌}
+use native.Mathlib.Omega.{arith}
 use Rattle.std.proofs.Common.{rules}
 use borrow.Author.Tests.{tests}
-use lib.ListN.{get_or}
-use Rattle.std.proofs.lemmas.Iterator.{YieldsList-from_range}
+use Rattle.std.proofs.lemmas.Iterator.Adapters.{serves_from_places}
 use Rattle.std.proofs.lemmas.Iterator.Search.{all_from_yields_List}
-use Rattle.layout.specs.Widths.{row_wide}
-use Rattle.model.specs.State.{none}
+use lib.Dec.{leb}
+use lib.ListN.{length}
 use Rattle.model.specs.Check.{housed}
-use Rattle.tables.specs.Decode.{row_at}
-use Rattle.checks.specs.Held.{rows_in}
-use Rattle.checks.proofs.Cut.{cut_long}
-use Rattle.checks.proofs.Lists.{all_places}
-use native.Mathlib.Omega.{arith}
+use Rattle.checks.proofs.Chunks.{parts_walked}
+use Rattle.checks.proofs.OneRow.{used_of, part_whole, all_used}
 use Rattle.checks.proofs.rows.Rows.housed.Goals as goal
+
+pub all-requires-clause-callable : goal.all-requires-clause-callable
+all-requires-clause-callable c =
+    let s = c.args.self.now in
+    serves_from_places
+    (parts_walked (s.room + 1) (omega arith) s.count s.numbers.now c.chunks_exact.ensures.rest c.chunks_exact.ensures.size s.rowed.whole)
+    (λ x q k. search (rules, tests))
+    (λ x k h is. let whole = part_whole s.room s.count s.numbers.now s.rowed k x.now h is in search rules)
 
 pub returns : goal.returns
 returns c =
     let s = c.args.self.now in
-    let test = λ (i : ℕ). housed (get_or (rows_in s) i none) in
-    all_from_yields_List test _ _ c.all.result c.all.ensures.ran (YieldsList-from_range 0 s.count s.count (cc) (omega arith)) (λ x b q k. search (rules, tests))
-    ∙ all_places housed none (rows_in s) (cut_long (row_at s.room) (row_wide s.room) s.count s.numbers.now)
+    let test = λ (xs : List ℕ). leb 1 (length xs) in
+    all_from_yields_List (λ (p : List ℕ). test (used_of p)) _ _ c.all.result c.all.ensures.ran
+    (parts_walked (s.room + 1) (omega arith) s.count s.numbers.now c.chunks_exact.ensures.rest c.chunks_exact.ensures.size s.rowed.whole)
+    (λ x b q k. search (rules, tests))
+    ∙ all_used s.room s.count s.numbers.now test housed (λ i h. refl)
