@@ -54,9 +54,13 @@ impl Scheduler {
         requires { (a < 256) × (b < 256) }
         ensures { self.new ≡ swap_at self.old a b }
     {
-        let (x, y) = (self.heap[a], self.heap[b]);
+        let i = usize::from(self.heap[a]);
+        let j = usize::from(self.heap[b]);
         self.heap.swap(a, b);
-        self.lookups.swap(usize::from(x), usize::from(y));
+        let p = self.lookups[i];
+        let q = self.lookups[j];
+        self.lookups[i] = q;
+        self.lookups[j] = p;
     }
 
     // The cell at p goes down while a child's head is earlier. Gives the swaps.
