@@ -99,7 +99,7 @@ module _ {o : World} {rate : Float} {budget : ℕ} {s : State} where
 
   module _ {lists lists' : List ℕ} {grains grains' : List Float} {q q' : Queues} {w w' : World} {d : ℕ} (r : Stepped)
       (R : rated rate ≡ true) (h : d < budget) (N : Left o rate budget s w lists grains q d) (same : SameBox w w')
-      (does : Does (Steady w lists grains q) (Held w' lists' grains' q') (number_of r.done) (event rate)) (kind : (u : State) → Steady w lists grains q u → r.sync ≡ is_sync (head_event u)) where
+      (does : Does (Steady w lists grains q) (Held w' lists' grains' q') (number_of r.done) (event rate)) where
     abbrev u : State
     u = (event rate N.now).st
 
@@ -109,9 +109,6 @@ module _ {o : World} {rate : Float} {budget : ℕ} {s : State} where
     held : Held w' lists' grains' q' (event rate N.now).st
     held = (does.says N.now (steady_of N)).1
 
-    kind_is : r.sync ≡ is_sync (head_event N.now)
-    kind_is = kind N.now (steady_of N)
-
     boxed : SameBox o w'
     boxed = record { sizes = same.sizes ∙ N.same.sizes; domain = same.domain ∙ N.same.domain; grid = same.grid ∙ N.same.grid }
 
@@ -120,29 +117,6 @@ module _ {o : World} {rate : Float} {budget : ℕ} {s : State} where
 
     placed : Holds o.sizes lists' grains' q'.queue.now q'.events.now q'.order.now (event rate N.now).st
     placed = subst (λ (z : Sizes). Holds z lists' grains' q'.queue.now q'.events.now q'.order.now u) boxed.sizes (holds_of held)
-
-    pub left-more : r.done ≡ Ok tt → r.sync ≡ false → Left o rate budget s w' lists' grains' q' (d + 1)
-    left-more ok more =
-        let e : step rate N.now ≡ moved_to done u = unfold step in done_is (event rate N.now).num u (head_event N.now) (sym number ∙ ap number_of ok) (sym kind_is ∙ more) in
-        record {
-          now = u;
-          same = boxed;
-          held = held;
-          stands = whole (moved_to done u) tt e;
-          left = ap (λ (k : ℕ). run_from rate (budget - k) k u) (add-one d) ∙ sym (turn rate budget d N.now (moved_to done u) h e) ∙ N.left;
-        }
-
-    pub gone-sync : (n : ℕ) → r.done ≡ Ok tt → r.sync ≡ true → n ≡ d → Gone o lists' grains' q'.queue.now q'.events.now q'.order.now (record { end = Ok Synchronised; clock = w'.clock; events = n + 1 }) (run_from rate budget 0 s)
-    gone-sync n ok last ne =
-        let e : step rate N.now ≡ moved_to doing.synchronised u = unfold step in sync_is (event rate N.now).num u (head_event N.now) (sym number ∙ ap number_of ok) (sym kind_is ∙ last) in
-        subst (Gone o lists' grains' q'.queue.now q'.events.now q'.order.now (record { end = Ok Synchronised; clock = w'.clock; events = n + 1 })) (sym (turn rate budget d N.now (moved_to doing.synchronised u) h e) ∙ N.left)
-        (record {
-          answer = λ i. ran_of run.synchronised (sym held.seen.at.1 i) ((ap (λ (k : ℕ). k + 1) ne ∙ add-one d) i) u;
-          holds = placed;
-          box = held.seen.at.0 ∙ boxed.domain;
-          clock = held.seen.at.1;
-          mark = (whole (moved_to doing.synchronised u) tt e).free;
-        })
 
     pub gone-halted : (k : Halt) (m : ℕ) → r.done ≡ Err k → m ≡ d → Gone o lists' grains' q'.queue.now q'.events.now q'.order.now (record { end = Err (Halted k); clock = w'.clock; events = m }) (run_from rate budget 0 s)
     gone-halted k m err me =
@@ -156,6 +130,34 @@ module _ {o : World} {rate : Float} {budget : ℕ} {s : State} where
           clock = held.seen.at.1;
           mark = refl;
         })
+
+    -- where a step is done, its kind is asked too
+    module _ (kind : (u : State) → Steady w lists grains q u → r.sync ≡ is_sync (head_event u)) where
+      kind_is : r.sync ≡ is_sync (head_event N.now)
+      kind_is = kind N.now (steady_of N)
+
+      pub left-more : r.done ≡ Ok tt → r.sync ≡ false → Left o rate budget s w' lists' grains' q' (d + 1)
+      left-more ok more =
+          let e : step rate N.now ≡ moved_to done u = unfold step in done_is (event rate N.now).num u (head_event N.now) (sym number ∙ ap number_of ok) (sym kind_is ∙ more) in
+          record {
+            now = u;
+            same = boxed;
+            held = held;
+            stands = whole (moved_to done u) tt e;
+            left = ap (λ (k : ℕ). run_from rate (budget - k) k u) (add-one d) ∙ sym (turn rate budget d N.now (moved_to done u) h e) ∙ N.left;
+          }
+
+      pub gone-sync : (n : ℕ) → r.done ≡ Ok tt → r.sync ≡ true → n ≡ d → Gone o lists' grains' q'.queue.now q'.events.now q'.order.now (record { end = Ok Synchronised; clock = w'.clock; events = n + 1 }) (run_from rate budget 0 s)
+      gone-sync n ok last ne =
+          let e : step rate N.now ≡ moved_to doing.synchronised u = unfold step in sync_is (event rate N.now).num u (head_event N.now) (sym number ∙ ap number_of ok) (sym kind_is ∙ last) in
+          subst (Gone o lists' grains' q'.queue.now q'.events.now q'.order.now (record { end = Ok Synchronised; clock = w'.clock; events = n + 1 })) (sym (turn rate budget d N.now (moved_to doing.synchronised u) h e) ∙ N.left)
+          (record {
+            answer = λ i. ran_of run.synchronised (sym held.seen.at.1 i) ((ap (λ (k : ℕ). k + 1) ne ∙ add-one d) i) u;
+            holds = placed;
+            box = held.seen.at.0 ∙ boxed.domain;
+            clock = held.seen.at.1;
+            mark = (whole (moved_to doing.synchronised u) tt e).free;
+          })
 
   -- the budget is spent
   pub gone_spent : {lists : List ℕ} {grains : List Float} {q : Queues} {w : World} {d : ℕ} (n : ℕ)

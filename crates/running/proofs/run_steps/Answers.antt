@@ -19,7 +19,7 @@ returns-in-Ok-2-clause-gone c = λ s h.
 pub returns-in-Err-clause-gone : goal.returns-in-Err-clause-gone
 returns-in-Err-clause-gone c = λ s h.
     let e = c.step.ensures in
-    gone-halted c.step.result c.requires.1 c.loop-done-test.true (c.loop-done.invariant.left s h) e.world e.does e.kind c.in-Err.halt c.from-in-Err.result (search (c.in-Err))
+    gone-halted c.step.result c.requires.1 c.loop-done-test.true (c.loop-done.invariant.left s h) e.world e.does c.in-Err.halt c.from-in-Err.result (search (c.in-Err))
     (omega (arith, c.from-in-Err.ensures))
 
 pub loop-done-preserved : goal.loop-done-preserved
